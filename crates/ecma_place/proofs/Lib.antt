@@ -1,0 +1,4 @@
+pub mod ClassLemmas
+pub mod CursorLemmas
+pub mod LaneLemmas
+pub mod RunLemmas

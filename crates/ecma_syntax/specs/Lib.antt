@@ -1,0 +1,5 @@
+pub mod KnownIdent
+pub mod Keyword
+pub mod Operators
+pub mod Word
+pub use Rattle.ecma_place.specs.Atom

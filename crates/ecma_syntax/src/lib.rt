@@ -1,0 +1,16 @@
+//! Settings, context flags, words and operators.
+#![tactic(auto)]
+
+pub mod context;
+pub mod keyword;
+pub mod known_ident;
+pub mod operator;
+pub mod settings;
+pub mod word;
+
+pub use context::{Context, ExpressionContext};
+pub use keyword::Keyword;
+pub use known_ident::KnownIdent;
+pub use operator::{AssignOp, BinOpToken};
+pub use settings::{EsSyntax, EsVersion, Syntax, TsSyntax};
+pub use word::{IdentKind, IdentLike, Word, WordKind};
