@@ -1,0 +1,62 @@
+-- Tokens and errors as callers see them: what owns memory is seen as what it holds.
+use Rattle.std.specs.Prelude.{◌≡◌, ℕ, Bool, List, string_bytes}
+use Rattle.ecma_place.specs.Atom.{AtomView}
+use Rattle.ecma_place.specs.declared.place.Span.{Span}
+use Rattle.ecma_token.specs.declared.token.Token.{Token, Template', Error', Err'}
+use Rattle.ecma_token.specs.declared.token.TokenAndSpan.{TokenAndSpan}
+use Rattle.ecma_token.specs.declared.error.SyntaxError.{SyntaxError, BadCharacterEscapeSequence, Expected', WithLabel'}
+use Rattle.ecma_token.specs.declared.error.Error.{Error}
+
+mutual
+  -- what is wrong; a kind that owns nothing but atoms is seen as itself
+  pub data KindView : Type 0 where
+    plain : SyntaxError → KindView
+    bad_escape : List ℕ → KindView
+    expected : TokenView → List ℕ → KindView
+    with_label : KindView → Span → Span → List ℕ → KindView
+
+  -- a token; one that holds no error is seen as itself
+  pub data TokenView : Type 0 where
+    plain_token : Token → TokenView
+    refused_template : AtomView → KindView → Span → TokenView
+    error_token : KindView → Span → TokenView
+
+abbrev mutual
+  pub kind_view : SyntaxError → KindView
+  kind_view (BadCharacterEscapeSequence text) = bad_escape text.now
+  kind_view (Expected' p token got) = expected (token_view token) (string_bytes got)
+  kind_view (WithLabel' p q kind at span note) = with_label (kind_view kind) at span note.now
+  kind_view kind = plain kind
+
+  pub token_view : Token → TokenView
+  token_view (Template' raw (Err' p kind span)) = refused_template raw (kind_view kind) span
+  token_view (Error' p kind span) = error_token (kind_view kind) span
+  token_view token = plain_token token
+
+-- an error: what is wrong, and where
+pub record ErrorView : Type 0 where
+  pub kind : KindView
+  pub span : Span
+
+abbrev pub error_kind : Error → SyntaxError
+error_kind e = e.inner.value
+
+abbrev pub error_span : Error → Span
+error_span e = e.span
+
+abbrev pub error_view : Error → ErrorView
+error_view e = record { kind = kind_view (error_kind e); span = error_span e }
+
+-- the error is this one, and lies there
+pub record IsErrorAt (e : Error) (kind : SyntaxError) (span : Span) : Type 0 where
+  pub kind_is : error_kind e ≡ kind
+  pub span_is : error_span e ≡ span
+
+-- a token, where it stands, and whether a line terminator stands before it
+pub record SpannedView : Type 0 where
+  pub token : TokenView
+  pub had_line_break : Bool
+  pub span : Span
+
+abbrev pub spanned_view : TokenAndSpan → SpannedView
+spanned_view t = record { token = token_view t.token; had_line_break = t.had_line_break; span = t.span }

@@ -1,0 +1,10 @@
+//! Tokens, their kinds, and what can be wrong with a text.
+#![tactic(auto)]
+
+pub mod error;
+pub mod kind;
+pub mod token;
+
+pub use error::{Error, SyntaxError};
+pub use kind::TokenKind;
+pub use token::{Radix, Token, TokenAndSpan};
