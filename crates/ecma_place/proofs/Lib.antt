@@ -1,4 +1,5 @@
 pub mod ClassLemmas
 pub mod CursorLemmas
 pub mod LaneLemmas
+pub mod MoveLemmas
 pub mod RunLemmas

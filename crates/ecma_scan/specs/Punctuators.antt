@@ -1,0 +1,112 @@
+-- Punctuators (ECMA-262 Punctuator, DivPunctuator and RightBracePunctuator, 12.8): the longest of a table with which a
+-- text begins.
+use Rattle.std.specs.Prelude.{ℕ, Bool, true, false, ◌&&◌, ◌==◌, List, [], ◌∷◌, codes, Option, Some, None, if◌then◌else◌}
+use Rattle.ecma_place.specs.Text.{Text}
+use Rattle.ecma_syntax.specs.declared.operator.BinOpToken.TheVariants as bin
+use Rattle.ecma_syntax.specs.declared.operator.AssignOp.TheVariants as assign
+use Rattle.ecma_token.specs.View.{TokenView, plain_token}
+use Rattle.ecma_token.specs.declared.token.Token.{Token, Arrow, At, Bang, Colon, Comma, Dot, DotDotDot, Hash, LBrace, LBracket, LParen, MinusMinus, PlusPlus, QuestionMark, RBrace, RBracket, RParen, Semi, Tilde, BinOp, AssignOp}
+use Rattle.ecma_scan.specs.Found.{Scanned, scanned}
+
+-- a punctuator: how it is written, and its token
+pub record Punctuator : Type 0 where
+  pub spelling : Text
+  pub token : Token
+
+abbrev spells : Text → Token → Punctuator
+spells spelling token = record { spelling = spelling; token = token }
+
+-- The table. No spelling begins one that stands further down, so the first that fits is the longest.
+abbrev pub punctuators : List Punctuator
+punctuators =
+    spells (codes "{") LBrace ∷
+    spells (codes "}") RBrace ∷
+    spells (codes "(") LParen ∷
+    spells (codes ")") RParen ∷
+    spells (codes "[") LBracket ∷
+    spells (codes "]") RBracket ∷
+    spells (codes ";") Semi ∷
+    spells (codes ",") Comma ∷
+    spells (codes "~") Tilde ∷
+    spells (codes "@") At ∷
+    spells (codes "#") Hash ∷
+    spells (codes ":") Colon ∷
+    spells (codes "...") DotDotDot ∷
+    spells (codes ".") Dot ∷
+    spells (codes "===") (BinOp bin.EqEqEq) ∷
+    spells (codes "==") (BinOp bin.EqEq) ∷
+    spells (codes "=>") Arrow ∷
+    spells (codes "=") (AssignOp assign.Assign) ∷
+    spells (codes "!==") (BinOp bin.NotEqEq) ∷
+    spells (codes "!=") (BinOp bin.NotEq) ∷
+    spells (codes "!") Bang ∷
+    spells (codes "<<=") (AssignOp assign.LShiftAssign) ∷
+    spells (codes "<<") (BinOp bin.LShift) ∷
+    spells (codes "<=") (BinOp bin.LtEq) ∷
+    spells (codes "<") (BinOp bin.Lt) ∷
+    spells (codes ">>>=") (AssignOp assign.ZeroFillRShiftAssign) ∷
+    spells (codes ">>>") (BinOp bin.ZeroFillRShift) ∷
+    spells (codes ">>=") (AssignOp assign.RShiftAssign) ∷
+    spells (codes ">>") (BinOp bin.RShift) ∷
+    spells (codes ">=") (BinOp bin.GtEq) ∷
+    spells (codes ">") (BinOp bin.Gt) ∷
+    spells (codes "++") PlusPlus ∷
+    spells (codes "+=") (AssignOp assign.AddAssign) ∷
+    spells (codes "+") (BinOp bin.Add) ∷
+    spells (codes "--") MinusMinus ∷
+    spells (codes "-=") (AssignOp assign.SubAssign) ∷
+    spells (codes "-") (BinOp bin.Sub) ∷
+    spells (codes "**=") (AssignOp assign.ExpAssign) ∷
+    spells (codes "**") (BinOp bin.Exp) ∷
+    spells (codes "*=") (AssignOp assign.MulAssign) ∷
+    spells (codes "*") (BinOp bin.Mul) ∷
+    spells (codes "/=") (AssignOp assign.DivAssign) ∷
+    spells (codes "/") (BinOp bin.Div) ∷
+    spells (codes "%=") (AssignOp assign.ModAssign) ∷
+    spells (codes "%") (BinOp bin.Mod) ∷
+    spells (codes "||=") (AssignOp assign.OrAssign) ∷
+    spells (codes "||") (BinOp bin.LogicalOr) ∷
+    spells (codes "|=") (AssignOp assign.BitOrAssign) ∷
+    spells (codes "|") (BinOp bin.BitOr) ∷
+    spells (codes "&&=") (AssignOp assign.AndAssign) ∷
+    spells (codes "&&") (BinOp bin.LogicalAnd) ∷
+    spells (codes "&=") (AssignOp assign.BitAndAssign) ∷
+    spells (codes "&") (BinOp bin.BitAnd) ∷
+    spells (codes "^=") (AssignOp assign.BitXorAssign) ∷
+    spells (codes "^") (BinOp bin.BitXor) ∷
+    spells (codes "??=") (AssignOp assign.NullishAssign) ∷
+    spells (codes "??") (BinOp bin.NullishCoalescing) ∷
+    spells (codes "?") QuestionMark ∷ []
+
+-- the text begins with these characters
+abbrev pub begins_with : Text → Text → Bool
+begins_with [] text = true
+begins_with (x ∷ xs) [] = false
+begins_with (x ∷ xs) (c ∷ cs) = (c == x) && begins_with xs cs
+
+-- the first of the list with which the text begins
+abbrev pub first_of : List Punctuator → Text → Option Punctuator
+first_of [] text = None
+first_of (p ∷ ps) text = if begins_with p.spelling text then Some p else first_of ps text
+
+-- among types `<` and `>` stand alone
+abbrev pub alone_among_types : ℕ → Option Punctuator
+alone_among_types c =
+    if c == 60 then Some (spells (codes "<") (BinOp bin.Lt)) else (if c == 62 then Some (spells (codes ">") (BinOp bin.Gt)) else None)
+
+abbrev or_first_of : Option Punctuator → Text → Option Punctuator
+or_first_of (Some p) text = Some p
+or_first_of None text = first_of punctuators text
+
+abbrev pub punctuator_in : Bool → Text → Option Punctuator
+punctuator_in type_mode [] = None
+punctuator_in true (c ∷ cs) = or_first_of (alone_among_types c) (c ∷ cs)
+punctuator_in false (c ∷ cs) = first_of punctuators (c ∷ cs)
+
+abbrev found_punctuator : Option Punctuator → Scanned (Option TokenView)
+found_punctuator (Some p) = scanned (Some (plain_token p.token)) p.spelling
+found_punctuator None = scanned None []
+
+-- the punctuator with which a text begins, or nothing
+abbrev pub punctuator : Bool → Text → Scanned (Option TokenView)
+punctuator type_mode text = found_punctuator (punctuator_in type_mode text)

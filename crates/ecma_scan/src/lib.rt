@@ -1,0 +1,12 @@
+//! The readers of the lexical grammar: each reads one kind of text from a cursor on, and says what it found.
+#![tactic(auto)]
+
+pub mod found;
+pub mod gap;
+pub mod number;
+pub mod word;
+
+pub use found::{Blame, Found};
+pub use gap::{Gap, GapMode, scan_gap};
+pub use number::scan_number;
+pub use word::scan_word;
