@@ -1,3 +1,4 @@
 pub mod Fronts
 pub mod GapLemmas
 pub mod NumberLemmas
+pub mod PunctuatorLemmas

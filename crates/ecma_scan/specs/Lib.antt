@@ -4,7 +4,6 @@ pub mod Numbers
 pub mod Pieces
 pub mod Punctuators
 pub mod Words
-
 pub use Rattle.ecma_place.specs.Atom
 pub use Rattle.ecma_place.specs.Character
 pub use Rattle.ecma_place.specs.Cursor

@@ -1,6 +1,6 @@
 -- Punctuators (ECMA-262 Punctuator, DivPunctuator and RightBracePunctuator, 12.8): the longest of a table with which a
 -- text begins.
-use Rattle.std.specs.Prelude.{ℕ, Bool, true, false, ◌&&◌, ◌==◌, List, [], ◌∷◌, codes, Option, Some, None, if◌then◌else◌}
+use Rattle.std.specs.Prelude.{ℕ, ◌-◌, length, Bool, true, false, ◌&&◌, ◌||◌, ◌==◌, List, [], ◌∷◌, codes, Option, Some, None, option_map, if◌then◌else◌}
 use Rattle.ecma_place.specs.Text.{Text}
 use Rattle.ecma_syntax.specs.declared.operator.BinOpToken.TheVariants as bin
 use Rattle.ecma_syntax.specs.declared.operator.AssignOp.TheVariants as assign
@@ -13,7 +13,7 @@ pub record Punctuator : Type 0 where
   pub spelling : Text
   pub token : Token
 
-abbrev spells : Text → Token → Punctuator
+abbrev pub spells : Text → Token → Punctuator
 spells spelling token = record { spelling = spelling; token = token }
 
 -- The table. No spelling begins one that stands further down, so the first that fits is the longest.
@@ -89,23 +89,47 @@ abbrev pub first_of : List Punctuator → Text → Option Punctuator
 first_of [] text = None
 first_of (p ∷ ps) text = if begins_with p.spelling text then Some p else first_of ps text
 
--- among types `<` and `>` stand alone
-abbrev pub alone_among_types : ℕ → Option Punctuator
-alone_among_types c =
-    if c == 60 then Some (spells (codes "<") (BinOp bin.Lt)) else (if c == 62 then Some (spells (codes ">") (BinOp bin.Gt)) else None)
+abbrev pub token_in : Option Punctuator → Option Token
+token_in (Some p) = Some p.token
+token_in None = None
 
-abbrev or_first_of : Option Punctuator → Text → Option Punctuator
-or_first_of (Some p) text = Some p
-or_first_of None text = first_of punctuators text
+-- how many of its characters stand behind the first
+abbrev pub count_behind : Option Punctuator → ℕ
+count_behind (Some p) = length p.spelling - 1
+count_behind None = 0
+
+abbrev pub spelling_in : Option Punctuator → Text
+spelling_in (Some p) = p.spelling
+spelling_in None = []
+
+-- no spelling but the character itself begins with it
+unfoldable pub is_lone : ℕ → Bool
+is_lone c =
+    c == 123 || (c == 125 || (c == 40 || (c == 41 || (c == 91 || (c == 93 || (c == 59 || (c == 44 || (c == 126 || (c == 64 || (c == 35 || (c == 58)))))))))))
+
+-- several spellings begin with the character
+unfoldable pub begins_more : ℕ → Bool
+begins_more c =
+    c == 46 || (c == 61 || (c == 33 || (c == 60 || (c == 62 || (c == 43 || (c == 45 || (c == 42 || (c == 47 || (c == 37 || (c == 124 || (c == 38 || (c == 94 || (c == 63)))))))))))))
+
+-- among types `<` and `>` stand alone
+abbrev pub angle : ℕ → Option Token
+angle c = if c == 60 then Some (BinOp bin.Lt) else (if c == 62 then Some (BinOp bin.Gt) else None)
+
+abbrev pub angle_in : Bool → ℕ → Option Token
+angle_in true c = angle c
+angle_in false c = None
+
+abbrev pub alone_or : Option Token → ℕ → Text → Option Punctuator
+alone_or (Some token) c cs = Some (spells (c ∷ []) token)
+alone_or None c cs = first_of punctuators (c ∷ cs)
 
 abbrev pub punctuator_in : Bool → Text → Option Punctuator
 punctuator_in type_mode [] = None
-punctuator_in true (c ∷ cs) = or_first_of (alone_among_types c) (c ∷ cs)
-punctuator_in false (c ∷ cs) = first_of punctuators (c ∷ cs)
+punctuator_in type_mode (c ∷ cs) = alone_or (angle_in type_mode c) c cs
 
-abbrev found_punctuator : Option Punctuator → Scanned (Option TokenView)
-found_punctuator (Some p) = scanned (Some (plain_token p.token)) p.spelling
-found_punctuator None = scanned None []
+abbrev pub found_punctuator : Option Punctuator → Scanned (Option TokenView)
+found_punctuator found = scanned (option_map (λ p. plain_token p.token) found) (spelling_in found)
 
 -- the punctuator with which a text begins, or nothing
 abbrev pub punctuator : Bool → Text → Scanned (Option TokenView)

@@ -4,9 +4,11 @@
 pub mod found;
 pub mod gap;
 pub mod number;
+pub mod punctuator;
 pub mod word;
 
 pub use found::{Blame, Found};
 pub use gap::{Gap, GapMode, scan_gap};
 pub use number::scan_number;
+pub use punctuator::scan_punct;
 pub use word::scan_word;

@@ -1,0 +1,409 @@
+//! Punctuators.
+ghost use Rattle.std.specs.Prelude.{◌≡◌, ◌∷◌, [], true, false, Some, length, option_map, slice_get, IfSome, IfNone, if◌then◌else◌, IfOk, IsOk, OnOk};
+ghost use Rattle.ecma_place.specs.Cursor.{rest, place, passed};
+ghost use Rattle.ecma_scan.specs.Found.{found_view, found_at, token_behind};
+ghost use Rattle.ecma_scan.specs.Punctuators as grammar;
+ghost use Rattle.ecma_scan.specs.Punctuators.{begins_with, first_of, punctuators, token_in, spelling_in, count_behind, is_lone, begins_more, punctuator_in, angle_in, spells};
+ghost use Rattle.ecma_place.specs.Text.{Text};
+ghost use Rattle.ecma_token.specs.View.{token_view};
+
+use crate::found::Found;
+use ecma_place::{Span, StringInput};
+use ecma_syntax::{AssignOp, BinOpToken};
+use ecma_token::Token;
+use std::alloc::{AllocError, Global};
+
+/// Moves behind the character, where the rest begins with it.
+#[tactic(auto, using(crate::proofs::PunctuatorLemmas::eating))]
+fn eat_one(input: &mut StringInput, first: char) -> bool
+    ensures value { result ≡ begins_with (first ∷ []) (rest input.old) }
+    ensures moved { input.new ≡ (if result then passed 1 input.old else input.old) }
+{
+    if input.cur() == Some(first) {
+        input.bump();
+        true
+    } else {
+        false
+    }
+}
+
+/// Moves behind the two characters, where the rest begins with them.
+#[tactic(auto, using(crate::proofs::PunctuatorLemmas::eating))]
+fn eat_two(input: &mut StringInput, first: char, second: char) -> bool
+    ensures value { result ≡ begins_with (first ∷ second ∷ []) (rest input.old) }
+    ensures moved { input.new ≡ (if result then passed 2 input.old else input.old) }
+{
+    if input.cur() == Some(first) && input.peek() == Some(second) {
+        input.bump();
+        input.bump();
+        true
+    } else {
+        false
+    }
+}
+
+/// Moves behind the three characters, where the rest begins with them.
+#[tactic(auto, using(crate::proofs::PunctuatorLemmas::eating))]
+fn eat_three(input: &mut StringInput, first: char, second: char, third: char) -> bool
+    ensures value { result ≡ begins_with (first ∷ second ∷ third ∷ []) (rest input.old) }
+    ensures moved { input.new ≡ (if result then passed 3 input.old else input.old) }
+{
+    if input.cur() == Some(first)
+        && input.peek() == Some(second)
+        && input.peek_ahead() == Some(third)
+    {
+        input.bump();
+        input.bump();
+        input.bump();
+        true
+    } else {
+        false
+    }
+}
+
+/// The punctuator that begins with `.`, which stands before the cursor.
+#[tactic(auto, using(crate::proofs::PunctuatorLemmas::eating))]
+fn behind_dot<'a>(input: &mut StringInput<'a>) -> Token<'a>
+    ensures token { token_in (first_of punctuators (46 ∷ rest input.old)) ≡ Some result }
+    ensures moved { input.new ≡ passed (count_behind (first_of punctuators (46 ∷ rest input.old))) input.old }
+{
+    if eat_two(input, '.', '.') {
+        Token::DotDotDot
+    } else {
+        Token::Dot
+    }
+}
+
+/// The punctuator that begins with `=`, which stands before the cursor.
+#[tactic(auto, using(crate::proofs::PunctuatorLemmas::eating))]
+fn behind_equals<'a>(input: &mut StringInput<'a>) -> Token<'a>
+    ensures token { token_in (first_of punctuators (61 ∷ rest input.old)) ≡ Some result }
+    ensures moved { input.new ≡ passed (count_behind (first_of punctuators (61 ∷ rest input.old))) input.old }
+{
+    if eat_two(input, '=', '=') {
+        Token::BinOp(BinOpToken::EqEqEq)
+    } else if eat_one(input, '=') {
+        Token::BinOp(BinOpToken::EqEq)
+    } else if eat_one(input, '>') {
+        Token::Arrow
+    } else {
+        Token::AssignOp(AssignOp::Assign)
+    }
+}
+
+/// The punctuator that begins with `!`, which stands before the cursor.
+#[tactic(auto, using(crate::proofs::PunctuatorLemmas::eating))]
+fn behind_bang<'a>(input: &mut StringInput<'a>) -> Token<'a>
+    ensures token { token_in (first_of punctuators (33 ∷ rest input.old)) ≡ Some result }
+    ensures moved { input.new ≡ passed (count_behind (first_of punctuators (33 ∷ rest input.old))) input.old }
+{
+    if eat_two(input, '=', '=') {
+        Token::BinOp(BinOpToken::NotEqEq)
+    } else if eat_one(input, '=') {
+        Token::BinOp(BinOpToken::NotEq)
+    } else {
+        Token::Bang
+    }
+}
+
+/// The punctuator that begins with `<`, which stands before the cursor.
+#[tactic(auto, using(crate::proofs::PunctuatorLemmas::eating))]
+fn behind_less<'a>(input: &mut StringInput<'a>) -> Token<'a>
+    ensures token { token_in (first_of punctuators (60 ∷ rest input.old)) ≡ Some result }
+    ensures moved { input.new ≡ passed (count_behind (first_of punctuators (60 ∷ rest input.old))) input.old }
+{
+    if eat_two(input, '<', '=') {
+        Token::AssignOp(AssignOp::LShiftAssign)
+    } else if eat_one(input, '<') {
+        Token::BinOp(BinOpToken::LShift)
+    } else if eat_one(input, '=') {
+        Token::BinOp(BinOpToken::LtEq)
+    } else {
+        Token::BinOp(BinOpToken::Lt)
+    }
+}
+
+/// The punctuator that begins with `>`, which stands before the cursor.
+#[tactic(auto, using(crate::proofs::PunctuatorLemmas::eating))]
+fn behind_greater<'a>(input: &mut StringInput<'a>) -> Token<'a>
+    ensures token { token_in (first_of punctuators (62 ∷ rest input.old)) ≡ Some result }
+    ensures moved { input.new ≡ passed (count_behind (first_of punctuators (62 ∷ rest input.old))) input.old }
+{
+    if eat_three(input, '>', '>', '=') {
+        Token::AssignOp(AssignOp::ZeroFillRShiftAssign)
+    } else if eat_two(input, '>', '>') {
+        Token::BinOp(BinOpToken::ZeroFillRShift)
+    } else if eat_two(input, '>', '=') {
+        Token::AssignOp(AssignOp::RShiftAssign)
+    } else if eat_one(input, '>') {
+        Token::BinOp(BinOpToken::RShift)
+    } else if eat_one(input, '=') {
+        Token::BinOp(BinOpToken::GtEq)
+    } else {
+        Token::BinOp(BinOpToken::Gt)
+    }
+}
+
+/// The punctuator that begins with `+`, which stands before the cursor.
+#[tactic(auto, using(crate::proofs::PunctuatorLemmas::eating))]
+fn behind_plus<'a>(input: &mut StringInput<'a>) -> Token<'a>
+    ensures token { token_in (first_of punctuators (43 ∷ rest input.old)) ≡ Some result }
+    ensures moved { input.new ≡ passed (count_behind (first_of punctuators (43 ∷ rest input.old))) input.old }
+{
+    if eat_one(input, '+') {
+        Token::PlusPlus
+    } else if eat_one(input, '=') {
+        Token::AssignOp(AssignOp::AddAssign)
+    } else {
+        Token::BinOp(BinOpToken::Add)
+    }
+}
+
+/// The punctuator that begins with `-`, which stands before the cursor.
+#[tactic(auto, using(crate::proofs::PunctuatorLemmas::eating))]
+fn behind_minus<'a>(input: &mut StringInput<'a>) -> Token<'a>
+    ensures token { token_in (first_of punctuators (45 ∷ rest input.old)) ≡ Some result }
+    ensures moved { input.new ≡ passed (count_behind (first_of punctuators (45 ∷ rest input.old))) input.old }
+{
+    if eat_one(input, '-') {
+        Token::MinusMinus
+    } else if eat_one(input, '=') {
+        Token::AssignOp(AssignOp::SubAssign)
+    } else {
+        Token::BinOp(BinOpToken::Sub)
+    }
+}
+
+/// The punctuator that begins with `*`, which stands before the cursor.
+#[tactic(auto, using(crate::proofs::PunctuatorLemmas::eating))]
+fn behind_star<'a>(input: &mut StringInput<'a>) -> Token<'a>
+    ensures token { token_in (first_of punctuators (42 ∷ rest input.old)) ≡ Some result }
+    ensures moved { input.new ≡ passed (count_behind (first_of punctuators (42 ∷ rest input.old))) input.old }
+{
+    if eat_two(input, '*', '=') {
+        Token::AssignOp(AssignOp::ExpAssign)
+    } else if eat_one(input, '*') {
+        Token::BinOp(BinOpToken::Exp)
+    } else if eat_one(input, '=') {
+        Token::AssignOp(AssignOp::MulAssign)
+    } else {
+        Token::BinOp(BinOpToken::Mul)
+    }
+}
+
+/// The punctuator that begins with `/`, which stands before the cursor.
+#[tactic(auto, using(crate::proofs::PunctuatorLemmas::eating))]
+fn behind_slash<'a>(input: &mut StringInput<'a>) -> Token<'a>
+    ensures token { token_in (first_of punctuators (47 ∷ rest input.old)) ≡ Some result }
+    ensures moved { input.new ≡ passed (count_behind (first_of punctuators (47 ∷ rest input.old))) input.old }
+{
+    if eat_one(input, '=') {
+        Token::AssignOp(AssignOp::DivAssign)
+    } else {
+        Token::BinOp(BinOpToken::Div)
+    }
+}
+
+/// The punctuator that begins with `%`, which stands before the cursor.
+#[tactic(auto, using(crate::proofs::PunctuatorLemmas::eating))]
+fn behind_percent<'a>(input: &mut StringInput<'a>) -> Token<'a>
+    ensures token { token_in (first_of punctuators (37 ∷ rest input.old)) ≡ Some result }
+    ensures moved { input.new ≡ passed (count_behind (first_of punctuators (37 ∷ rest input.old))) input.old }
+{
+    if eat_one(input, '=') {
+        Token::AssignOp(AssignOp::ModAssign)
+    } else {
+        Token::BinOp(BinOpToken::Mod)
+    }
+}
+
+/// The punctuator that begins with `|`, which stands before the cursor.
+#[tactic(auto, using(crate::proofs::PunctuatorLemmas::eating))]
+fn behind_bar<'a>(input: &mut StringInput<'a>) -> Token<'a>
+    ensures token { token_in (first_of punctuators (124 ∷ rest input.old)) ≡ Some result }
+    ensures moved { input.new ≡ passed (count_behind (first_of punctuators (124 ∷ rest input.old))) input.old }
+{
+    if eat_two(input, '|', '=') {
+        Token::AssignOp(AssignOp::OrAssign)
+    } else if eat_one(input, '|') {
+        Token::BinOp(BinOpToken::LogicalOr)
+    } else if eat_one(input, '=') {
+        Token::AssignOp(AssignOp::BitOrAssign)
+    } else {
+        Token::BinOp(BinOpToken::BitOr)
+    }
+}
+
+/// The punctuator that begins with `&`, which stands before the cursor.
+#[tactic(auto, using(crate::proofs::PunctuatorLemmas::eating))]
+fn behind_ampersand<'a>(input: &mut StringInput<'a>) -> Token<'a>
+    ensures token { token_in (first_of punctuators (38 ∷ rest input.old)) ≡ Some result }
+    ensures moved { input.new ≡ passed (count_behind (first_of punctuators (38 ∷ rest input.old))) input.old }
+{
+    if eat_two(input, '&', '=') {
+        Token::AssignOp(AssignOp::AndAssign)
+    } else if eat_one(input, '&') {
+        Token::BinOp(BinOpToken::LogicalAnd)
+    } else if eat_one(input, '=') {
+        Token::AssignOp(AssignOp::BitAndAssign)
+    } else {
+        Token::BinOp(BinOpToken::BitAnd)
+    }
+}
+
+/// The punctuator that begins with `^`, which stands before the cursor.
+#[tactic(auto, using(crate::proofs::PunctuatorLemmas::eating))]
+fn behind_caret<'a>(input: &mut StringInput<'a>) -> Token<'a>
+    ensures token { token_in (first_of punctuators (94 ∷ rest input.old)) ≡ Some result }
+    ensures moved { input.new ≡ passed (count_behind (first_of punctuators (94 ∷ rest input.old))) input.old }
+{
+    if eat_one(input, '=') {
+        Token::AssignOp(AssignOp::BitXorAssign)
+    } else {
+        Token::BinOp(BinOpToken::BitXor)
+    }
+}
+
+/// The punctuator that begins with `?`, which stands before the cursor.
+#[tactic(auto, using(crate::proofs::PunctuatorLemmas::eating))]
+fn behind_question<'a>(input: &mut StringInput<'a>) -> Token<'a>
+    ensures token { token_in (first_of punctuators (63 ∷ rest input.old)) ≡ Some result }
+    ensures moved { input.new ≡ passed (count_behind (first_of punctuators (63 ∷ rest input.old))) input.old }
+{
+    if eat_two(input, '?', '=') {
+        Token::AssignOp(AssignOp::NullishAssign)
+    } else if eat_one(input, '?') {
+        Token::BinOp(BinOpToken::NullishCoalescing)
+    } else {
+        Token::QuestionMark
+    }
+}
+
+/// The punctuator that is this character, whatever follows it.
+#[tactic(auto, unfolding(crate::specs::Punctuators::is_lone))]
+fn lone_token<'a>(first: char) -> Option<Token<'a>>
+    ensures some { IfSome result (λ token. (text : Text) →
+        first_of punctuators (first ∷ text) ≡ Some (spells (first ∷ []) token)) }
+    ensures none { IfNone result (is_lone first ≡ false) }
+{
+    match first {
+        '{' => Some(Token::LBrace),
+        '}' => Some(Token::RBrace),
+        '(' => Some(Token::LParen),
+        ')' => Some(Token::RParen),
+        '[' => Some(Token::LBracket),
+        ']' => Some(Token::RBracket),
+        ';' => Some(Token::Semi),
+        ',' => Some(Token::Comma),
+        '~' => Some(Token::Tilde),
+        '@' => Some(Token::At),
+        '#' => Some(Token::Hash),
+        ':' => Some(Token::Colon),
+        _ => None,
+    }
+}
+
+/// Whether punctuators begin with the character that go on by what follows it.
+#[tactic(auto, unfolding(crate::specs::Punctuators::begins_more))]
+fn begins_more(first: char) -> bool
+    ensures { result ≡ begins_more first }
+{
+    matches!(
+        first,
+        '.' | '=' | '!' | '<' | '>' | '+' | '-' | '*' | '/' | '%' | '|' | '&' | '^' | '?'
+    )
+}
+
+/// The punctuator whose first character stands before the cursor.
+#[tactic(auto, unfolding(crate::specs::Punctuators::begins_more))]
+fn behind_first<'a>(input: &mut StringInput<'a>, first: char) -> Token<'a>
+    requires { begins_more first ≡ true }
+    ensures token { token_in (first_of punctuators (first ∷ rest input.old)) ≡ Some result }
+    ensures moved { input.new ≡ passed (count_behind (first_of punctuators (first ∷ rest input.old))) input.old }
+{
+    match first {
+        '.' => behind_dot(input),
+        '=' => behind_equals(input),
+        '!' => behind_bang(input),
+        '<' => behind_less(input),
+        '>' => behind_greater(input),
+        '+' => behind_plus(input),
+        '-' => behind_minus(input),
+        '*' => behind_star(input),
+        '/' => behind_slash(input),
+        '%' => behind_percent(input),
+        '|' => behind_bar(input),
+        '&' => behind_ampersand(input),
+        '^' => behind_caret(input),
+        _ => behind_question(input),
+    }
+}
+
+/// `<` or `>`, which stand alone among types.
+fn angle<'a>(type_mode: bool, first: char) -> Option<Token<'a>>
+    ensures { result ≡ angle_in type_mode first }
+{
+    match first {
+        '<' if type_mode => Some(Token::BinOp(BinOpToken::Lt)),
+        '>' if type_mode => Some(Token::BinOp(BinOpToken::Gt)),
+        _ => None,
+    }
+}
+
+/// Moves behind the punctuator at the cursor, which begins with this character.
+fn longest<'a>(input: &mut StringInput<'a>, first: char) -> Option<Token<'a>>
+    requires { slice_get (rest input.old) 0 ≡ Some first }
+    ensures token { result ≡ token_in (first_of punctuators (rest input.old)) }
+    ensures moved { input.new ≡ passed (length (spelling_in (first_of punctuators (rest input.old)))) input.old }
+{
+    if let Some(token) = lone_token(first) {
+        input.bump();
+        Some(token)
+    } else if begins_more(first) {
+        input.bump();
+        Some(behind_first(input, first))
+    } else {
+        None
+    }
+}
+
+/// Moves behind the punctuator at the cursor, if there is one.
+fn punctuator<'a>(input: &mut StringInput<'a>, type_mode: bool) -> Option<Token<'a>>
+    ensures token { result ≡ token_in (punctuator_in type_mode (rest input.old)) }
+    ensures moved { input.new ≡ passed (length (spelling_in (punctuator_in type_mode (rest input.old)))) input.old }
+{
+    match input.cur() {
+        None => None,
+        Some(first) => match angle(type_mode, first) {
+            Some(token) => {
+                input.bump();
+                Some(token)
+            }
+            None => longest(input, first),
+        },
+    }
+}
+
+/// Reads the punctuator at the cursor (ECMA-262 Punctuator), the longest there is, or nothing.
+///
+/// In type mode `<` and `>` are always single. A punctuator takes no memory.
+pub fn scan_punct<'a>(
+    alloc: Global,
+    input: &mut StringInput<'a>,
+    type_mode: bool,
+) -> Result<Found<'a, Option<Token<'a>>>, AllocError>
+    ensures found { IfOk result (λ f. found_view (option_map token_view) f ≡
+        found_at (λ n. option_map (token_behind n)) (place input.old) (grammar.punctuator type_mode (rest input.old))) }
+    ensures moved { OnOk result
+        (input.new ≡ passed (length (grammar.punctuator type_mode (rest input.old)).spelling) input.old) }
+    ensures free { IsOk result }
+{
+    let start = input.cur_pos();
+    let token = punctuator(input, type_mode);
+    Ok(Found {
+        value: Ok(token),
+        faults: Vec::new(alloc),
+        extent: Span::new(start, input.cur_pos()),
+        line_break: false,
+    })
+}
