@@ -1,0 +1,66 @@
+-- The token at a place, from what the readers found.
+use Rattle.std.proofs.Common.{◌≡◌, ℕ, ◌+◌, Bool, true, false, List, [], ◌∷◌, length, take, Option, Some, None, Result, Ok, Err, slice_get, refl, sym, ap, ◌∙◌, arith}
+use Rattle.std.specs.Prelude.{option_map, is_ok}
+use Rattle.ecma_place.specs.Text.{Text}
+use Rattle.ecma_place.specs.Cursor.{Cursor, rest, passed}
+use Rattle.ecma_place.specs.declared.place.BytePos.{BytePos}
+use Rattle.ecma_place.specs.declared.place.Span.{Span}
+use Rattle.ecma_token.specs.View.{TokenView, ErrorView, plain_token}
+use Rattle.ecma_scan.specs.Found.{Fault, FoundView, found_at, token_behind, span_behind, span_of}
+use Rattle.ecma_scan.specs.Punctuators.{Punctuator, found_punctuator}
+use Rattle.ecma_scan.proofs.PunctuatorLemmas.{passed-zero}
+use Rattle.ecma_lexer.specs.TokenAt.{punctuator_or_stray, stray}
+
+abbrev pub view : {A : Type 0} → Result A ErrorView → List Fault → Span → Bool → FoundView A
+view value faults extent line_break = record { value = value; faults = faults; extent = extent; line_break = line_break }
+
+abbrev pub found_optionally : ℕ → Option Punctuator → FoundView (Option TokenView)
+found_optionally n found = found_at (λ m. option_map (token_behind m)) n (found_punctuator found)
+
+-- a punctuator was found
+pub punctuator-some : (n : ℕ) (found : Option Punctuator) (text : Text) (t : TokenView) (faults : List Fault) (extent : Span) (line_break : Bool)
+    → view (Ok (Some t)) faults extent line_break ≡ found_optionally n found → view (Ok t) faults extent line_break ≡ found_at token_behind n (punctuator_or_stray found text)
+punctuator-some n (Some p) text t faults extent line_break h =
+    let value : Ok (Some t) ≡ Ok (Some (plain_token p.token)) = ap (λ v. v.value) h in
+    let token : t ≡ plain_token p.token = cc in
+    rw token (ap (λ v. view (Ok (plain_token p.token)) v.faults v.extent v.line_break) h)
+punctuator-some n None text t faults extent line_break h =
+    let value : Ok (Some t) ≡ Ok None = ap (λ v. v.value) h in cc
+
+-- and the cursor moved behind it
+pub punctuator-moved : (n : ℕ) (found : Option Punctuator) (text : Text) (t : TokenView) (faults : List Fault) (extent : Span) (line_break : Bool) (old now : Cursor)
+    → view (Ok (Some t)) faults extent line_break ≡ found_optionally n found → now ≡ passed (length (found_punctuator found).spelling) old
+    → now ≡ passed (length (punctuator_or_stray found text).spelling) old
+punctuator-moved n (Some p) text t faults extent line_break old now h moved = moved
+punctuator-moved n None text t faults extent line_break old now h moved =
+    let value : Ok (Some t) ≡ Ok None = ap (λ v. v.value) h in cc
+
+-- none was found
+pub punctuator-none : (n : ℕ) (found : Option Punctuator) (faults : List Fault) (extent : Span) (line_break : Bool)
+    → view (Ok None) faults extent line_break ≡ found_optionally n found → found ≡ None
+punctuator-none n (Some p) faults extent line_break h =
+    let value : Ok None ≡ Ok (Some (plain_token p.token)) = ap (λ v. v.value) h in cc
+punctuator-none n None faults extent line_break h = refl
+
+-- then the cursor stayed
+pub punctuator-stayed : (found : Option Punctuator) (old now : Cursor) → found ≡ None → now ≡ passed (length (found_punctuator found).spelling) old → now ≡ old
+punctuator-stayed found old now none moved = moved ∙ ap (λ p. passed (length (found_punctuator p).spelling) old) none ∙ passed-zero old
+
+pub stray-refused : (text : Text) → is_ok (stray text).value ≡ false
+stray-refused [] = refl
+stray-refused (c ∷ cs) = refl
+
+-- a stray character
+pub stray-first : (text : Text) (c : ℕ) → slice_get text 0 ≡ Some c → stray text ≡ stray (c ∷ [])
+stray-first [] c e = cc
+stray-first (d ∷ cs) c e = ap (λ x. stray (x ∷ [])) (let same : d ≡ c = cc in same)
+
+pub first-front : (text : Text) (c : ℕ) → slice_get text 0 ≡ Some c → take (length (c ∷ [])) text ≡ c ∷ []
+first-front [] c e = cc
+first-front (d ∷ cs) c e = ap (λ x. x ∷ []) (let same : d ≡ c = cc in same)
+
+-- an empty span at a place
+pub empty-span : (n : ℕ) (pos : BytePos) (span : Span) → pos.0 ≡ n → (let at : Span = record { lo = pos; hi = pos } in span ≡ at) → span ≡ span_behind n (span_of 0 0)
+empty-span n pos span e s =
+    let zero : n + 0 ≡ n = omega arith in
+    s ∙ ap (λ k. span_of k k) (e ∙ sym zero)

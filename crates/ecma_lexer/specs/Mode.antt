@@ -1,0 +1,38 @@
+-- What a read goes by besides the text.
+use Rattle.std.specs.Prelude.{Bool, true, false, not, ◌&&◌, Option, Some, None}
+use Rattle.ecma_syntax.specs.declared.settings.Syntax.{Syntax}
+use Rattle.ecma_syntax.specs.declared.settings.Syntax.TheVariants.{Es, Typescript}
+use Rattle.ecma_scan.specs.declared.gap.GapMode.{GapMode}
+use Rattle.ecma_lexer.specs.declared.mode.Mode.{Mode}
+use Rattle.ecma_lexer.specs.declared.token_context.TokenContext.{TokenContext}
+use Rattle.ecma_lexer.specs.declared.token_context.TokenContext.TheVariants.{Tpl, JSXExpr}
+
+abbrev is_typescript : Syntax → Bool
+is_typescript (Es es) = false
+is_typescript (Typescript ts) = true
+
+-- `<` and `>` stand among types
+abbrev pub type_mode : Mode → Bool
+type_mode mode = is_typescript mode.settings.syntax && (mode.context.in_type && not mode.context.should_not_lex_lt_or_gt_as_type)
+
+-- the innermost context keeps white space
+abbrev keeps_space : Option TokenContext → Bool
+keeps_space (Some JSXExpr) = true
+keeps_space _ = false
+
+-- a template's text is read
+abbrev is_template : Option TokenContext → Bool
+is_template (Some Tpl) = true
+is_template _ = false
+
+-- what the gap before the next token is read by
+abbrev pub gap_mode : Mode → GapMode
+gap_mode mode =
+    record {
+      first = mode.first;
+      type_mode = type_mode mode;
+      keeps_space = keeps_space mode.top;
+      template = is_template mode.top;
+      prev = mode.previous;
+      collect = mode.settings.comments;
+    }

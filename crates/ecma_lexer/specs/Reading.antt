@@ -1,0 +1,64 @@
+-- One read: the gap, and then the end or the token at its place.
+use Rattle.std.specs.Prelude.{ℕ, ◌+◌, Bool, true, false, not, ◌||◌, List, [], ◌∷◌, Option, Some, None, length, map}
+use Rattle.ecma_place.specs.Text.{Text, byte_len}
+use Rattle.ecma_place.specs.Cursor.{Cursor, rest, place, passed}
+use Rattle.ecma_token.specs.declared.kind.TokenKind.{TokenKind}
+use Rattle.ecma_token.specs.declared.kind.TokenKind.TheVariants.{Error}
+use Rattle.ecma_token.specs.Kinds.{kind_of}
+use Rattle.ecma_token.specs.View.{TokenView, SpannedView}
+use Rattle.ecma_scan.specs.Found.{Fault, Scanned, fault_behind, token_behind, span_of}
+use Rattle.ecma_scan.specs.Gaps.{gap_spelling, has_line_break}
+use Rattle.ecma_lexer.specs.Mode.{gap_mode}
+use Rattle.ecma_lexer.specs.TokenAt.{token_at, token_of}
+use Rattle.ecma_lexer.specs.declared.mode.Mode.{Mode}
+
+-- What a read finds: a token, or the end with the flag before it, what is wrong, in order, and where it comes to
+pub record Reading : Type 0 where
+  pub found : Option SpannedView
+  pub end_flag : Bool
+  pub faults : List Fault
+  pub input : Cursor
+
+-- a token that is read at a cursor, with the flag of the gap before it
+abbrev pub spanned_at : Bool → Cursor → Scanned TokenView → SpannedView
+spanned_at flag here s =
+    record {
+      token = token_behind (place here) (token_of s.value);
+      had_line_break = flag || s.line_break;
+      span = span_of (place here) (place here + byte_len s.spelling);
+    }
+
+abbrev pub token_reading : Bool → Cursor → Scanned TokenView → Reading
+token_reading flag here s =
+    record {
+      found = Some (spanned_at flag here s);
+      end_flag = flag;
+      faults = map (fault_behind (place here)) s.faults;
+      input = passed (length s.spelling) here;
+    }
+
+-- behind the gap, where this text is left
+abbrev pub reading_behind : Mode → Bool → Cursor → Text → Reading
+reading_behind mode flag here [] = record { found = None; end_flag = flag; faults = []; input = here }
+reading_behind mode flag here (c ∷ cs) = token_reading flag here (token_at mode (c ∷ cs))
+
+-- the place behind the gap
+abbrev pub behind_gap : Mode → Cursor → Cursor
+behind_gap mode input = passed (length (gap_spelling (gap_mode mode) (rest input))) input
+
+-- what a read finds from a cursor on
+unfoldable pub reading : Mode → Cursor → Reading
+reading mode input =
+    reading_behind mode (has_line_break (gap_mode mode) (rest input)) (behind_gap mode input) (rest (behind_gap mode input))
+
+abbrev pub is_error : TokenKind → Bool
+is_error Error = true
+is_error _ = false
+
+abbrev pub is_plain : Option SpannedView → Bool
+is_plain None = true
+is_plain (Some t) = not (is_error (kind_of t.token))
+
+-- a read that gives no error token takes no memory
+abbrev pub is_free : Reading → Bool
+is_free r = is_plain r.found

@@ -1,0 +1,129 @@
+-- What a list of steps answers, and where it comes to.
+use Rattle.std.specs.Prelude.{ℕ, Bool, false, List, [], ◌∷◌, Option, Some, None, fold, is_none, option_map}
+use Rattle.ecma_place.specs.Cursor.{Cursor, place}
+use Rattle.ecma_token.specs.declared.kind.TokenKind.{TokenKind}
+use Rattle.ecma_token.specs.View.{SpannedView}
+use Rattle.ecma_syntax.specs.declared.context.Context.{Context}
+use Rattle.ecma_lexer.specs.declared.kept.Kept.{Kept}
+use Rattle.ecma_lexer.specs.declared.mode.Mode.{Mode}
+use Rattle.ecma_lexer.specs.declared.settings.Settings.{Settings}
+use Rattle.ecma_lexer.specs.declared.step.Step.{Step}
+use Rattle.ecma_lexer.specs.declared.step.Step.TheVariants.{Read}
+use Rattle.ecma_lexer.specs.declared.token_context.TokenContext.{TokenContext}
+use Rattle.ecma_lexer.specs.declared.token_context.TokenContext.TheVariants.{BraceStmt}
+use Rattle.ecma_lexer.specs.Reading.{Reading, reading}
+use Rattle.ecma_lexer.specs.Session.{Given, Plain, AtEnd, LexerState, Session, seeing, state_of}
+
+abbrev top_of : List TokenContext → Option TokenContext
+top_of [] = None
+top_of (top ∷ below) = Some top
+
+-- what the next read goes by besides the text
+abbrev pub mode_of : LexerState → Mode
+mode_of l =
+    record {
+      settings = l.settings;
+      context = l.context;
+      top = top_of l.contexts;
+      first = l.seen.first;
+      none_given = is_none l.seen.last;
+      previous = option_map (λ kept. kept.kind) l.seen.last;
+      opened = record { 0 = l.opened };
+    }
+
+-- what the next read finds
+abbrev pub reading_of : LexerState → Reading
+reading_of l = reading (mode_of l) l.input
+
+abbrev pub given_in : Bool → Option SpannedView → Given
+given_in flag None = AtEnd flag
+given_in flag (Some t) = Plain t
+
+abbrev pub given_of : Reading → Given
+given_of r = given_in r.end_flag r.found
+
+-- the lexer behind a read
+abbrev pub state_behind : LexerState → Reading → LexerState
+state_behind l r = record l { input = r.input; seen = seeing l.seen (given_of r) }
+
+-- what a step answers
+pub data Answer : Type 0 where
+  Token' : SpannedView → Answer
+  End : Answer
+
+abbrev pub answer_in : Option SpannedView → Answer
+answer_in None = End
+answer_in (Some t) = Token' t
+
+-- where a step leads, and what it answers
+pub record Acted : Type 0 where
+  pub after : Session
+  pub answer : Answer
+
+abbrev pub acted_on : Session → Reading → Acted
+acted_on s r = record { after = record s { input = r.input; past = given_of r ∷ s.past }; answer = answer_in r.found }
+
+-- one step
+abbrev pub act : Session → Step → Acted
+act s Read = acted_on s (reading_of (state_of s))
+
+-- no flag is set
+abbrev pub no_context : Context
+no_context =
+    record {
+      ignore_error = false;
+      «module» = false;
+      can_be_module = false;
+      strict = false;
+      expr_ctx = record { for_loop_init = false; for_await_loop_init = false };
+      include_in_expr = false;
+      in_async = false;
+      in_generator = false;
+      in_static_block = false;
+      is_continue_allowed = false;
+      is_break_allowed = false;
+      in_type = false;
+      should_not_lex_lt_or_gt_as_type = false;
+      in_declare = false;
+      in_cond_expr = false;
+      will_expect_colon_for_cond = false;
+      in_class = false;
+      in_class_field = false;
+      in_function = false;
+      inside_non_arrow_function_scope = false;
+      in_parameters = false;
+      has_super_class = false;
+      in_property_name = false;
+      in_forced_jsx_context = false;
+      allow_direct_super = false;
+      ignore_else_clause = false;
+      disallow_conditional_types = false;
+      allow_using_decl = false;
+    }
+
+-- the session that begins at a cursor
+abbrev pub start_of : Settings → Cursor → Session
+start_of settings input =
+    record {
+      settings = settings;
+      input = input;
+      context = no_context;
+      contexts = BraceStmt ∷ [];
+      opened = place input;
+      past = [];
+    }
+
+abbrev pub act_on : Session → Step → Session
+act_on s step = (act s step).after
+
+-- where a list of steps comes to
+abbrev pub session : Settings → Cursor → List Step → Session
+session settings input steps = fold act_on (start_of settings input) steps
+
+abbrev pub answers_from : Session → List Step → List Answer
+answers_from s [] = []
+answers_from s (step ∷ steps) = (act s step).answer ∷ answers_from (act_on s step) steps
+
+-- what each step of a list answers
+abbrev pub run : Settings → Cursor → List Step → List Answer
+run settings input steps = answers_from (start_of settings input) steps

@@ -1,0 +1,103 @@
+-- What steps have come to, and what is read off the answers that were given.
+use Rattle.std.specs.Prelude.{ℕ, Bool, true, false, ◌&&◌, List, [], ◌∷◌, Option, Some, None, is_none, option_map}
+use Rattle.ecma_place.specs.Cursor.{Cursor}
+use Rattle.ecma_token.specs.declared.kind.TokenKind.{TokenKind}
+use Rattle.ecma_token.specs.declared.kind.TokenKind.TheVariants.{Shebang}
+use Rattle.ecma_token.specs.Kinds.{kind_of}
+use Rattle.ecma_token.specs.View.{SpannedView}
+use Rattle.ecma_syntax.specs.declared.context.Context.{Context}
+use Rattle.ecma_lexer.specs.declared.kept.Kept.{Kept}
+use Rattle.ecma_lexer.specs.declared.kept.Seen.{Seen}
+use Rattle.ecma_lexer.specs.declared.settings.Settings.{Settings}
+use Rattle.ecma_lexer.specs.declared.token_context.TokenContext.{TokenContext}
+
+-- what a read answered: a token, or the end with the flag before it
+pub data Given : Type 0 where
+  Plain : SpannedView → Given
+  AtEnd : Bool → Given
+
+-- the newest stands first
+abbrev pub Past : Type 0
+Past = List Given
+
+abbrev pub kept_of : SpannedView → Kept
+kept_of t = record { kind = kind_of t.token; span = t.span; flag = t.had_line_break }
+
+-- What is read off the past
+
+abbrev pub is_shebang : TokenKind → Bool
+is_shebang Shebang = true
+is_shebang _ = false
+
+-- no token but a shebang was given
+abbrev pub is_first : Past → Bool
+is_first [] = true
+is_first (Plain t ∷ past) = is_shebang (kind_of t.token) && is_first past
+is_first (AtEnd flag ∷ past) = is_first past
+
+-- the token that was given last
+abbrev pub last_kept : Past → Option Kept
+last_kept [] = None
+last_kept (Plain t ∷ past) = Some (kept_of t)
+last_kept (AtEnd flag ∷ past) = last_kept past
+
+-- the flag of the last answer
+abbrev pub last_flag : Past → Bool
+last_flag [] = false
+last_flag (Plain t ∷ past) = t.had_line_break
+last_flag (AtEnd flag ∷ past) = flag
+
+abbrev pub has_ended : Past → Bool
+has_ended (AtEnd flag ∷ past) = true
+has_ended _ = false
+
+-- the tokens that are kept, the newest first
+abbrev pub kept_back : Past → List SpannedView
+kept_back [] = []
+kept_back (Plain t ∷ past) = t ∷ kept_back past
+kept_back (AtEnd flag ∷ past) = kept_back past
+
+-- What steps have come to
+pub record Session : Type 0 where
+  pub settings : Settings
+  pub input : Cursor
+  pub context : Context
+  -- the innermost first
+  pub contexts : List TokenContext
+  -- where the back quote stands that opened a template last
+  pub opened : ℕ
+  pub past : Past
+
+-- What a lexer keeps of its answers
+
+abbrev pub seen_of : Past → Seen
+seen_of past = record { first = is_first past; last = last_kept past; flag = last_flag past; ended = has_ended past }
+
+-- the same behind one more answer
+abbrev pub seeing : Seen → Given → Seen
+seeing seen (Plain t) = record { first = is_shebang (kind_of t.token) && seen.first; last = Some (kept_of t); flag = t.had_line_break; ended = false }
+seeing seen (AtEnd flag) = record { first = seen.first; last = seen.last; flag = flag; ended = true }
+
+-- What a lexer is to its callers
+pub record LexerState : Type 0 where
+  pub settings : Settings
+  pub input : Cursor
+  pub context : Context
+  pub contexts : List TokenContext
+  pub opened : ℕ
+  pub seen : Seen
+  -- whether memory was refused
+  pub refused : Bool
+
+-- a lexer that has come to a session
+abbrev pub state_of : Session → LexerState
+state_of s =
+    record {
+      settings = s.settings;
+      input = s.input;
+      context = s.context;
+      contexts = s.contexts;
+      opened = s.opened;
+      seen = seen_of s.past;
+      refused = false;
+    }

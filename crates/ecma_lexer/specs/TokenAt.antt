@@ -1,0 +1,67 @@
+-- The token at a place (ECMA-262 InputElementDiv, 12): which reader reads it, by its first characters.
+use Rattle.std.specs.Prelude.{ℕ, Bool, true, false, List, [], ◌∷◌, Option, Some, None, Result, Ok, Err, is_some}
+use Rattle.ecma_place.specs.Text.{Text}
+use Rattle.ecma_syntax.specs.declared.word.Word.{Word}
+use Rattle.ecma_token.specs.declared.token.Token as token
+use Rattle.ecma_token.specs.declared.error.SyntaxError.{UnexpectedChar}
+use Rattle.ecma_token.specs.View.{TokenView, ErrorView, plain, plain_token, error_token}
+use Rattle.ecma_scan.specs.Found.{Scanned, error_at}
+use Rattle.ecma_scan.specs.Numbers as numbers
+use Rattle.ecma_scan.specs.Words as words
+use Rattle.ecma_scan.specs.Punctuators as punctuators
+use Rattle.ecma_lexer.specs.Mode.{type_mode}
+use Rattle.ecma_lexer.specs.declared.mode.Mode.{Mode}
+
+abbrev word_value : Result Word ErrorView → Result TokenView ErrorView
+word_value (Ok word) = Ok (plain_token (token.Word word))
+word_value (Err error) = Err error
+
+abbrev as_token : Scanned Word → Scanned TokenView
+as_token s = record { value = word_value s.value; faults = s.faults; spelling = s.spelling; line_break = s.line_break }
+
+abbrev pub word_token : Mode → Text → Scanned TokenView
+word_token mode text = as_token (words.word mode.context text)
+
+-- a character with which nothing begins: our own choice, as ECMA-262 has no token for it
+abbrev pub stray : Text → Scanned TokenView
+stray [] = record { value = Err (error_at (plain (UnexpectedChar 0)) 0); faults = []; spelling = []; line_break = false }
+stray (c ∷ cs) = record { value = Err (error_at (plain (UnexpectedChar c)) 0); faults = []; spelling = c ∷ []; line_break = false }
+
+abbrev pub punctuator_or_stray : Option punctuators.Punctuator → Text → Scanned TokenView
+punctuator_or_stray (Some p) text = record { value = Ok (plain_token p.token); faults = []; spelling = p.spelling; line_break = false }
+punctuator_or_stray None text = stray text
+
+abbrev pub other_token : Mode → Text → Scanned TokenView
+other_token mode text = punctuator_or_stray (punctuators.punctuator_in (type_mode mode) text) text
+
+-- what the first characters of a text open
+pub data Opening : Type 0 where
+  Number : Opening
+  Word' : Opening
+  Other : Opening
+
+abbrev opening_from : Bool → Bool → Opening
+opening_from true word = Number
+opening_from false true = Word'
+opening_from false false = Other
+
+abbrev pub opening : Text → Opening
+opening text = opening_from (numbers.opens_number text) (words.opens_word text)
+
+-- legacy octals are told of as TypeScript does; has no effect yet
+abbrev pub ts1085 : Mode → Bool
+ts1085 mode = false
+
+abbrev pub read_opened : Opening → Mode → Text → Scanned TokenView
+read_opened Number mode text = numbers.number (ts1085 mode) text
+read_opened Word' mode text = word_token mode text
+read_opened Other mode text = other_token mode text
+
+-- the token at a text that isn't empty
+abbrev pub token_at : Mode → Text → Scanned TokenView
+token_at mode text = read_opened (opening text) mode text
+
+-- a refused text is a token too
+abbrev pub token_of : Result TokenView ErrorView → TokenView
+token_of (Ok token) = token
+token_of (Err error) = error_token error.kind error.span

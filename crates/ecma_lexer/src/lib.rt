@@ -1,0 +1,19 @@
+//! The lexer: what it reads by, the token at a place, and one read after another.
+#![tactic(auto)]
+
+pub mod kept;
+pub mod lexer;
+
+pub mod mode;
+mod read;
+pub mod settings;
+pub mod step;
+mod token_at;
+pub mod token_context;
+
+pub use kept::Kept;
+pub use lexer::Lexer;
+
+pub use settings::Settings;
+pub use step::Step;
+pub use token_context::TokenContext;

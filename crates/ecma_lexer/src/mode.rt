@@ -1,0 +1,52 @@
+//! What a read goes by besides the text.
+ghost use Rattle.std.specs.Prelude.{◌≡◌};
+ghost use Rattle.ecma_lexer.specs.Mode.{type_mode, gap_mode};
+
+use crate::settings::Settings;
+use crate::token_context::TokenContext;
+use ecma_place::BytePos;
+use ecma_scan::GapMode;
+use ecma_syntax::{Context, Syntax};
+use ecma_token::TokenKind;
+
+/// What a read goes by besides the text.
+#[derive(Debug, Clone, Copy)]
+pub struct Mode {
+    pub settings: Settings,
+    pub context: Context,
+    /// The innermost context.
+    pub top: Option<TokenContext>,
+    /// Whether no token but a shebang was given.
+    pub first: bool,
+    /// Whether no token at all was given, so that a shebang may stand.
+    pub none_given: bool,
+    /// The kind of the token before.
+    pub previous: Option<TokenKind>,
+    /// Where the back quote stands that opened a template last; the start place where none did.
+    pub opened: BytePos,
+}
+
+impl Mode {
+    /// Whether `<` and `>` stand among types.
+    pub fn type_mode(&self) -> bool
+        ensures { result ≡ type_mode self.now }
+    {
+        matches!(self.settings.syntax, Syntax::Typescript(_))
+            && self.context.in_type
+            && !self.context.should_not_lex_lt_or_gt_as_type
+    }
+
+    /// What the gap before the next token is read by.
+    pub fn gap_mode(&self) -> GapMode
+        ensures { result ≡ gap_mode self.now }
+    {
+        GapMode {
+            first: self.first,
+            type_mode: self.type_mode(),
+            keeps_space: matches!(self.top, Some(TokenContext::JSXExpr)),
+            template: matches!(self.top, Some(TokenContext::Tpl)),
+            prev: self.previous,
+            collect: self.settings.comments,
+        }
+    }
+}

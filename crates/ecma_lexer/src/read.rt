@@ -1,0 +1,69 @@
+//! One read: the gap, and then the end or the token at its place.
+ghost use Rattle.std.specs.Prelude.{◌≡◌, true, option_map, IfOk, IsOk, OnOk};
+ghost use Rattle.ecma_token.specs.View.{spanned_view, token_view};
+ghost use Rattle.ecma_scan.specs.Found.{value_view};
+ghost use Rattle.ecma_lexer.specs.Reading.{reading, is_free};
+ghost use Rattle.ecma_lexer.specs.TokenAt as grammar;
+
+use crate::mode::Mode;
+use crate::token_at::token_at;
+use ecma_place::StringInput;
+use ecma_scan::{Found, scan_gap};
+use ecma_token::{Error, Token, TokenAndSpan};
+use std::alloc::{AllocError, Global};
+
+/// What a read found.
+#[derive(Drop)]
+pub struct Reading<'a> {
+    /// A token, or nothing at the end.
+    pub found: Option<TokenAndSpan<'a>>,
+    /// Whether no token came before, or a line terminator stands in the gap.
+    pub end_flag: bool,
+}
+
+/// A refused text is a token too.
+fn token_of<'a>(value: Result<Token<'a>, Error<'a>>) -> Token<'a>
+    ensures { token_view result ≡ grammar.token_of (value_view token_view value.entry) }
+{
+    match value {
+        Ok(token) => token,
+        Err(error) => Token::Error(error),
+    }
+}
+
+/// Reads from the cursor on.
+#[tactic(auto, unfolding(crate::specs::Reading::reading))]
+pub fn read_from<'a>(
+    alloc: Global,
+    input: &mut StringInput<'a>,
+    mode: &Mode,
+) -> Result<Reading<'a>, AllocError>
+    ensures found { IfOk result (λ r. option_map spanned_view r.found ≡ (reading mode.now input.old).found) }
+    ensures end_flag { IfOk result (λ r. r.end_flag ≡ (reading mode.now input.old).end_flag) }
+    ensures moved { OnOk result (input.new ≡ (reading mode.now input.old).input) }
+    ensures free { is_free (reading mode.now input.old) ≡ true → IsOk result }
+{
+    let gap = scan_gap(alloc, input, &mode.gap_mode())?;
+    let end_flag = gap.line_break;
+    let Some(c) = input.cur() else {
+        return Ok(Reading {
+            found: None,
+            end_flag,
+        });
+    };
+    let Found {
+        value,
+        faults: _,
+        extent,
+        line_break,
+    } = token_at(alloc, input, mode, c)?;
+    let token = TokenAndSpan {
+        token: token_of(value),
+        had_line_break: end_flag | line_break,
+        span: extent,
+    };
+    Ok(Reading {
+        found: Some(token),
+        end_flag,
+    })
+}

@@ -1,0 +1,128 @@
+//! The token at a place.
+ghost use Rattle.std.specs.Prelude.{◌≡◌, true, Some, length, slice_get, is_ok, IfOk, IsOk, OnOk};
+ghost use Rattle.ecma_place.specs.Cursor.{rest, place, passed};
+ghost use Rattle.ecma_token.specs.View.{token_view};
+ghost use Rattle.ecma_scan.specs.Found.{found_view, found_at, token_behind};
+ghost use Rattle.ecma_scan.specs.Words.{opens_word};
+ghost use Rattle.ecma_lexer.specs.TokenAt as grammar;
+
+use crate::mode::Mode;
+use ecma_place::{CharExt, Span, StringInput};
+use ecma_scan::{Found, scan_number, scan_punct, scan_word};
+use ecma_token::{Error, SyntaxError, Token};
+use std::alloc::{AllocError, Global};
+
+/// The word at the cursor as a token.
+fn word_at<'a>(
+    alloc: Global,
+    input: &mut StringInput<'a>,
+    mode: &Mode,
+) -> Result<Found<'a, Token<'a>>, AllocError>
+    requires { opens_word (rest input.old) ≡ true }
+    ensures found { IfOk result (λ f. found_view token_view f ≡
+        found_at token_behind (place input.old) (grammar.word_token mode.now (rest input.old))) }
+    ensures moved { OnOk result
+        (input.new ≡ passed (length (grammar.word_token mode.now (rest input.old)).spelling) input.old) }
+    ensures free { IsOk result }
+{
+    let found = scan_word(alloc, input, &mode.context)?;
+    let Found {
+        value,
+        faults,
+        extent,
+        line_break,
+    } = found;
+    Ok(Found {
+        value: value.map(Token::Word),
+        faults,
+        extent,
+        line_break,
+    })
+}
+
+/// The character at the cursor as an error, since no token begins with it.
+fn stray_at<'a>(
+    alloc: Global,
+    input: &mut StringInput<'a>,
+    c: char,
+) -> Result<Found<'a, Token<'a>>, AllocError>
+    requires { slice_get (rest input.old) 0 ≡ Some c }
+    ensures found { IfOk result (λ f. found_view token_view f ≡
+        found_at token_behind (place input.old) (grammar.stray (rest input.old))) }
+    ensures moved { OnOk result
+        (input.new ≡ passed (length (grammar.stray (rest input.old)).spelling) input.old) }
+{
+    let start = input.cur_pos();
+    let error = Error::new(
+        alloc,
+        Span::new(start, start),
+        SyntaxError::UnexpectedChar { c },
+    )?;
+    input.bump();
+    Ok(Found {
+        value: Err(error),
+        faults: Vec::new(alloc),
+        extent: Span::new(start, input.cur_pos()),
+        line_break: false,
+    })
+}
+
+/// The punctuator at the cursor, or the character there as an error.
+fn punctuator_at<'a>(
+    alloc: Global,
+    input: &mut StringInput<'a>,
+    mode: &Mode,
+    c: char,
+) -> Result<Found<'a, Token<'a>>, AllocError>
+    requires { slice_get (rest input.old) 0 ≡ Some c }
+    ensures found { IfOk result (λ f. found_view token_view f ≡
+        found_at token_behind (place input.old) (grammar.other_token mode.now (rest input.old))) }
+    ensures moved { OnOk result
+        (input.new ≡ passed (length (grammar.other_token mode.now (rest input.old)).spelling) input.old) }
+    ensures free { is_ok (grammar.other_token mode.now (rest input.old)).value ≡ true → IsOk result }
+{
+    let Found {
+        value,
+        faults,
+        extent,
+        line_break,
+    } = scan_punct(alloc, input, mode.type_mode())?;
+    match value {
+        Ok(None) => stray_at(alloc, input, c),
+        Ok(Some(token)) => Ok(Found {
+            value: Ok(token),
+            faults,
+            extent,
+            line_break,
+        }),
+        Err(error) => Ok(Found {
+            value: Err(error),
+            faults,
+            extent,
+            line_break,
+        }),
+    }
+}
+
+/// The token at the cursor, which stands before the character `c`.
+pub fn token_at<'a>(
+    alloc: Global,
+    input: &mut StringInput<'a>,
+    mode: &Mode,
+    c: char,
+) -> Result<Found<'a, Token<'a>>, AllocError>
+    requires { slice_get (rest input.old) 0 ≡ Some c }
+    ensures found { IfOk result (λ f. found_view token_view f ≡
+        found_at token_behind (place input.old) (grammar.token_at mode.now (rest input.old))) }
+    ensures moved { OnOk result
+        (input.new ≡ passed (length (grammar.token_at mode.now (rest input.old)).spelling) input.old) }
+    ensures free { is_ok (grammar.token_at mode.now (rest input.old)).value ≡ true → IsOk result }
+{
+    if c.is_digit(10) {
+        scan_number(alloc, input, false)
+    } else if c.is_ident_start() {
+        word_at(alloc, input, mode)
+    } else {
+        punctuator_at(alloc, input, mode, c)
+    }
+}
