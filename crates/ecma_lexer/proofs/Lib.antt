@@ -1,2 +1,4 @@
+pub mod EndLemmas
+pub mod FrontLemmas
 pub mod ReadingLemmas
 pub mod TokenLemmas

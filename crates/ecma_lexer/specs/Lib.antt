@@ -2,6 +2,7 @@ pub mod Mode
 pub mod Reading
 pub mod Run
 pub mod Session
+pub mod Tiling
 pub mod TokenAt
 pub mod View
 

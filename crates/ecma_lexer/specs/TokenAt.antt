@@ -40,7 +40,7 @@ pub data Opening : Type 0 where
   Word' : Opening
   Other : Opening
 
-abbrev opening_from : Bool → Bool → Opening
+abbrev pub opening_from : Bool → Bool → Opening
 opening_from true word = Number
 opening_from false true = Word'
 opening_from false false = Other

@@ -1,3 +1,4 @@
+pub mod CharacterLemmas
 pub mod ClassLemmas
 pub mod CursorLemmas
 pub mod LaneLemmas

@@ -1,5 +1,5 @@
 -- What a text begins with, character by character, and the punctuator that it begins with.
-use Rattle.std.proofs.Common.{◌≡◌, ℕ, ◌+◌, ◌-◌, Bool, true, false, cond, ◌||◌, ◌==◌, List, [], ◌∷◌, length, take, drop, drop-drop, Option, Some, None, slice_get, refl, sym, ap, subst, ◌∙◌, arith, nat_lt, eqb-true}
+use Rattle.std.proofs.Common.{◌≡◌, ℕ, ◌+◌, ◌-◌, ◌<◌, Bool, true, false, cond, ◌||◌, ◌==◌, List, [], ◌∷◌, length, take, drop, drop-drop, Option, Some, None, slice_get, refl, sym, ap, subst, ◌∙◌, arith, nat_lt, eqb-true}
 use Rattle.std.specs.Prelude.{option_map}
 use Rattle.std.specs.Prelude.{⊤}
 use Rattle.std.specs.List.{list_all}
@@ -169,3 +169,28 @@ punctuator-seen n true (c ∷ cs) = go (angle c) refl
 
 pub first_of-none-at : (text : Text) (c : ℕ) → slice_get text 0 ≡ Some c → is_lone c ≡ false → begins_more c ≡ false → first_of punctuators text ≡ None
 first_of-none-at text c e alone more = ap (first_of punctuators) (first-cons text c e) ∙ first_of-none c (drop 1 text) alone more
+
+-- what is found is not empty
+
+spelled-found : (ps : List Punctuator) (text : Text) (p : Punctuator) → list_all is_spelled ps ≡ true → first_of ps text ≡ Some p → 0 < length p.spelling
+spelled-found [] text p all e = cc
+spelled-found (q ∷ ps) text p all e = go (begins_with q.spelling text) e (and_parts (is_spelled q) (list_all is_spelled ps) all) (spelled-found ps text p)
+  where
+    go : (b : Bool) → cond b (Some q) (first_of ps text) ≡ Some p → (is_spelled q ≡ true) × (list_all is_spelled ps ≡ true)
+        → (list_all is_spelled ps ≡ true → first_of ps text ≡ Some p → 0 < length p.spelling) → 0 < length p.spelling
+    go true e all more =
+        let same : q ≡ p = cc in
+        let some : 0 < length q.spelling = grind (arith, nat_tests, all.0) in
+        rw same at some
+    go false e all more = more all.1 e
+
+pub punctuator-some : (type_mode : Bool) (text : Text) (p : Punctuator) → punctuator_in type_mode text ≡ Some p → 0 < length p.spelling
+punctuator-some type_mode [] p e = cc
+punctuator-some type_mode (c ∷ cs) p e = go (angle_in type_mode c) e
+  where
+    go : (o : Option Token) → alone_or o c cs ≡ Some p → 0 < length p.spelling
+    go (Some t) e =
+        let same : spells (c ∷ []) t ≡ p = cc in
+        let some : 0 < length (c ∷ []) = omega arith in
+        subst (λ q. 0 < length q.spelling) same some
+    go None e = spelled-found punctuators (c ∷ cs) p refl e

@@ -27,7 +27,7 @@ flag_behind flag e = flag || list_any is_line_terminator (element_text e)
 abbrev pub gap_cutter : GapMode → Cutter Bool Element
 gap_cutter mode = record { read = element mode; spelling = element_text; next = flag_behind }
 
-abbrev elements_if : Bool → GapMode → Text → List Element
+abbrev pub elements_if : Bool → GapMode → Text → List Element
 elements_if true mode text = []
 elements_if false mode text = pieces (gap_cutter mode) mode.first text
 

@@ -1,0 +1,101 @@
+-- Where a read comes to, and what is read at the end.
+use Rattle.std.proofs.Common.{◌≡◌, ℕ, ◌+◌, ◌-◌, ◌<◌, ◌≤◌, Bool, true, false, ◌||◌, List, [], ◌∷◌, length, take, drop, drop-drop, length-drop, Option, Some, None, refl, sym, ap, ◌∙◌, arith}
+use Rattle.std.proofs.lemmas.Option.{none-some}
+use Rattle.ecma_place.specs.Text.{Text, byte_len}
+use Rattle.ecma_place.specs.Cursor.{Cursor, rest, place, passed}
+use Rattle.ecma_place.proofs.MoveLemmas.{place-passed, place-passed-le}
+use Rattle.ecma_token.specs.View.{SpannedView}
+use Rattle.ecma_scan.specs.Pieces.{spelled}
+use Rattle.ecma_scan.specs.Gaps.{gap_spelling, has_line_break, gap_cutter, elements_if}
+use Rattle.ecma_scan.specs.declared.gap.GapMode.{GapMode}
+use Rattle.ecma_scan.proofs.PunctuatorLemmas.{passed-zero}
+use Rattle.ecma_lexer.specs.Mode.{gap_mode}
+use Rattle.ecma_lexer.specs.Reading.{Reading, reading, reading_behind, behind_gap}
+use Rattle.ecma_lexer.specs.TokenAt.{token_at}
+use Rattle.ecma_lexer.specs.declared.mode.Mode.{Mode}
+use Rattle.ecma_lexer.proofs.FrontLemmas.{token_at-front, token_at-some}
+
+-- what a read finds stands behind the place where it began, and ends where the read ends
+pub record ReadsOn (input : Cursor) (r : Reading) : Type 0 where
+  pub start : r.input.start ≡ input.start
+  pub text : r.input.text ≡ input.text
+  pub token : (t : SpannedView) → r.found ≡ Some t → (place input ≤ t.span.lo.0) × (t.span.lo.0 ≤ t.span.hi.0) × (t.span.hi.0 ≡ place r.input)
+  pub further : place input ≤ place r.input
+  pub ending : r.found ≡ None → rest r.input ≡ []
+
+reads-behind : (mode : Mode) (flag : Bool) (input here : Cursor) (n : ℕ) (text : Text) → here ≡ passed n input → rest here ≡ text → ReadsOn input (reading_behind mode flag here text)
+reads-behind mode flag input here n [] gap e = record {
+  start = ap (λ c. c.start) gap;
+  text = ap (λ c. c.text) gap;
+  token = λ t h. absurd (none-some t h);
+  further = place-passed-le input here n gap;
+  ending = λ _. e;
+}
+reads-behind mode flag input here n (c ∷ cs) gap e =
+    let s = token_at mode (c ∷ cs) in
+    let front : take (length s.spelling) (rest here) ≡ s.spelling = rw e (token_at-front mode (c ∷ cs)) in
+    let behind : place (passed (length s.spelling) here) ≡ place here + byte_len s.spelling =
+    place-passed here _ (length s.spelling) refl ∙ ap (λ l. place here + byte_len l) front in
+    let first = place-passed-le input here n gap in
+    record {
+      start = ap (λ c. c.start) gap;
+      text = ap (λ c. c.text) gap;
+      token = λ t h. let lo : place here ≡ t.span.lo.0 = ap lo_in h in
+          let hi : place here + byte_len s.spelling ≡ t.span.hi.0 = ap hi_in h in
+          (omega (arith, first, lo), omega (arith, lo, hi), sym hi ∙ sym behind);
+      further = omega (arith, first, behind);
+      ending = λ h. absurd (none-some _ (sym h));
+    }
+  where
+    lo_in : Option SpannedView → ℕ
+    lo_in None = 0
+    lo_in (Some t) = t.span.lo.0
+    hi_in : Option SpannedView → ℕ
+    hi_in None = 0
+    hi_in (Some t) = t.span.hi.0
+
+pub reading-on : (mode : Mode) (input : Cursor) → ReadsOn input (reading mode input)
+unfolding reading
+reading-on mode input =
+    reads-behind mode (has_line_break (gap_mode mode) (rest input)) input (behind_gap mode input) (length (gap_spelling (gap_mode mode) (rest input))) (rest (behind_gap mode input)) refl refl
+
+-- At the end
+
+gap_spelling-end : (mode : GapMode) → gap_spelling mode [] ≡ []
+gap_spelling-end mode = go (mode.template || mode.keeps_space)
+  where
+    go : (b : Bool) → spelled (gap_cutter mode) (elements_if b mode []) ≡ []
+    go true = refl
+    go false = refl
+
+behind_gap-end : (mode : Mode) (input : Cursor) → rest input ≡ [] → behind_gap mode input ≡ input
+behind_gap-end mode input e =
+    ap (λ text. passed (length (gap_spelling (gap_mode mode) text)) input) e
+    ∙ ap (λ gap. passed (length gap) input) (gap_spelling-end (gap_mode mode))
+    ∙ passed-zero input
+
+-- where nothing is left the end is answered, and nothing moves
+pub reading-end : (mode : Mode) (input : Cursor) → rest input ≡ [] → reading mode input ≡ record { found = None; end_flag = has_line_break (gap_mode mode) (rest input); faults = []; input = input }
+unfolding reading
+reading-end mode input e =
+    let flag = has_line_break (gap_mode mode) (rest input) in
+    ap (λ here. reading_behind mode flag here (rest here)) (behind_gap-end mode input e) ∙ ap (reading_behind mode flag input) e
+
+-- a token takes away from what is left
+less-behind : (mode : Mode) (flag : Bool) (input here : Cursor) (n : ℕ) (text : Text) (t : SpannedView) → here ≡ passed n input → rest here ≡ text
+    → (reading_behind mode flag here text).found ≡ Some t → length (rest (reading_behind mode flag here text).input) < length (rest input)
+less-behind mode flag input here n [] t gap e found = absurd (none-some t found)
+less-behind mode flag input here n (c ∷ cs) t gap e found =
+    let s = token_at mode (c ∷ cs) in
+    let some = token_at-some mode c cs in
+    let left : length (rest here) ≡ length (c ∷ cs) = ap length e in
+    let more : length (c ∷ cs) ≡ 1 + length cs = omega arith in
+    let skipped : length (rest here) ≡ length (rest input) - n = rw (gap, ← drop-drop n input.at input.text) (length-drop n (rest input)) in
+    let behind : length (rest (passed (length s.spelling) here)) ≡ length (rest here) - length s.spelling =
+    rw (← drop-drop (length s.spelling) here.at here.text) (length-drop (length s.spelling) (rest here)) in
+    omega (arith, some, left, more, skipped, behind)
+
+pub reading-less : (mode : Mode) (input : Cursor) (t : SpannedView) → (reading mode input).found ≡ Some t → length (rest (reading mode input).input) < length (rest input)
+unfolding reading
+reading-less mode input t found =
+    less-behind mode (has_line_break (gap_mode mode) (rest input)) input (behind_gap mode input) (length (gap_spelling (gap_mode mode) (rest input))) (rest (behind_gap mode input)) t refl refl found
