@@ -1,5 +1,5 @@
 -- What the places of a text and the slices between them are, in plain concatenations.
-use Rattle.std.proofs.Common.{◌≡◌, ℕ, ◌+◌, ◌-◌, List, ◌++◌, length, take, drop, refl, sym, ap, ◌∙◌, arith, length-append, take_at, drop_at, append_assoc, encode_utf8_all}
+use Rattle.std.proofs.Common.{◌≡◌, ℕ, ◌+◌, ◌-◌, ◌++◌, length, drop, refl, ap, ◌∙◌, arith, length-append, take_at, drop_at, append_assoc, encode_utf8_all}
 use Rattle.std.proofs.lemmas.Str.{encodes-append}
 use Rattle.ecma_place.specs.Text.{Text, byte_len, place_of, count_within, slice_between}
 use Rattle.ecma_place.proofs.CursorLemmas.{count_within-byte_len}
