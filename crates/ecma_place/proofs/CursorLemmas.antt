@@ -1,12 +1,12 @@
 -- What the bytes and the offset of an input say of its characters.
-use Rattle.std.proofs.Common.{◌≡◌, ℕ, ◌+◌, ◌-◌, ◌<◌, ◌≤◌, List, [], ◌∷◌, ◌++◌, length, take, drop, refl, sym, ap, subst, ◌∙◌, arith, length-append, take-append-drop, take_at, drop_at, length-take-le, length-drop, drop-cons, nat_le, nat_eq, append_assoc, encode_utf8, encode_utf8_all, Option, None, Some, IfSome, slice_get, get_or, ◌↔◌, slice_range, zero, suc, Bool, true, false, ◌&&◌, take-add, IsUtf8, IsCharBoundary}
+use Rattle.std.proofs.Common.{◌≡◌, ℕ, ◌+◌, ◌-◌, ◌<◌, ◌≤◌, List, [], ◌∷◌, ◌++◌, length, take, drop, refl, sym, ap, subst, ◌∙◌, arith, length-append, take-append-drop, take_at, drop_at, length-take-le, length-drop, drop-cons, nat_le, nat_eq, append_assoc, encode_utf8, encode_utf8_all, Option, None, Some, IfSome, slice_get, get_or, ◌↔◌, slice_range, zero, suc, Bool, true, false, ◌&&◌, take-add, IsUtf8, IsCharBoundary, ⊎_elim, if◌then◌else◌, nat_lt}
 use Rattle.std.specs.Str.{chars, all_scalars}
 use Rattle.std.specs.Char.{len_utf8, IsScalar}
 use Rattle.std.proofs.lemmas.Str.{chars-nil, chars-append, encode_ascii, char_from_byte, cons_from_encodes, IsCharBoundary-from_take, encodes-append, scalars-chars, IsCharBoundary-at_seam, IsUtf8-between, length-encode, len_utf8_bounds, encodes-chars, chars_past_char, IsUtf8-take, IsUtf8-drop, IsUtf8-from_is_utf8, drop_past_char, IsCharBoundary-past_char}
-use Rattle.std.proofs.lemmas.Bool.Decides.{nat_tests, Decides-eqb}
+use Rattle.std.proofs.lemmas.Bool.Decides.{nat_tests, Decides-eqb, leb_tells}
 use Rattle.std.proofs.lemmas.Slice.Eq.{starts_is}
 use Rattle.std.specs.List.{starts_with}
-use Rattle.ecma_place.specs.Cursor.{Cursor, rest, place, passed, cursor_at, IsInput, HasPlace, count_within, moved_to, index_of}
+use Rattle.ecma_place.specs.Cursor.{Cursor, rest, place, passed, cursor_at, IsInput, HasPlace, count_within, moved_to, index_of, ascii_of}
 use Rattle.ecma_place.specs.Text.{byte_len}
 
 pub input_utf8 : {bytes : List ℕ} {s o : ℕ} → IsInput bytes s o → IsUtf8 bytes
@@ -235,6 +235,34 @@ first_byte (c ∷ cs) b l = (
 
 pub slice_get-drop : (t : List ℕ) (o : ℕ) → o < length t → slice_get (drop o t) 0 ≡ Some (get_or t o 0)
 slice_get-drop t o l = rw (drop-cons t o 0 l) refl
+
+past_ascii : (c b : ℕ) (bs cs : List ℕ) → bs ≡ encode_utf8 c ++ cs → slice_get bs 0 ≡ Some b → 128 ≤ c → nat_lt b 128 ≡ false
+past_ascii c b bs cs e first high =
+    let byte = get-read bs b first in
+    let some = nonempty-read bs b first in
+    ⊎_elim
+    (λ (h : (nat_le 128 b ≡ true) × (128 ≤ b)). grind (arith, nat_tests, h.1))
+    (λ (h : (nat_le 128 b ≡ false) × (b < 128)). let same = char_from_byte bs cs c e (rw byte h.1) some in absurd (omega (arith, same, byte, h.1)))
+    (leb_tells 128 b)
+
+-- the first byte of a text is ASCII where the first character is, and is then that character
+pub ascii_of-first : (cs : List ℕ) (b : ℕ) → slice_get (encode_utf8_all cs) 0 ≡ Some b → (if nat_lt b 128 then Some b else None) ≡ ascii_of (slice_get cs 0)
+ascii_of-first [] b h = cc
+ascii_of-first (c ∷ cs) b h =
+    ⊎_elim
+    (λ (high : (nat_le 128 c ≡ true) × (128 ≤ c)).
+    let byte = past_ascii c b (encode_utf8_all (c ∷ cs)) (encode_utf8_all cs) refl h high.1 in
+    let char : nat_lt c 128 ≡ false = grind (arith, nat_tests, high.1) in
+    rw (byte, char) refl)
+    (λ (low : (nat_le 128 c ≡ false) × (c < 128)).
+    let same : c ≡ b = let first = rw (encode_ascii c low.1) at h in cc in
+    rw same refl)
+    (leb_tells 128 c)
+
+-- the same of the byte at the offset of an input
+pub ascii_of-seen : (t : List ℕ) (s o : ℕ) (c : Cursor) → cursor_at t s o ≡ c → IsInput t s o → o < length t → (if nat_lt (get_or t o 0) 128 then Some (get_or t o 0) else None) ≡ ascii_of (slice_get (rest c) 0)
+ascii_of-seen t s o c e i l =
+    let first = rw (bytes-seen t s o c e i) at (slice_get-drop t o l) in ascii_of-first (rest c) (get_or t o 0) first
 
 and-parts-right : (x y : Bool) → (x && y) ≡ true → (x ≡ true) × (y ≡ true)
 and-parts-right true y h = (refl, h)

@@ -4,3 +4,4 @@ pub mod CursorLemmas
 pub mod LaneLemmas
 pub mod MoveLemmas
 pub mod RunLemmas
+pub mod TextLemmas

@@ -1,8 +1,8 @@
--- A cursor in a text: the text is a list of characters, and the cursor stands behind some of them.
-use Rattle.std.specs.Prelude.{ℕ, ◌+◌, ◌-◌, ◌^◌, ◌<◌, ◌≡◌, List, [], ◌∷◌, length, take, drop, encode_utf8_all, true, if◌then◌else◌, nat_le, nat_lt, Option, Some, None}
+-- A cursor in a text: it stands behind some of the text's characters. All of this page is our own choice.
+use Rattle.std.specs.Prelude.{ℕ, ◌+◌, ◌-◌, ◌^◌, ◌<◌, ◌≡◌, List, length, take, drop, true, if◌then◌else◌, nat_lt, Option, Some, None}
 use Rattle.std.specs.Str.{chars, is_utf8, IsCharBoundary}
-use Rattle.std.specs.Char.{len_utf8}
-use Rattle.ecma_place.specs.Text.{Text, byte_len}
+use Rattle.ecma_place.specs.Text.{Text, place_of}
+pub use Rattle.ecma_place.specs.Text.{count_within}
 
 -- where the text starts, its characters, and how many of them stand before the cursor
 pub record Cursor : Type 0 where
@@ -16,7 +16,7 @@ rest c = drop c.at c.text
 
 -- the place behind the first n characters of the text
 abbrev pub place_at : Cursor → ℕ → ℕ
-place_at c n = c.start + byte_len (take n c.text)
+place_at c n = place_of c.start (take n c.text)
 
 -- the cursor's place
 abbrev pub place : Cursor → ℕ
@@ -35,14 +35,9 @@ abbrev pub ascii_of : Option ℕ → Option ℕ
 ascii_of None = None
 ascii_of (Some c) = if nat_lt c 128 then Some c else None
 
--- p is the place of a beginning of the text
+-- p is the place behind a beginning of the text
 abbrev pub HasPlace : Cursor → ℕ → Type 0
 HasPlace c p = (n : ℕ) × (p ≡ place_at c n)
-
--- how many characters of the text stand in its first n bytes
-abbrev pub count_within : ℕ → List ℕ → ℕ
-count_within n [] = 0
-count_within n (c ∷ cs) = if nat_le (len_utf8 c) n then 1 + count_within (n - len_utf8 c) cs else 0
 
 -- how many characters stand before the place p
 abbrev pub index_of : Cursor → ℕ → ℕ

@@ -2,6 +2,5 @@ pub mod Atom
 pub mod Character
 pub mod Comment
 pub mod Cursor
-pub mod Entry
 pub mod Run
 pub mod Text

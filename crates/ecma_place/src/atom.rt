@@ -1,6 +1,7 @@
-//! Texts that borrow from the source, or are owned.
+//! Texts that borrow from the source, or own their bytes.
 ghost use Rattle.std.specs.Prelude.{◌≡◌, Some, IfOk, IsOk, nat_eq, IsTrue};
 ghost use Rattle.std.proofs.Common.{rules};
+ghost use Rattle.std.specs.Fmt.{debug_str};
 ghost use Rattle.std.specs.Hash as fed;
 ghost use Rattle.std.specs.Cmp.{on_equiv, on_per};
 ghost use Rattle.std.specs.Cmp;
@@ -14,7 +15,10 @@ use std::fmt::{Debug, Display, Formatter};
 use std::hash::{Hash, Hasher};
 use std::marker::Model;
 
-/// A text: a slice of the source, or an owned `String`.
+/// A text of the source: a slice of it, or an owned `String` where the source spells the text
+/// otherwise, as with an escape.
+///
+/// Two atoms are equal where their bytes are, however they are held, and equal atoms hash equally.
 #[derive(Drop)]
 pub struct Atom<'a> {
     text: CowStr<'a>,
@@ -30,20 +34,29 @@ impl<'a> Model for Atom<'a> {
 }
 
 impl<'a> Atom<'a> {
+    /// The text itself.
+    #[inline]
     pub fn as_str(&self) -> &str
         ensures { result.now ≡ self.now.bytes }
     {
         self.text.as_str()
     }
 
-    /// Whether the text is a slice of the source.
+    /// Whether the text is a slice of the source. An owned text answers false.
+    #[inline]
     pub fn is_borrowed(&self) -> bool
         ensures { result ≡ self.now.is_borrowed }
     {
         matches!(self.text, CowStr::Borrowed(_))
     }
 
-    /// The same text, borrowed or owned as this one.
+    /// The same text, borrowed or owned as this one is.
+    ///
+    /// A borrowed text takes no memory.
+    ///
+    /// # Errors
+    ///
+    /// `AllocError` where there is no memory for the bytes of an owned text.
     pub fn copy(&self, alloc: Global) -> Result<Atom<'a>, AllocError>
         ensures same { IfOk result (λ a. a ≡ self.now) }
         ensures free { IsTrue self.now.is_borrowed → IsOk result }
@@ -64,6 +77,8 @@ impl<'a> From<&'a str> for Atom<'a> {
 
     ghost from_gives = { λ s a. a ≡ borrowed_atom s.now };
 
+    /// The atom that borrows the slice.
+    #[inline]
     fn from(s: &'a str) -> Atom<'a> {
         Atom {
             text: CowStr::Borrowed(s),
@@ -77,6 +92,8 @@ impl<'a> From<String> for Atom<'a> {
 
     ghost from_gives = { λ s a. a ≡ owned_atom (string_bytes s) };
 
+    /// The atom that owns the string.
+    #[inline]
     fn from(s: String) -> Atom<'a> {
         Atom {
             text: CowStr::Owned(s),
@@ -89,6 +106,7 @@ impl<'a> PartialEq for Atom<'a> {
 
     ghost laws = { on_per (λ a. a.bytes) (Cmp.partial_equiv_from_equiv nat_list_eq_equiv) };
 
+    #[inline]
     fn eq(&self, other: &Self) -> bool {
         self.as_str() == other.as_str()
     }
@@ -111,15 +129,17 @@ impl<'a> Hash for Atom<'a> {
 impl<'a> Display for Atom<'a> {
     ghost output = { λ a. Some a.bytes };
 
+    /// Writes the text, padded as the format asks.
     fn fmt<W: fmt::Write>(&self, f: &mut Formatter<W>) -> fmt::Result {
-        let s = self.as_str();
-        f.pad(s)
+        f.pad(self.as_str())
     }
 }
 
 impl<'a> Debug for Atom<'a> {
+    ghost debug_output = { λ a. debug_str a.bytes };
+
+    /// Writes the text in quotes, escaped as `str` is.
     fn fmt<W: fmt::Write>(&self, f: &mut Formatter<W>) -> fmt::Result {
-        let s = self.as_str();
-        Debug::fmt(&s, f)
+        Debug::fmt(&self.as_str(), f)
     }
 }
