@@ -1,4 +1,6 @@
 pub mod EndLemmas
+pub mod EndingLemmas
 pub mod FrontLemmas
 pub mod ReadingLemmas
+pub mod TilingLemmas
 pub mod TokenLemmas

@@ -1,5 +1,5 @@
 //! The lexer.
-ghost use Rattle.std.specs.Prelude.{◌≡◌, true, false, Err, alloc_error, option_map, IfOk, IsOk, OnOk, OnErr};
+ghost use Rattle.std.specs.Prelude.{◌≡◌, true, false, None, Err, alloc_error, option_map, IfOk, IsOk, OnOk, OnErr};
 ghost use Rattle.ecma_token.specs.View.{spanned_view};
 ghost use Rattle.ecma_lexer.specs.Reading.{is_free};
 ghost use Rattle.ecma_lexer.specs.Session.{Session, state_of};
@@ -114,6 +114,7 @@ impl<'a> Lexer<'a> {
     /// The next token, or nothing at the end.
     ///
     /// After want of memory it answers want of memory from then on. A read that gives no error token takes no memory.
+    #[tactic(auto, using(crate::proofs::EndingLemmas::end_answered_again))]
     pub fn read(&mut self) -> Result<Option<TokenAndSpan<'a>>, AllocError>
         // One step of the run, from any session.
         ensures step { (s : Session) → state_of s ≡ self.old → IfOk result (λ answer.
@@ -121,6 +122,8 @@ impl<'a> Lexer<'a> {
         // The same of what a lexer shows.
         ensures answer { IfOk result (λ answer. option_map spanned_view answer ≡ (reading_of self.old).found) }
         ensures after { OnOk result (self.new ≡ state_behind self.old (reading_of self.old)) }
+        // Once the end was answered, it is answered again.
+        ensures again { IfOk result (λ answer. answer ≡ None → (reading_of self.new).found ≡ None) }
         ensures refused { self.old.refused ≡ true → (result ≡ Err alloc_error) × (self.new ≡ self.old) }
         ensures refusal { OnErr result (self.new.refused ≡ true) }
         ensures free { self.old.refused ≡ false → is_free (reading_of self.old) ≡ true → IsOk result }

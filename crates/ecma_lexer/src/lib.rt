@@ -2,6 +2,7 @@
 #![tactic(auto)]
 
 pub mod kept;
+pub mod laws;
 pub mod lexer;
 
 pub mod mode;
