@@ -17,7 +17,7 @@ use Rattle.ecma_syntax.specs.declared.word.Word.{Word}
 use Rattle.ecma_syntax.specs.declared.word.Word.TheVariants.{Keyword, Null, True, False, Ident}
 
 abbrev pub is_text : List ℕ → List ℕ → Bool
-is_text word text = pointwise nat_eq text word
+is_text word text = pointwise nat_eq word text
 
 -- a name, known or not
 abbrev pub ident_of : List ℕ → IdentLike

@@ -4,6 +4,7 @@
 pub mod context;
 pub mod keyword;
 pub mod known_ident;
+pub mod laws;
 pub mod operator;
 pub mod settings;
 pub mod word;
