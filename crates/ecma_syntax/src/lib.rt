@@ -7,6 +7,7 @@ pub mod known_ident;
 pub mod laws;
 pub mod operator;
 pub mod settings;
+mod table;
 pub mod word;
 
 pub use context::{Context, ExpressionContext};
