@@ -1,15 +1,16 @@
 -- The table of words as one look-up, and what follows from it.
 use Rattle.std.proofs.Common.{◌≡◌, ℕ, Bool, true, false, List, [], ◌∷◌, ◌++◌, map, find, cond, refl, sym, ◌∙◌, ap, nat_eq, arith, Option, None, Some, unwrap_or, option_map, codes, suc, length, ◌<◌, ◌+◌}
 use Rattle.std.specs.List.{Contains}
-use Rattle.std.specs.Option.{option_or, option_map_or}
+use Rattle.std.specs.Option.{option_or, option_map_or, ok_or}
+use Rattle.std.specs.Result.{MatchResult}
 use Rattle.std.specs.Cmp.Lexicographic.{pointwise}
 use Rattle.std.proofs.lemmas.Grind.{common_steps}
 use Rattle.std.proofs.lemmas.List.Folds.{find-append}
 use Rattle.std.proofs.lemmas.Slice.Eq.{bytes_eq-Decides}
-use Rattle.ecma_place.specs.Atom.{borrowed_atom}
+use Rattle.ecma_place.specs.Atom.{AtomView, borrowed_atom}
 use Rattle.ecma_syntax.specs.KnownIdent.{known_text, is_known_text, all_known, known_of}
 use Rattle.ecma_syntax.specs.Keyword.{keyword_text, is_keyword_text, all_keywords, keyword_of}
-use Rattle.ecma_syntax.specs.Word.{is_text, word_of, word_text, ident_of}
+use Rattle.ecma_syntax.specs.Word.{is_text, word_of, word_of_kind, word_kind, word_text, known_of_kind}
 use Rattle.ecma_syntax.specs.Table.{table_of_words, has_text}
 use Rattle.ecma_syntax.specs.Laws.{WordsReadBack, WordsKeepTheirText, WordsAreLookedUp}
 use Rattle.ecma_syntax.specs.declared.keyword.Keyword.{Keyword}
@@ -18,6 +19,9 @@ use Rattle.ecma_syntax.specs.declared.known_ident.KnownIdent.{KnownIdent}
 use Rattle.ecma_syntax.specs.declared.known_ident.KnownIdent.TheVariants as kn
 use Rattle.ecma_syntax.specs.declared.word.IdentLike.{IdentLike}
 use Rattle.ecma_syntax.specs.declared.word.IdentLike.TheVariants.{Known, Other}
+use Rattle.ecma_syntax.specs.declared.word.IdentKind.TheVariants as ident_kind
+use Rattle.ecma_syntax.specs.declared.word.WordKind.{WordKind}
+use Rattle.ecma_syntax.specs.declared.word.WordKind.TheVariants as kind
 use Rattle.ecma_syntax.specs.declared.word.Word.{Word}
 use Rattle.ecma_syntax.specs.declared.word.Word.TheVariants as w
 
@@ -166,3 +170,83 @@ words_read_back w.False proper = refl
 words_read_back (w.Ident (Known k)) proper = read_known k
 words_read_back (w.Ident (Other atom)) proper =
     rw (words_are_looked_up atom.bytes) (rw (find-lacking word_text atom.bytes table_of_words proper) refl)
+
+chosen-kind : (a : Option Keyword) (n t f : Bool) (b : Option KnownIdent) (text : List ℕ)
+    → word_of_kind (word_kind (chosen a n t f b (Other (borrowed_atom text)))) text ≡ chosen a n t f b (Other (borrowed_atom text))
+unfolding chosen
+chosen-kind (Some a) n t f b text = refl
+chosen-kind None true t f b text = refl
+chosen-kind None false true f b text = refl
+chosen-kind None false false true b text = refl
+chosen-kind None false false false (Some b) text = refl
+chosen-kind None false false false None text = refl
+
+-- a word is known by its kind and its text
+pub word_of-kind : (text : List ℕ) → word_of_kind (word_kind (word_of text)) text ≡ word_of text
+unfolding chosen
+word_of-kind text = chosen-kind (keyword_of text) (is_text (codes "null") text) (is_text (codes "true") text) (is_text (codes "false") text) (known_of text) text
+
+-- no keyword is a known name
+keyword-unknown : (k : Keyword) → known_of (keyword_text k) ≡ None
+unfolding known_of
+keyword-unknown kw.Await = refl
+keyword-unknown kw.Break = refl
+keyword-unknown kw.Case = refl
+keyword-unknown kw.Catch = refl
+keyword-unknown kw.Continue = refl
+keyword-unknown kw.Debugger = refl
+keyword-unknown kw.Default_ = refl
+keyword-unknown kw.Do = refl
+keyword-unknown kw.Else = refl
+keyword-unknown kw.Finally = refl
+keyword-unknown kw.For = refl
+keyword-unknown kw.Function = refl
+keyword-unknown kw.If = refl
+keyword-unknown kw.Return = refl
+keyword-unknown kw.Switch = refl
+keyword-unknown kw.Throw = refl
+keyword-unknown kw.Try = refl
+keyword-unknown kw.Var = refl
+keyword-unknown kw.Let = refl
+keyword-unknown kw.Const = refl
+keyword-unknown kw.While = refl
+keyword-unknown kw.With = refl
+keyword-unknown kw.New = refl
+keyword-unknown kw.This = refl
+keyword-unknown kw.Super = refl
+keyword-unknown kw.Class = refl
+keyword-unknown kw.Extends = refl
+keyword-unknown kw.Export = refl
+keyword-unknown kw.Import = refl
+keyword-unknown kw.Yield = refl
+keyword-unknown kw.In = refl
+keyword-unknown kw.InstanceOf = refl
+keyword-unknown kw.TypeOf = refl
+keyword-unknown kw.Void = refl
+keyword-unknown kw.Delete = refl
+
+chosen-known : (a : Option Keyword) (n t f : Bool) (b : Option KnownIdent) (other : AtomView)
+    → ((k : Keyword) → a ≡ Some k → b ≡ None) → (n ≡ true → b ≡ None) → (t ≡ true → b ≡ None) → (f ≡ true → b ≡ None)
+    → known_of_kind (word_kind (chosen a n t f b (Other other))) ≡ b
+unfolding chosen
+chosen-known (Some a) n t f b other h1 h2 h3 h4 = sym (h1 a refl)
+chosen-known None true t f b other h1 h2 h3 h4 = sym (h2 refl)
+chosen-known None false true f b other h1 h2 h3 h4 = sym (h3 refl)
+chosen-known None false false true b other h1 h2 h3 h4 = sym (h4 refl)
+chosen-known None false false false (Some b) other h1 h2 h3 h4 = refl
+chosen-known None false false false None other h1 h2 h3 h4 = refl
+
+unknown-at : (text word : List ℕ) → known_of word ≡ None → is_text word text ≡ true → known_of text ≡ None
+unknown-at text word h e = rw (sym ((bytes_eq-Decides word text).0 e)) h
+
+-- the known name with a text is that of the word's kind
+pub known_of-kind : (text : List ℕ) → known_of_kind (word_kind (word_of text)) ≡ known_of text
+unfolding chosen keyword_of known_of
+known_of-kind text = chosen-known (keyword_of text) (is_text (codes "null") text) (is_text (codes "true") text) (is_text (codes "false") text) (known_of text) (borrowed_atom text)
+    (λ k e. unknown-at text (keyword_text k) (keyword-unknown k) (find-holds (is_keyword_text text) all_keywords k e))
+    (unknown-at text (codes "null") refl) (unknown-at text (codes "true") refl) (unknown-at text (codes "false") refl)
+
+-- `ok_or` says what the option does
+pub ok_or-matches : (found known : Option KnownIdent) → found ≡ known → MatchResult (ok_or found (tt {0})) (λ k. known ≡ Some k) (λ _. known ≡ None)
+ok_or-matches None known same = sym same
+ok_or-matches (Some k) known same = sym same

@@ -1,8 +1,9 @@
 //! Names that mean something to a parser in some places.
 ghost use Rattle.std.specs.Prelude.{◌≡◌, Some, None, MatchResult};
 ghost use Rattle.ecma_place.specs.Atom.{borrowed_atom};
-ghost use Rattle.ecma_syntax.specs.KnownIdent.{known_text, is_known_text, all_known_of_length, known_of};
+ghost use Rattle.ecma_syntax.specs.KnownIdent.{known_text, known_of};
 
+use crate::table;
 use ecma_place::Atom;
 use std::fmt;
 use std::str::FromStr;
@@ -108,85 +109,6 @@ impl KnownIdent {
     }
 }
 
-/// Those whose text has this length.
-#[tactic(auto, unfolding(crate::specs::KnownIdent::all_known_of_length))]
-fn of_length(length: usize) -> &'static [KnownIdent]
-    ensures { result.now ≡ all_known_of_length length }
-{
-    match length {
-        2 => &[KnownIdent::As, KnownIdent::Of, KnownIdent::Is],
-        3 => &[KnownIdent::Get, KnownIdent::Set, KnownIdent::Any],
-        4 => &[
-            KnownIdent::From,
-            KnownIdent::Type_,
-            KnownIdent::Enum,
-            KnownIdent::Meta,
-        ],
-        5 => &[
-            KnownIdent::Async,
-            KnownIdent::Using,
-            KnownIdent::Keyof,
-            KnownIdent::Infer,
-            KnownIdent::Never,
-        ],
-        6 => &[
-            KnownIdent::Global,
-            KnownIdent::Static,
-            KnownIdent::Unique,
-            KnownIdent::Symbol,
-            KnownIdent::String,
-            KnownIdent::Object,
-            KnownIdent::Number,
-            KnownIdent::Bigint,
-            KnownIdent::Assert,
-            KnownIdent::Target,
-            KnownIdent::Public,
-        ],
-        7 => &[
-            KnownIdent::Declare,
-            KnownIdent::Asserts,
-            KnownIdent::Require,
-            KnownIdent::Unknown,
-            KnownIdent::Boolean,
-            KnownIdent::Package,
-            KnownIdent::Private,
-        ],
-        8 => &[
-            KnownIdent::Abstract,
-            KnownIdent::Readonly,
-            KnownIdent::Accessor,
-        ],
-        9 => &[
-            KnownIdent::Undefined,
-            KnownIdent::Interface,
-            KnownIdent::Intrinsic,
-            KnownIdent::Namespace,
-            KnownIdent::Satisfies,
-            KnownIdent::Protected,
-        ],
-        10 => &[KnownIdent::Implements],
-        _ => &[],
-    }
-}
-
-fn is_text(word: KnownIdent, text: &str) -> bool
-    ensures { result ≡ is_known_text text.now word }
-{
-    word.as_str() == text
-}
-
-/// The one whose text this is.
-pub fn find_known(text: &str) -> Option<KnownIdent>
-    ensures { result ≡ known_of text.now }
-{
-    for word in of_length(text.len()) {
-        if is_text(*word, text) {
-            return Some(*word);
-        }
-    }
-    None
-}
-
 /// The known name with this text, or `Err(())` where no known name has it.
 impl FromStr for KnownIdent {
     type Err = ();
@@ -194,7 +116,7 @@ impl FromStr for KnownIdent {
     ghost from_str_gives = { λ text r. MatchResult r (λ k. known_of text ≡ Some k) (λ _. known_of text ≡ None) };
 
     fn from_str(text: &str) -> Result<KnownIdent, ()> {
-        find_known(text).ok_or(())
+        table::kind_of(text).known().ok_or(())
     }
 }
 

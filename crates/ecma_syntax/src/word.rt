@@ -1,15 +1,17 @@
 //! Words as tokens hold them.
 ghost use Rattle.std.specs.Prelude.{◌≡◌, IfOk, IsOk, IsTrue, Some};
-ghost use Rattle.ecma_syntax.specs.Word.{ident_of, word_of, ident_text, word_text, ident_kind_of, word_kind, ident_atom, word_atom, ident_owns_nothing, word_owns_nothing};
+ghost use Rattle.ecma_syntax.specs.Word.{ident_of, word_of, word_of_kind, known_of_kind, ident_text, word_text, ident_kind_of, word_kind, ident_atom, word_atom, ident_owns_nothing, word_owns_nothing};
 ghost use Rattle.ecma_syntax.specs.declared.word.Word.TheVariants as a_word;
 ghost use Rattle.ecma_syntax.specs.declared.word.WordKind.TheVariants as a_kind;
 
-use crate::keyword::{Keyword, find_keyword};
-use crate::known_ident::{KnownIdent, find_known};
+use crate::keyword::Keyword;
+use crate::known_ident::KnownIdent;
+use crate::table;
 use ecma_place::Atom;
 use std::alloc::{AllocError, Global};
 use std::convert::AsStr;
 use std::fmt;
+use std::str::FromStr;
 
 /// A name: a known one, or any other with its text.
 #[derive(Debug, PartialEq, Eq, Hash, Drop)]
@@ -45,14 +47,26 @@ pub enum WordKind {
     Ident(IdentKind),
 }
 
+impl WordKind {
+    /// The known name of this kind.
+    pub(crate) fn known(self) -> Option<KnownIdent>
+        ensures { result ≡ known_of_kind self }
+    {
+        match self {
+            WordKind::Ident(IdentKind::Known(known)) => Some(known),
+            _ => None,
+        }
+    }
+}
+
 /// The name with this text; a text of no known name is borrowed. It takes no memory.
 impl<'a> From<&'a str> for IdentLike<'a> {
     ghost from_gives = { λ text ident. ident ≡ ident_of text.now };
 
     fn from(text: &'a str) -> IdentLike<'a> {
-        match find_known(text) {
-            Some(known) => IdentLike::Known(known),
-            None => IdentLike::Other(Atom::from(text)),
+        match KnownIdent::from_str(text) {
+            Ok(known) => IdentLike::Known(known),
+            Err(()) => IdentLike::Other(Atom::from(text)),
         }
     }
 }
@@ -95,16 +109,20 @@ impl<'a> Word<'a> {
     pub fn from_str(text: &'a str) -> Word<'a>
         ensures { result ≡ word_of text.now }
     {
-        if let Some(keyword) = find_keyword(text) {
-            Word::Keyword(keyword)
-        } else if text == "null" {
-            Word::Null
-        } else if text == "true" {
-            Word::True
-        } else if text == "false" {
-            Word::False
-        } else {
-            Word::Ident(IdentLike::from(text))
+        Word::of_kind(table::kind_of(text), text)
+    }
+
+    /// The word of this kind; an other name borrows the text.
+    fn of_kind(kind: WordKind, text: &'a str) -> Word<'a>
+        ensures { result ≡ word_of_kind kind text.now }
+    {
+        match kind {
+            WordKind::Keyword(keyword) => Word::Keyword(keyword),
+            WordKind::Null => Word::Null,
+            WordKind::True => Word::True,
+            WordKind::False => Word::False,
+            WordKind::Ident(IdentKind::Known(known)) => Word::Ident(IdentLike::Known(known)),
+            WordKind::Ident(IdentKind::Other) => Word::Ident(IdentLike::Other(Atom::from(text))),
         }
     }
 
