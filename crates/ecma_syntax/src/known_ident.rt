@@ -142,7 +142,7 @@ impl From<KnownIdent> for &'static str {
 impl<'a> From<KnownIdent> for Atom<'a> {
     ghost from_gives = { λ known atom. atom ≡ borrowed_atom (known_text known) };
 
-    fn from(known: KnownIdent) -> Atom<'a> {
-        Atom::from(known.as_str())
+    fn from(value: KnownIdent) -> Atom<'a> {
+        Atom::from(value.as_str())
     }
 }

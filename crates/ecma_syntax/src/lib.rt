@@ -8,6 +8,8 @@ pub mod laws;
 pub mod operator;
 pub mod settings;
 mod table;
+#[cfg(test)]
+mod tests;
 pub mod word;
 
 pub use context::{Context, ExpressionContext};

@@ -181,10 +181,7 @@ impl Syntax {
     pub fn typescript(self) -> bool
         ensures { result ≡ question.typescript self }
     {
-        match self {
-            Syntax::Es(_) => false,
-            Syntax::Typescript(_) => true,
-        }
+        matches!(self, Syntax::Typescript(_))
     }
 
     /// Whether the text is a declaration file.

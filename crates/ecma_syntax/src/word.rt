@@ -172,10 +172,7 @@ impl<'a> AsStr for IdentLike<'a> {
     ghost text = { ident_text };
 
     fn as_str(&self) -> &str {
-        match self {
-            IdentLike::Known(known) => known.as_str(),
-            IdentLike::Other(text) => text.as_str(),
-        }
+        IdentLike::as_str(self)
     }
 }
 
@@ -210,16 +207,16 @@ impl<'a> From<Word<'a>> for Atom<'a> {
 impl<'a> From<Keyword> for Word<'a> {
     ghost from_gives = { λ keyword word. word ≡ a_word.Keyword keyword };
 
-    fn from(keyword: Keyword) -> Word<'a> {
-        Word::Keyword(keyword)
+    fn from(value: Keyword) -> Word<'a> {
+        Word::Keyword(value)
     }
 }
 
 impl From<Keyword> for WordKind {
     ghost from_gives = { λ keyword kind. kind ≡ a_kind.Keyword keyword };
 
-    fn from(keyword: Keyword) -> WordKind {
-        WordKind::Keyword(keyword)
+    fn from(value: Keyword) -> WordKind {
+        WordKind::Keyword(value)
     }
 }
 
@@ -228,7 +225,8 @@ impl<'a> fmt::Display for IdentLike<'a> {
     ghost output = { λ i. Some (ident_text i) };
 
     fn fmt<W: fmt::Write>(&self, f: &mut fmt::Formatter<W>) -> fmt::Result {
-        f.write_str(self.as_str())
+        let text = self.as_str();
+        f.write_str(text)
     }
 }
 
