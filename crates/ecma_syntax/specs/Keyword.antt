@@ -1,5 +1,5 @@
 -- The keywords, in their order, and their texts.
-use Rattle.std.specs.Prelude.{ℕ, Bool, List, [], ◌∷◌, Option, codes, find, filter, length, nat_eq}
+use Rattle.std.specs.Prelude.{ℕ, Bool, List, [], ◌∷◌, Option, codes, find, nat_eq}
 use Rattle.std.specs.Cmp.Lexicographic.{pointwise}
 use Rattle.ecma_syntax.specs.declared.keyword.Keyword.{Keyword}
 use Rattle.ecma_syntax.specs.declared.keyword.Keyword.TheVariants.{Await, Break, Case, Catch, Continue, Debugger, Default_, Do, Else, Finally, For, Function, If, Return, Switch, Throw, Try, Var, Let, Const, While, With, New, This, Super, Class, Extends, Export, Import, Yield, In, InstanceOf, TypeOf, Void, Delete}
@@ -48,10 +48,6 @@ all_keywords =
 -- this is the text of k
 abbrev pub is_keyword_text : List ℕ → Keyword → Bool
 is_keyword_text text k = pointwise nat_eq (keyword_text k) text
-
--- those whose text has this length
-unfoldable pub all_keywords_of_length : ℕ → List Keyword
-all_keywords_of_length n = filter (λ k. nat_eq (length (keyword_text k)) n) all_keywords
 
 -- the one whose text this is
 unfoldable pub keyword_of : List ℕ → Option Keyword

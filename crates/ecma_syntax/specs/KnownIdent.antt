@@ -1,5 +1,5 @@
 -- The known names, in their order, and their texts.
-use Rattle.std.specs.Prelude.{ℕ, Bool, List, [], ◌∷◌, Option, codes, find, filter, length, nat_eq}
+use Rattle.std.specs.Prelude.{ℕ, Bool, List, [], ◌∷◌, Option, codes, find, nat_eq}
 use Rattle.std.specs.Cmp.Lexicographic.{pointwise}
 use Rattle.ecma_syntax.specs.declared.known_ident.KnownIdent.{KnownIdent}
 use Rattle.ecma_syntax.specs.declared.known_ident.KnownIdent.TheVariants.{Abstract, As, Async, From, Of, Type_, Global, Static, Using, Readonly, Unique, Keyof, Declare, Enum, Is, Infer, Symbol, Undefined, Interface, Implements, Asserts, Require, Get, Set, Any, Intrinsic, Unknown, String, Object, Number, Bigint, Boolean, Never, Assert, Namespace, Accessor, Meta, Target, Satisfies, Package, Protected, Private, Public}
@@ -56,10 +56,6 @@ all_known =
 -- this is the text of k
 abbrev pub is_known_text : List ℕ → KnownIdent → Bool
 is_known_text text k = pointwise nat_eq (known_text k) text
-
--- those whose text has this length
-unfoldable pub all_known_of_length : ℕ → List KnownIdent
-all_known_of_length n = filter (λ k. nat_eq (length (known_text k)) n) all_known
 
 -- the one whose text this is
 unfoldable pub known_of : List ℕ → Option KnownIdent

@@ -1,0 +1,5 @@
+//! Each public call once, as tables.
+mod operators;
+mod reserved;
+mod settings;
+mod words;
