@@ -16,6 +16,22 @@ pub struct Kept {
     pub flag: bool,
 }
 
+impl<'a> From<TokenAndSpan<'a>> for Kept {
+    ghost use Rattle.ecma_token.specs.View.{spanned_view};
+    ghost use Rattle.ecma_lexer.specs.Session.{kept_of};
+
+    ghost from_gives = { λ token kept. kept ≡ kept_of (spanned_view token) };
+
+    #[tactic(auto, using(ecma_token::proofs::KindLemmas::kind_of_token_view))]
+    fn from(token: TokenAndSpan<'a>) -> Kept {
+        Kept {
+            kind: token.token.kind(),
+            span: token.span,
+            flag: token.had_line_break,
+        }
+    }
+}
+
 /// What a lexer keeps of its answers.
 #[derive(Debug, Clone, Copy, PartialEq, Eq)]
 pub struct Seen {

@@ -1,0 +1,3 @@
+pub mod Halting
+pub mod Replies
+pub mod Writing

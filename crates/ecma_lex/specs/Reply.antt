@@ -1,0 +1,46 @@
+-- What is answered to the words and the input, where memory is ample.
+use Rattle.std.specs.Prelude.{ℕ, List, [], ◌∷◌, ◌++◌, Option, Some, None, Result, Ok, Err, nat_lt, if◌then◌else◌, length, codes}
+use Rattle.std.specs.Str.{is_utf8}
+use Rattle.ecma_lex.specs.declared.command.Command.{Command}
+use Rattle.ecma_lex.specs.declared.command.Command.TheVariants.{Tokens}
+use Rattle.ecma_lex.specs.declared.fault.Fault.{Fault}
+use Rattle.ecma_lex.specs.declared.fault.Fault.TheVariants.{BadWords, NotUtf8, TooLong, OutOfMemory}
+use Rattle.ecma_lex.specs.Command.{command_of}
+use Rattle.ecma_lex.specs.Lines.{tokens_text}
+
+-- the one line that a fault writes
+abbrev pub fault_line : Fault → List ℕ
+fault_line BadWords = codes "bad words" ++ 10 ∷ []
+fault_line NotUtf8 = codes "not UTF-8" ++ 10 ∷ []
+fault_line TooLong = codes "too long" ++ 10 ∷ []
+fault_line OutOfMemory = codes "out of memory" ++ 10 ∷ []
+
+abbrev pub fault_status : Fault → ℕ
+fault_status BadWords = 2
+fault_status NotUtf8 = 3
+fault_status TooLong = 3
+fault_status OutOfMemory = 5
+
+-- what a command writes for a text
+abbrev pub program_text : Command → List ℕ → List ℕ
+program_text Tokens bytes = tokens_text bytes
+
+-- UTF-8 is judged before the length
+abbrev pub reply_to : Option Command → List ℕ → Result (List ℕ) Fault
+reply_to None input = Err BadWords
+reply_to (Some command) input =
+    if is_utf8 input then (if nat_lt (length input) 4_294_967_296 then Ok (program_text command input) else Err TooLong)
+    else Err NotUtf8
+
+-- the words are judged before the input
+abbrev pub reply_of : List (List ℕ) → List ℕ → Result (List ℕ) Fault
+reply_of words input = reply_to (command_of words) input
+
+abbrev pub reply_status : Result (List ℕ) Fault → ℕ
+reply_status (Ok text) = 0
+reply_status (Err fault) = fault_status fault
+
+-- what goes out for a reply
+abbrev pub reply_text : Result (List ℕ) Fault → List ℕ
+reply_text (Ok text) = text
+reply_text (Err fault) = fault_line fault
