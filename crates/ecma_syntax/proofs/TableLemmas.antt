@@ -1,9 +1,8 @@
 -- The rows of the table of words, and what a look-up in them finds.
-use Rattle.std.proofs.Common.{◌≡◌, ℕ, ◌+◌, ◌<◌, ◌≤◌, Bool, true, false, ◌&&◌, List, [], ◌∷◌, map, filter, find, drop, cond, length, slice_index_or, refl, sym, ◌∙◌, ap, suc, nat_eq, nat_le, arith, Option, None, Some, unwrap_or, option_map, Bor}
+use Rattle.std.proofs.Common.{◌≡◌, ℕ, ◌+◌, ◌<◌, ◌≤◌, Bool, true, false, ◌&&◌, List, [], ◌∷◌, map, filter, find, cond, length, slice_index_or, refl, sym, ◌∙◌, ap, nat_eq, nat_le, arith, Option, None, Some, unwrap_or, option_map, Bor}
 use Rattle.std.specs.List.{list_all, range_with_len}
 use Rattle.std.specs.Option.{option_map_or}
 use Rattle.std.specs.Cmp.Lexicographic.{pointwise}
-use Rattle.std.proofs.lemmas.Grind.{common_steps}
 use Rattle.std.proofs.lemmas.Bool.Decides.{nat_tests}
 use Rattle.std.proofs.lemmas.List.{get_or-map, length-map}
 use Rattle.std.proofs.lemmas.List.FromFn.{get_or-map-range_with_len}

@@ -1,5 +1,5 @@
 -- The table of words as one look-up, and what follows from it.
-use Rattle.std.proofs.Common.{◌≡◌, ℕ, Bool, true, false, List, [], ◌∷◌, ◌++◌, map, find, cond, refl, sym, ◌∙◌, ap, nat_eq, arith, Option, None, Some, unwrap_or, option_map, codes, suc, length, ◌<◌, ◌+◌}
+use Rattle.std.proofs.Common.{◌≡◌, ℕ, Bool, true, false, List, [], ◌∷◌, ◌++◌, map, find, cond, refl, sym, nat_eq, arith, Option, None, Some, unwrap_or, option_map, codes, suc}
 use Rattle.std.specs.List.{Contains}
 use Rattle.std.specs.Option.{option_or, option_map_or, ok_or}
 use Rattle.std.specs.Result.{MatchResult}
@@ -19,9 +19,6 @@ use Rattle.ecma_syntax.specs.declared.known_ident.KnownIdent.{KnownIdent}
 use Rattle.ecma_syntax.specs.declared.known_ident.KnownIdent.TheVariants as kn
 use Rattle.ecma_syntax.specs.declared.word.IdentLike.{IdentLike}
 use Rattle.ecma_syntax.specs.declared.word.IdentLike.TheVariants.{Known, Other}
-use Rattle.ecma_syntax.specs.declared.word.IdentKind.TheVariants as ident_kind
-use Rattle.ecma_syntax.specs.declared.word.WordKind.{WordKind}
-use Rattle.ecma_syntax.specs.declared.word.WordKind.TheVariants as kind
 use Rattle.ecma_syntax.specs.declared.word.Word.{Word}
 use Rattle.ecma_syntax.specs.declared.word.Word.TheVariants as w
 

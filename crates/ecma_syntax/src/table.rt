@@ -303,13 +303,14 @@ static WORDS: [[&'static [(&'static str, WordKind)]; 26]; 9] = [
     ],
 ];
 
+/// The whole table.
 fn words() -> &'static [[&'static [(&'static str, WordKind)]; 26]; 9]
     ensures { map (λ letters. map (λ rows. map (λ row. (row.0.now, row.1)) rows.now) letters) result.now ≡ all_rows }
 {
     &WORDS
 }
 
-/// The words with this length and first byte. It is a read of the table, so that no branch depends on the word.
+/// The words with this length and first byte: at most four. The table is read by index, so that no jump depends on them.
 fn words_of(length: usize, first: u8) -> &'static [(&'static str, WordKind)]
     ensures { map (λ row. (row.0.now, row.1)) result.now ≡ rows_with length first }
 {
@@ -319,7 +320,7 @@ fn words_of(length: usize, first: u8) -> &'static [(&'static str, WordKind)]
     words()[length - 2][(first - b'a') as usize]
 }
 
-/// What the word with this text is. It takes no memory, and reads the text once for the one or two words that may be it.
+/// What the word with this text is. It takes no memory, and compares the text with those of its length and first letter.
 pub(crate) fn kind_of(text: &str) -> WordKind
     ensures { result ≡ word_kind (word_of text.now) }
 {

@@ -204,133 +204,47 @@ fn options_alone(rt: HostRuntime) -> Result<(), Fail> {
     Ok(())
 }
 
-/// Each question of ECMAScript and of TypeScript with every option off, and of ECMAScript with the option on.
+/// The ten questions that have an option of ECMAScript, in the order of `es_options`.
+fn answers(syntax: Syntax) -> [bool; 10] {
+    [
+        syntax.jsx(),
+        syntax.fn_bind(),
+        syntax.decorators(),
+        syntax.decorators_before_export(),
+        syntax.export_default_from(),
+        syntax.import_attributes(),
+        syntax.allow_super_outside_method(),
+        syntax.allow_return_outside_function(),
+        syntax.auto_accessors(),
+        syntax.explicit_resource_management(),
+    ]
+}
+
 #[test]
-fn questions(rt: HostRuntime) {
-    let es = Syntax::default();
-    let ts = Syntax::Typescript(TsSyntax::default());
-    let on = |options: EsSyntax| -> Syntax { Syntax::Es(options) };
-    let off = EsSyntax::default();
-    let rows = [
-        (
-            es.auto_accessors(),
-            ts.auto_accessors(),
-            on(EsSyntax {
-                auto_accessors: true,
-                ..off
-            })
-            .auto_accessors(),
-            true,
-        ),
-        (
-            es.import_attributes(),
-            ts.import_attributes(),
-            on(EsSyntax {
-                import_attributes: true,
-                ..off
-            })
-            .import_attributes(),
-            true,
-        ),
-        (
-            es.decorators_before_export(),
-            ts.decorators_before_export(),
-            on(EsSyntax {
-                decorators_before_export: true,
-                ..off
-            })
-            .decorators_before_export(),
-            true,
-        ),
-        (
-            es.allow_super_outside_method(),
-            ts.allow_super_outside_method(),
-            on(EsSyntax {
-                allow_super_outside_method: true,
-                ..off
-            })
-            .allow_super_outside_method(),
-            true,
-        ),
-        (
-            es.explicit_resource_management(),
-            ts.explicit_resource_management(),
-            on(EsSyntax {
-                explicit_resource_management: true,
-                ..off
-            })
-            .explicit_resource_management(),
-            true,
-        ),
-        (
-            es.fn_bind(),
-            ts.fn_bind(),
-            on(EsSyntax {
-                fn_bind: true,
-                ..off
-            })
-            .fn_bind(),
-            false,
-        ),
-        (
-            es.export_default_from(),
-            ts.export_default_from(),
-            on(EsSyntax {
-                export_default_from: true,
-                ..off
-            })
-            .export_default_from(),
-            false,
-        ),
-        (
-            es.allow_return_outside_function(),
-            ts.allow_return_outside_function(),
-            on(EsSyntax {
-                allow_return_outside_function: true,
-                ..off
-            })
-            .allow_return_outside_function(),
-            false,
-        ),
-        (
-            es.jsx(),
-            ts.jsx(),
-            on(EsSyntax { jsx: true, ..off }).jsx(),
-            false,
-        ),
-        (
-            es.decorators(),
-            ts.decorators(),
-            on(EsSyntax {
-                decorators: true,
-                ..off
-            })
-            .decorators(),
-            false,
-        ),
-        (
-            es.typescript(),
-            ts.dts(),
-            ts.typescript(),
-            ts.disallow_ambiguous_jsx_like(),
-        ),
-        (
-            es.dts(),
-            !ts.early_errors(),
-            es.early_errors(),
-            es.disallow_ambiguous_jsx_like(),
-        ),
-    ];
-    for (plain, of_ts, with_option, ts_wants) in rows {
-        assert!(rt; !plain);
-        assert_eq!(rt; of_ts, ts_wants);
-        assert!(rt; with_option);
+fn questions_of_ecmascript(rt: HostRuntime) {
+    assert_eq!(rt; answers(Syntax::default()), [false; 10]);
+    for (at, (key, options)) in es_options().iter().enumerate() {
+        for (asked, answer) in answers(Syntax::Es(*options)).iter().enumerate() {
+            assert_eq!(rt; *answer, asked == at, "question {asked} under {key}");
+        }
     }
+    let es = Syntax::default();
+    assert!(rt;
+        !es.typescript() && !es.dts() && !es.disallow_ambiguous_jsx_like() && es.early_errors()
+    );
 }
 
 #[test]
 fn questions_of_typescript(rt: HostRuntime) {
     let off = TsSyntax::default();
+    let ts = Syntax::Typescript(off);
+    let want = [
+        false, false, false, true, false, true, true, false, true, true,
+    ];
+    assert_eq!(rt; answers(ts), want);
+    assert!(rt;
+        ts.typescript() && !ts.dts() && !ts.disallow_ambiguous_jsx_like() && ts.early_errors()
+    );
     assert!(rt; Syntax::Typescript(TsSyntax { tsx: true, ..off }).jsx());
     assert!(rt;
         Syntax::Typescript(TsSyntax {

@@ -1,4 +1,3 @@
-use Rattle.std.proofs.Common.{length, arith}
 use Rattle.ecma_syntax.proofs.TableLemmas.{kind_of-empty, looked_up}
 use Rattle.ecma_syntax.proofs.table.kind_of.Goals as goal
 
