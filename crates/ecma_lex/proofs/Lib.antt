@@ -1,3 +1,4 @@
 pub mod Halting
+pub mod Listing
 pub mod Replies
 pub mod Writing

@@ -72,7 +72,7 @@ kind_name kind.Error = codes "Error"
 -- where the token begins and ends, its flag and its kind, each with a space behind it
 abbrev pub head : Kept → List ℕ
 head t =
-    decimal t.span.lo.0 ++ codes " " ++ decimal t.span.hi.0 ++ codes " " ++ flag_text t.flag ++ codes " " ++ kind_name t.kind ++ codes " "
+    decimal t.span.lo.0 ++ (codes " " ++ (decimal t.span.hi.0 ++ (codes " " ++ (flag_text t.flag ++ (codes " " ++ (kind_name t.kind ++ codes " "))))))
 
 -- the line of a token of the text with these bytes
 abbrev pub line : List ℕ → Kept → List ℕ
