@@ -7,6 +7,8 @@ mod input;
 mod lines;
 mod output;
 mod program;
+#[cfg(test)]
+mod tests;
 
 use std::env::Env;
 use std::process::ExitCode;

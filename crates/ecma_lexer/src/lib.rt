@@ -4,17 +4,17 @@
 pub mod kept;
 pub mod laws;
 pub mod lexer;
-
 pub mod mode;
 mod read;
 pub mod settings;
 pub mod step;
+#[cfg(test)]
+mod tests;
 mod token_at;
 pub mod token_context;
 
 pub use kept::Kept;
 pub use lexer::Lexer;
-
 pub use settings::Settings;
 pub use step::Step;
 pub use token_context::TokenContext;

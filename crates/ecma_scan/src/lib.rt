@@ -5,6 +5,8 @@ pub mod found;
 pub mod gap;
 pub mod number;
 pub mod punctuator;
+#[cfg(test)]
+mod tests;
 pub mod word;
 
 pub use found::{Blame, Found};

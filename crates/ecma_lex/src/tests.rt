@@ -1,0 +1,216 @@
+//! Rows of the program, and readers and writers that fail in the middle.
+use crate::fault::Halt;
+use crate::input::read_all;
+use crate::program::run;
+use std::alloc::Global;
+use std::io;
+use std::io::{Read, Write};
+use std::process::Abort;
+use std::test::Fail;
+
+/// What a script has for one call.
+#[derive(Clone, Copy)]
+enum Call {
+    Gives(u8),
+    Fails(io::ErrorKind),
+}
+
+/// A reader that answers by a script, and after it says that it is at its end.
+#[derive(Drop)]
+struct Scripted<'a> {
+    calls: &'a [Call],
+    made: usize,
+}
+
+impl<'a> Scripted<'a> {
+    fn new(calls: &'a [Call]) -> Scripted<'a> {
+        Scripted { calls, made: 0 }
+    }
+}
+
+impl Read for Scripted<'_> {
+    fn read(&mut self, buf: &mut [u8]) -> io::Result<usize> {
+        let Some(call) = self.calls.get(self.made) else {
+            return Ok(0);
+        };
+        self.made = self.made.saturating_add(1);
+        match *call {
+            Call::Fails(kind) => Err(io::Error::from(kind)),
+            Call::Gives(byte) => {
+                if buf.is_empty() {
+                    return Ok(0);
+                }
+                buf[0] = byte;
+                Ok(1)
+            }
+        }
+    }
+}
+
+/// What a page does once it is full.
+#[derive(Clone, Copy, PartialEq, Eq)]
+enum WhenFull {
+    Fails,
+    TakesNothing,
+}
+
+const PAGE: usize = 64;
+
+/// A writer that takes no memory, `most` bytes at a call and `room` in all.
+#[derive(Drop)]
+struct Page {
+    bytes: [u8; PAGE],
+    taken: usize,
+    room: usize,
+    most: usize,
+    when_full: WhenFull,
+}
+
+impl Page {
+    fn new(room: usize, most: usize, when_full: WhenFull) -> Page {
+        Page {
+            bytes: [0; PAGE],
+            taken: 0,
+            room,
+            most,
+            when_full,
+        }
+    }
+
+    fn held(&self) -> &[u8] {
+        &self.bytes[..self.taken.min(PAGE)]
+    }
+}
+
+impl Write for Page {
+    fn write(&mut self, buf: &[u8]) -> io::Result<usize> {
+        let free = self.room.min(PAGE).saturating_sub(self.taken);
+        let count = free.min(self.most).min(buf.len());
+        if count == 0 && self.when_full == WhenFull::Fails {
+            return Err(io::Error::from(io::ErrorKind::StorageFull));
+        }
+        for byte in &buf[..count] {
+            if self.taken < PAGE {
+                self.bytes[self.taken] = *byte;
+                self.taken += 1;
+            }
+        }
+        Ok(count)
+    }
+
+    fn flush(&mut self) -> io::Result<()> {
+        Ok(())
+    }
+}
+
+/// Runs over memory, and asserts the status and what was written.
+fn assert_run(
+    rt: &impl Abort,
+    alloc: Global,
+    words: &[String],
+    input: &[u8],
+    status: u8,
+    output: &[u8],
+) {
+    let mut reader = input;
+    let mut writer = Vec::new(alloc);
+    assert_eq!(rt; run(alloc, words, &mut reader, &mut writer), status);
+    assert_eq!(rt; writer.as_slice(), output);
+}
+
+/// Runs over memory, and asserts what one word of the command line and an input give.
+fn assert_word(
+    rt: &impl Abort,
+    alloc: Global,
+    word: &str,
+    status: u8,
+    output: &[u8],
+) -> Result<(), Fail> {
+    let words = vec![in alloc; String::from_str(alloc, word)?]?;
+    assert_run(rt, alloc, words.as_slice(), b";", status, output);
+    Ok(())
+}
+
+#[test]
+fn writes_the_tokens(rt: HostRuntime) {
+    let alloc = rt.alloc();
+    let lines = b"0 3 lf Keyword let\n4 5 - Ident x\n6 7 - AssignOp =\n8 9 - Num 1\n9 10 - Semi ;\n";
+    assert_run(&rt, alloc, &[], b"let x = 1;", 0, lines);
+    assert_run(&rt, alloc, &[], b"", 0, b"");
+    assert_run(&rt, alloc, &[], b"a\nb", 0, b"0 1 lf Ident a\n2 3 lf Ident b\n");
+    assert_run(&rt, alloc, &[], b"\"", 0, b"0 1 lf Error \"\n");
+    assert_run(&rt, alloc, &[], b"\\", 0, b"0 1 lf Error \\\\\n");
+}
+
+#[test]
+fn tells_of_faults(rt: HostRuntime) -> Result<(), Fail> {
+    let alloc = rt.alloc();
+    assert_run(&rt, alloc, &[], b"\xff", 3, b"not UTF-8\n");
+    assert_word(&rt, alloc, "tokens", 0, b"0 1 lf Semi ;\n")?;
+    assert_word(&rt, alloc, "comments", 2, b"bad words\n")?;
+    assert_word(&rt, alloc, "Tokens", 2, b"bad words\n")?;
+    let twice = vec![in alloc; String::from_str(alloc, "tokens")?, String::from_str(alloc, "tokens")?]?;
+    assert_run(&rt, alloc, twice.as_slice(), b";", 2, b"bad words\n");
+    Ok(())
+}
+
+#[test]
+fn fails_where_a_read_fails(rt: HostRuntime) {
+    for kind in [io::ErrorKind::Other, io::ErrorKind::Interrupted] {
+        let script = [Call::Gives(b'a'), Call::Fails(kind), Call::Gives(b'b')];
+        let mut reader = Scripted::new(&script);
+        let mut writer = Page::new(PAGE, PAGE, WhenFull::Fails);
+        assert_eq!(rt; run(rt.alloc(), &[], &mut reader, &mut writer), 1);
+        assert_eq!(rt; writer.held(), b"".as_slice());
+        assert_eq!(rt; reader.made, 2);
+    }
+}
+
+#[test]
+fn counts_the_turns_of_reading(rt: HostRuntime) {
+    let script = [Call::Gives(b'a'), Call::Gives(b'b')];
+    let within = read_all(rt.alloc(), &mut Scripted::new(&script), 3);
+    assert!(rt; within.is_ok());
+    let beyond = read_all(rt.alloc(), &mut Scripted::new(&script), 2);
+    assert!(rt; matches!(beyond, Err(Halt::ReadFailed)));
+}
+
+#[test]
+fn fails_where_a_write_fails(rt: HostRuntime) {
+    for when_full in [WhenFull::Fails, WhenFull::TakesNothing] {
+        let mut reader = b"let x = 1;".as_slice();
+        let mut writer = Page::new(5, PAGE, when_full);
+        assert_eq!(rt; run(rt.alloc(), &[], &mut reader, &mut writer), 1);
+        assert_eq!(rt; writer.held(), b"0 3 l".as_slice());
+    }
+}
+
+#[test]
+fn fails_where_nothing_is_taken(rt: HostRuntime) {
+    let mut writer = Page::new(0, PAGE, WhenFull::TakesNothing);
+    assert_eq!(rt; run(rt.alloc(), &[], &mut b"a".as_slice(), &mut writer), 1);
+    assert_eq!(rt; writer.held(), b"".as_slice());
+}
+
+#[test]
+fn writes_a_byte_at_a_time(rt: HostRuntime) {
+    let mut writer = Page::new(PAGE, 1, WhenFull::Fails);
+    assert_eq!(rt;
+        run(rt.alloc(), &[], &mut b"a b".as_slice(), &mut writer),
+        0
+    );
+    assert_eq!(rt; writer.held(), b"0 1 lf Ident a\n2 3 - Ident b\n".as_slice());
+}
+
+/// No allocation here is the test's own, so each that is refused in turn is one of `run`.
+#[test]
+fn answers_whole_or_out_of_memory(rt: HostRuntime) {
+    let mut writer = Page::new(PAGE, PAGE, WhenFull::Fails);
+    let status = run(rt.alloc(), &[], &mut b"a b".as_slice(), &mut writer);
+    if status == 0 {
+        assert_eq!(rt; writer.held(), b"0 1 lf Ident a\n2 3 - Ident b\n".as_slice());
+    } else {
+        assert_eq!(rt; status, 5);
+        assert_eq!(rt; writer.held(), b"out of memory\n".as_slice());
+    }
+}
