@@ -1,10 +1,10 @@
 -- Tokens and errors as callers see them: what owns memory is seen as what it holds.
-use Rattle.std.specs.Prelude.{◌≡◌, ℕ, Bool, List, string_bytes}
+use Rattle.std.specs.Prelude.{◌≡◌, ℕ, Bool, List, map, string_bytes}
 use Rattle.ecma_place.specs.Atom.{AtomView}
 use Rattle.ecma_place.specs.declared.place.Span.{Span}
 use Rattle.ecma_token.specs.declared.token.Token.{Token, Template', Error', Err'}
 use Rattle.ecma_token.specs.declared.token.TokenAndSpan.{TokenAndSpan}
-use Rattle.ecma_token.specs.declared.error.SyntaxError.{SyntaxError, BadCharacterEscapeSequence, Expected', WithLabel'}
+use Rattle.ecma_token.specs.declared.error.SyntaxError.{SyntaxError, BadCharacterEscapeSequence, UnaryInExp, Unexpected, UnexpectedTokenWithSuggestions, Expected', WithLabel'}
 use Rattle.ecma_token.specs.declared.error.Error.{Error}
 
 mutual
@@ -12,6 +12,9 @@ mutual
   pub data KindView : Type 0 where
     plain : SyntaxError → KindView
     bad_escape : List ℕ → KindView
+    unary : List ℕ → Span → KindView
+    unexpected : List ℕ → List ℕ → KindView
+    suggestions : List (List ℕ) → KindView
     expected : TokenView → List ℕ → KindView
     with_label : KindView → Span → Span → List ℕ → KindView
 
@@ -24,6 +27,9 @@ mutual
 abbrev mutual
   pub kind_view : SyntaxError → KindView
   kind_view (BadCharacterEscapeSequence text) = bad_escape text.now
+  kind_view (UnaryInExp left at) = unary (string_bytes left) at
+  kind_view (Unexpected got wanted) = unexpected (string_bytes got) wanted.now
+  kind_view (UnexpectedTokenWithSuggestions all) = suggestions (map (λ x. x.now) all.items)
   kind_view (Expected' p token got) = expected (token_view token) (string_bytes got)
   kind_view (WithLabel' p q kind at span note) = with_label (kind_view kind) at span note.now
   kind_view kind = plain kind

@@ -3,8 +3,12 @@
 
 pub mod error;
 pub mod kind;
-pub mod token;
+mod message;
+mod names;
+pub mod plain;
+mod quoted;pub mod token;
 
 pub use error::{Error, SyntaxError};
 pub use kind::TokenKind;
+pub use plain::PlainError;
 pub use token::{Radix, Token, TokenAndSpan};
