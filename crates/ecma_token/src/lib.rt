@@ -6,7 +6,10 @@ pub mod kind;
 mod message;
 mod names;
 pub mod plain;
-mod quoted;pub mod token;
+mod quoted;
+#[cfg(test)]
+mod tests;
+pub mod token;
 
 pub use error::{Error, SyntaxError};
 pub use kind::TokenKind;
