@@ -1,5 +1,10 @@
+pub mod Defaults
 pub mod KnownIdent
 pub mod Keyword
+pub mod Laws
 pub mod Operators
+pub mod Questions
+pub mod Reserved
+pub mod Table
 pub mod Word
 pub use Rattle.ecma_place.specs.Atom

@@ -1,8 +1,10 @@
 -- Which word a text is.
+--
+-- ECMA-262, 12.7, calls a word an IdentifierName, and 12.7.2 the words that are no names; 13.2.3 has the literal words.
 use Rattle.std.specs.Prelude.{ℕ, Bool, List, codes, nat_eq, if◌then◌else◌}
 use Rattle.std.specs.Option.{option_map_or}
 use Rattle.std.specs.Cmp.Lexicographic.{pointwise}
-use Rattle.ecma_place.specs.Atom.{borrowed_atom}
+use Rattle.ecma_place.specs.Atom.{AtomView, borrowed_atom}
 use Rattle.ecma_syntax.specs.KnownIdent.{known_text, known_of}
 use Rattle.ecma_syntax.specs.Keyword.{keyword_text, keyword_of}
 use Rattle.ecma_syntax.specs.declared.word.IdentLike.{IdentLike}
@@ -15,7 +17,7 @@ use Rattle.ecma_syntax.specs.declared.word.Word.{Word}
 use Rattle.ecma_syntax.specs.declared.word.Word.TheVariants.{Keyword, Null, True, False, Ident}
 
 abbrev pub is_text : List ℕ → List ℕ → Bool
-is_text word text = pointwise nat_eq text word
+is_text word text = pointwise nat_eq word text
 
 -- a name, known or not
 abbrev pub ident_of : List ℕ → IdentLike
@@ -51,3 +53,23 @@ word_kind Null = kind.Null
 word_kind True = kind.True
 word_kind False = kind.False
 word_kind (Ident i) = kind.Ident (ident_kind_of i)
+
+-- the text of a name as an atom: a known name's is borrowed
+abbrev pub ident_atom : IdentLike → AtomView
+ident_atom (Known k) = borrowed_atom (known_text k)
+ident_atom (Other atom) = atom
+
+-- the text of a word as an atom: a name's own, else borrowed
+abbrev pub word_atom : Word → AtomView
+word_atom (Keyword k) = borrowed_atom (keyword_text k)
+word_atom Null = borrowed_atom (codes "null")
+word_atom True = borrowed_atom (codes "true")
+word_atom False = borrowed_atom (codes "false")
+word_atom (Ident i) = ident_atom i
+
+-- its text is borrowed
+abbrev pub ident_owns_nothing : IdentLike → Bool
+ident_owns_nothing i = (ident_atom i).is_borrowed
+
+abbrev pub word_owns_nothing : Word → Bool
+word_owns_nothing word = (word_atom word).is_borrowed

@@ -1,4 +1,10 @@
 //! What the layer above says of the code that is being read.
+ghost use Rattle.std.specs.Prelude.{◌≡◌};
+ghost use Rattle.ecma_syntax.specs.Reserved.{is_reserved, is_reserved_keyword, is_reserved_name};
+
+use crate::keyword::Keyword;
+use crate::known_ident::KnownIdent;
+use crate::word::{IdentLike, Word};
 
 /// Where an expression stands in the head of a `for`.
 #[derive(Debug, Clone, Copy, Default)]
@@ -41,4 +47,45 @@ pub struct Context {
     pub ignore_else_clause: bool,
     pub disallow_conditional_types: bool,
     pub allow_using_decl: bool,
+}
+
+impl Context {
+    /// Whether the word is no name here. The table is our own choice, after ReservedWord of ECMA-262, 12.7.2.
+    pub fn is_reserved(&self, word: &Word) -> bool
+        ensures { result ≡ is_reserved self.now word.now }
+    {
+        match word {
+            Word::Keyword(keyword) => self.is_reserved_keyword(*keyword),
+            Word::Null | Word::True | Word::False => true,
+            Word::Ident(IdentLike::Known(known)) => self.is_reserved_name(*known),
+            Word::Ident(IdentLike::Other(_)) => false,
+        }
+    }
+
+    fn is_reserved_keyword(&self, keyword: Keyword) -> bool
+        ensures { result ≡ is_reserved_keyword self.now keyword }
+    {
+        match keyword {
+            Keyword::Let => self.strict,
+            Keyword::Yield => self.in_generator || self.strict,
+            Keyword::Await => self.in_async || self.in_static_block || self.module,
+            _ => true,
+        }
+    }
+
+    fn is_reserved_name(&self, known: KnownIdent) -> bool
+        ensures { result ≡ is_reserved_name self.now known }
+    {
+        match known {
+            KnownIdent::Enum => true,
+            KnownIdent::Static
+            | KnownIdent::Implements
+            | KnownIdent::Interface
+            | KnownIdent::Package
+            | KnownIdent::Private
+            | KnownIdent::Protected
+            | KnownIdent::Public => self.strict,
+            _ => false,
+        }
+    }
 }

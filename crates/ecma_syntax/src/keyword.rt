@@ -4,7 +4,7 @@ ghost use Rattle.ecma_syntax.specs.Keyword.{keyword_text, is_keyword_text, all_k
 
 use std::fmt;
 
-/// A keyword.
+/// A keyword: the words of ECMA-262, 12.7.2, that are no literals and no `enum`, and `let`.
 #[derive(Clone, Copy, PartialEq, Eq, Hash)]
 pub enum Keyword {
     Await,

@@ -1,11 +1,13 @@
 //! Names that mean something to a parser in some places.
 ghost use Rattle.std.specs.Prelude.{◌≡◌, Some, None, MatchResult};
+ghost use Rattle.ecma_place.specs.Atom.{borrowed_atom};
 ghost use Rattle.ecma_syntax.specs.KnownIdent.{known_text, is_known_text, all_known_of_length, known_of};
 
+use ecma_place::Atom;
 use std::fmt;
 use std::str::FromStr;
 
-/// A name that means something to a parser in some places.
+/// A name that means something to a parser in some places. The list and its order are those of the ported crate.
 #[derive(Debug, Clone, Copy, PartialEq, Eq, PartialOrd, Ord, Hash)]
 pub enum KnownIdent {
     Abstract,
@@ -185,6 +187,7 @@ pub fn find_known(text: &str) -> Option<KnownIdent>
     None
 }
 
+/// The known name with this text, or `Err(())` where no known name has it.
 impl FromStr for KnownIdent {
     type Err = ();
 
@@ -195,6 +198,7 @@ impl FromStr for KnownIdent {
     }
 }
 
+/// The name as it is written.
 impl fmt::Display for KnownIdent {
     ghost output = { λ k. Some (known_text k) };
 
@@ -203,10 +207,20 @@ impl fmt::Display for KnownIdent {
     }
 }
 
+/// The name as it is written.
 impl From<KnownIdent> for &'static str {
     ghost from_gives = { λ k text. text.now ≡ known_text k };
 
     fn from(known: KnownIdent) -> &'static str {
         known.as_str()
+    }
+}
+
+/// The name as it is written, borrowed.
+impl<'a> From<KnownIdent> for Atom<'a> {
+    ghost from_gives = { λ known atom. atom ≡ borrowed_atom (known_text known) };
+
+    fn from(known: KnownIdent) -> Atom<'a> {
+        Atom::from(known.as_str())
     }
 }

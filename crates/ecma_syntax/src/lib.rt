@@ -4,6 +4,7 @@
 pub mod context;
 pub mod keyword;
 pub mod known_ident;
+pub mod laws;
 pub mod operator;
 pub mod settings;
 pub mod word;
@@ -11,6 +12,6 @@ pub mod word;
 pub use context::{Context, ExpressionContext};
 pub use keyword::Keyword;
 pub use known_ident::KnownIdent;
-pub use operator::{AssignOp, BinOpToken};
-pub use settings::{EsSyntax, EsVersion, Syntax, TsSyntax};
+pub use operator::{AssignOp, BinOpToken, BinaryOp};
+pub use settings::{EsConfig, EsSyntax, EsVersion, JscTarget, Syntax, TsConfig, TsSyntax};
 pub use word::{IdentKind, IdentLike, Word, WordKind};

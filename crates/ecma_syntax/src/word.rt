@@ -1,28 +1,32 @@
 //! Words as tokens hold them.
-ghost use Rattle.std.specs.Prelude.{◌≡◌, IfOk, Some};
-ghost use Rattle.ecma_syntax.specs.Word.{ident_of, word_of, ident_text, word_text, ident_kind_of, word_kind};
+ghost use Rattle.std.specs.Prelude.{◌≡◌, IfOk, IsOk, IsTrue, Some};
+ghost use Rattle.ecma_syntax.specs.Word.{ident_of, word_of, ident_text, word_text, ident_kind_of, word_kind, ident_atom, word_atom, ident_owns_nothing, word_owns_nothing};
+ghost use Rattle.ecma_syntax.specs.declared.word.Word.TheVariants as a_word;
+ghost use Rattle.ecma_syntax.specs.declared.word.WordKind.TheVariants as a_kind;
 
 use crate::keyword::{Keyword, find_keyword};
 use crate::known_ident::{KnownIdent, find_known};
 use ecma_place::Atom;
 use std::alloc::{AllocError, Global};
+use std::convert::AsStr;
 use std::fmt;
 
-/// A name, known or not.
-#[derive(Debug, PartialEq, Eq, Drop)]
+/// A name: a known one, or any other with its text.
+#[derive(Debug, PartialEq, Eq, Hash, Drop)]
 pub enum IdentLike<'a> {
     Known(KnownIdent),
     Other(Atom<'a>),
 }
 
+/// A name without its text.
 #[derive(Debug, Clone, Copy, PartialEq, Eq, Hash)]
 pub enum IdentKind {
     Known(KnownIdent),
     Other,
 }
 
-/// A word.
-#[derive(PartialEq, Eq, Drop)]
+/// A word: an IdentifierName of ECMA-262, 12.7, sorted by the table of words.
+#[derive(PartialEq, Eq, Hash, Drop)]
 pub enum Word<'a> {
     Keyword(Keyword),
     Null,
@@ -31,6 +35,7 @@ pub enum Word<'a> {
     Ident(IdentLike<'a>),
 }
 
+/// A word without the text of its name.
 #[derive(Debug, Clone, Copy, PartialEq, Eq, Hash)]
 pub enum WordKind {
     Keyword(Keyword),
@@ -40,6 +45,7 @@ pub enum WordKind {
     Ident(IdentKind),
 }
 
+/// The name with this text; a text of no known name is borrowed. It takes no memory.
 impl<'a> From<&'a str> for IdentLike<'a> {
     ghost from_gives = { λ text ident. ident ≡ ident_of text.now };
 
@@ -52,6 +58,7 @@ impl<'a> From<&'a str> for IdentLike<'a> {
 }
 
 impl<'a> IdentLike<'a> {
+    /// The name as it is written.
     pub fn as_str(&self) -> &str
         ensures { result.now ≡ ident_text self.now }
     {
@@ -61,6 +68,7 @@ impl<'a> IdentLike<'a> {
         }
     }
 
+    /// The name without its text.
     pub fn kind(&self) -> IdentKind
         ensures { result ≡ ident_kind_of self.now }
     {
@@ -70,8 +78,10 @@ impl<'a> IdentLike<'a> {
         }
     }
 
+    /// The same name; memory is taken for an owned text alone.
     pub fn copy(&self, alloc: Global) -> Result<IdentLike<'a>, AllocError>
-        ensures { IfOk result (λ ident. ident ≡ self.now) }
+        ensures same { IfOk result (λ ident. ident ≡ self.now) }
+        ensures free { IsTrue (ident_owns_nothing self.now) → IsOk result }
     {
         match self {
             IdentLike::Known(known) => Ok(IdentLike::Known(*known)),
@@ -81,7 +91,7 @@ impl<'a> IdentLike<'a> {
 }
 
 impl<'a> Word<'a> {
-    /// The word with this text.
+    /// The word with this text: a row of the table of words, else a name that borrows the text. It takes no memory.
     pub fn from_str(text: &'a str) -> Word<'a>
         ensures { result ≡ word_of text.now }
     {
@@ -98,6 +108,7 @@ impl<'a> Word<'a> {
         }
     }
 
+    /// The word as it is written.
     pub fn as_str(&self) -> &str
         ensures { result.now ≡ word_text self.now }
     {
@@ -110,6 +121,7 @@ impl<'a> Word<'a> {
         }
     }
 
+    /// The word without the text of its name.
     pub fn kind(&self) -> WordKind
         ensures { result ≡ word_kind self.now }
     {
@@ -122,8 +134,10 @@ impl<'a> Word<'a> {
         }
     }
 
+    /// The same word; memory is taken for an owned text alone.
     pub fn copy(&self, alloc: Global) -> Result<Word<'a>, AllocError>
-        ensures { IfOk result (λ word. word ≡ self.now) }
+        ensures same { IfOk result (λ word. word ≡ self.now) }
+        ensures free { IsTrue (word_owns_nothing self.now) → IsOk result }
     {
         match self {
             Word::Keyword(keyword) => Ok(Word::Keyword(*keyword)),
@@ -135,6 +149,63 @@ impl<'a> Word<'a> {
     }
 }
 
+/// The name as it is written, for callers that take any text.
+impl<'a> AsStr for IdentLike<'a> {
+    ghost text = { ident_text };
+
+    fn as_str(&self) -> &str {
+        match self {
+            IdentLike::Known(known) => known.as_str(),
+            IdentLike::Other(text) => text.as_str(),
+        }
+    }
+}
+
+/// The name's text, borrowed or owned as the name has it.
+impl<'a> From<IdentLike<'a>> for Atom<'a> {
+    ghost from_gives = { λ ident atom. atom ≡ ident_atom ident };
+
+    fn from(ident: IdentLike<'a>) -> Atom<'a> {
+        match ident {
+            IdentLike::Known(known) => Atom::from(known),
+            IdentLike::Other(text) => text,
+        }
+    }
+}
+
+/// The word's text, borrowed or owned as the word has it.
+impl<'a> From<Word<'a>> for Atom<'a> {
+    ghost from_gives = { λ word atom. atom ≡ word_atom word };
+
+    fn from(word: Word<'a>) -> Atom<'a> {
+        let fixed = match word {
+            Word::Keyword(keyword) => keyword.as_str(),
+            Word::Null => "null",
+            Word::True => "true",
+            Word::False => "false",
+            Word::Ident(ident) => return Atom::from(ident),
+        };
+        Atom::from(fixed)
+    }
+}
+
+impl<'a> From<Keyword> for Word<'a> {
+    ghost from_gives = { λ keyword word. word ≡ a_word.Keyword keyword };
+
+    fn from(keyword: Keyword) -> Word<'a> {
+        Word::Keyword(keyword)
+    }
+}
+
+impl From<Keyword> for WordKind {
+    ghost from_gives = { λ keyword kind. kind ≡ a_kind.Keyword keyword };
+
+    fn from(keyword: Keyword) -> WordKind {
+        WordKind::Keyword(keyword)
+    }
+}
+
+/// The name as it is written.
 impl<'a> fmt::Display for IdentLike<'a> {
     ghost output = { λ i. Some (ident_text i) };
 
