@@ -1,10 +1,11 @@
 -- Tokens and errors as callers see them: what owns memory is seen as what it holds.
-use Rattle.std.specs.Prelude.{◌≡◌, ℕ, Bool, List, map, string_bytes}
+use Rattle.std.specs.Prelude.{◌≡◌, ℕ, Bool, true, false, ◌&&◌, List, map, string_bytes}
 use Rattle.ecma_place.specs.Atom.{AtomView}
 use Rattle.ecma_place.specs.declared.place.Span.{Span}
-use Rattle.ecma_token.specs.declared.token.Token.{Token, Template', Error', Err'}
+use Rattle.ecma_syntax.specs.Word.{word_owns_nothing}
+use Rattle.ecma_token.specs.declared.token.Token.{Token, Word, Template', Str, Regex, Num, BigInt, JSXName, JSXText, Shebang, Error', Ok', Err'}
 use Rattle.ecma_token.specs.declared.token.TokenAndSpan.{TokenAndSpan}
-use Rattle.ecma_token.specs.declared.error.SyntaxError.{SyntaxError, BadCharacterEscapeSequence, UnaryInExp, Unexpected, UnexpectedTokenWithSuggestions, Expected', WithLabel'}
+use Rattle.ecma_token.specs.declared.error.SyntaxError.{SyntaxError, EscapeInReservedWord, InvalidIdentInStrict, DuplicateLabel, JSXExpectedClosingTag, PrivateNameModifier, ExportExpectFrom, ImportBindingIsString, TS1030, TS1089, TS1273, TS1274, TS1277, TsNonNullAssertionNotAllowed, TS1029, TS1243, BadCharacterEscapeSequence, UnaryInExp, Unexpected, UnexpectedTokenWithSuggestions, Expected', WithLabel'}
 use Rattle.ecma_token.specs.declared.error.Error.{Error}
 
 mutual
@@ -66,3 +67,48 @@ pub record SpannedView : Type 0 where
 
 abbrev pub spanned_view : TokenAndSpan → SpannedView
 spanned_view t = record { token = token_view t.token; had_line_break = t.had_line_break; span = t.span }
+
+-- each text of the token is a slice of the source, and it holds no error
+abbrev pub token_owns_nothing : Token → Bool
+token_owns_nothing (Word word) = word_owns_nothing word
+token_owns_nothing (Template' raw (Ok' cooked)) = raw.is_borrowed && cooked.is_borrowed
+token_owns_nothing (Template' raw (Err' p kind span)) = false
+token_owns_nothing (Str value raw) = value.is_borrowed && raw.is_borrowed
+token_owns_nothing (Regex body flags) = body.is_borrowed && flags.is_borrowed
+token_owns_nothing (Num raw radix digits whole) = raw.is_borrowed && digits.is_borrowed
+token_owns_nothing (BigInt raw radix digits) = raw.is_borrowed && digits.is_borrowed
+token_owns_nothing (JSXName name) = name.is_borrowed
+token_owns_nothing (JSXText value raw) = value.is_borrowed && raw.is_borrowed
+token_owns_nothing (Shebang text) = text.is_borrowed
+token_owns_nothing (Error' p kind span) = false
+token_owns_nothing _ = true
+
+-- the same, of a token that is seen so
+abbrev pub owns_nothing : TokenView → Bool
+owns_nothing (plain_token token) = token_owns_nothing token
+owns_nothing (refused_template raw kind span) = false
+owns_nothing (error_token kind span) = false
+
+-- each text that the kind holds is a slice of the source, and it holds no token, error or list
+abbrev pub kind_owns_nothing : SyntaxError → Bool
+kind_owns_nothing (EscapeInReservedWord word) = word.is_borrowed
+kind_owns_nothing (InvalidIdentInStrict word) = word.is_borrowed
+kind_owns_nothing (DuplicateLabel word) = word.is_borrowed
+kind_owns_nothing (JSXExpectedClosingTag word) = word.is_borrowed
+kind_owns_nothing (PrivateNameModifier word) = word.is_borrowed
+kind_owns_nothing (ExportExpectFrom word) = word.is_borrowed
+kind_owns_nothing (ImportBindingIsString word) = word.is_borrowed
+kind_owns_nothing (TS1030 word) = word.is_borrowed
+kind_owns_nothing (TS1089 word) = word.is_borrowed
+kind_owns_nothing (TS1273 word) = word.is_borrowed
+kind_owns_nothing (TS1274 word) = word.is_borrowed
+kind_owns_nothing (TS1277 word) = word.is_borrowed
+kind_owns_nothing (TsNonNullAssertionNotAllowed word) = word.is_borrowed
+kind_owns_nothing (TS1029 left right) = left.is_borrowed && right.is_borrowed
+kind_owns_nothing (TS1243 left right) = left.is_borrowed && right.is_borrowed
+kind_owns_nothing (UnaryInExp left at) = false
+kind_owns_nothing (Unexpected got wanted) = false
+kind_owns_nothing (UnexpectedTokenWithSuggestions all) = false
+kind_owns_nothing (Expected' p token got) = false
+kind_owns_nothing (WithLabel' p q kind at span note) = false
+kind_owns_nothing _ = true

@@ -1,6 +1,6 @@
 //! What a text can have wrong.
-ghost use Rattle.std.specs.Prelude.{◌≡◌, IfOk};
-ghost use Rattle.ecma_token.specs.View.{IsErrorAt, error_kind, error_span, error_view, kind_view};
+ghost use Rattle.std.specs.Prelude.{◌≡◌, IfOk, IsOk, IsTrue};
+ghost use Rattle.ecma_token.specs.View.{IsErrorAt, error_kind, error_span, error_view, kind_owns_nothing, kind_view};
 
 use crate::plain::PlainError;
 use crate::token::{Radix, Token};
@@ -142,7 +142,7 @@ impl<'a> Error<'a> {
         Box::into_inner(inner)
     }
 
-    /// The same error at the same place. Want of memory changes nothing.
+    /// The same error at the same place. It takes memory for the kind; want of it changes nothing.
     #[cycle(copy)]
     pub fn copy(&self, alloc: Global) -> Result<Error<'a>, AllocError>
         ensures { IfOk result (λ e. error_view e ≡ error_view self.now) }
@@ -165,10 +165,12 @@ impl<'a> Spanned for Error<'a> {
 }
 
 impl<'a> SyntaxError<'a> {
-    /// The same, with its texts borrowed or owned as here. Want of memory changes nothing.
+    /// The same, with its texts borrowed or owned as here. Memory is taken for owned texts, lists, tokens and errors
+    /// alone; want of it changes nothing.
     #[cycle(copy)]
     pub fn copy(&self, alloc: Global) -> Result<SyntaxError<'a>, AllocError>
-        ensures { IfOk result (λ kind. kind_view kind ≡ kind_view self.now) }
+        ensures same { IfOk result (λ kind. kind_view kind ≡ kind_view self.now) }
+        ensures free { IsTrue (kind_owns_nothing self.now) → IsOk result }
     {
         match self {
             SyntaxError::LegacyDecimal => Ok(SyntaxError::LegacyDecimal),

@@ -1,9 +1,9 @@
 //! Tokens.
-ghost use Rattle.std.specs.Prelude.{◌≡◌, IfOk};
+ghost use Rattle.std.specs.Prelude.{◌≡◌, IfOk, IsOk, IsTrue};
 ghost use Rattle.std.specs.Option.{option_copied};
 ghost use Rattle.ecma_token.specs.Kinds.{token_kind};
 ghost use Rattle.ecma_token.specs.Messages.{spelling, token_text};
-ghost use Rattle.ecma_token.specs.View.{spanned_view, token_view};
+ghost use Rattle.ecma_token.specs.View.{owns_nothing, spanned_view, token_view};
 
 use crate::error::Error;
 use crate::kind::TokenKind;
@@ -162,10 +162,12 @@ impl<'a> Token<'a> {
         }
     }
 
-    /// The same token, with its texts borrowed or owned as here. Want of memory changes nothing.
+    /// The same token, with its texts borrowed or owned as here. Memory is taken for owned texts and for errors alone;
+    /// want of it changes nothing.
     #[cycle(copy)]
     pub fn copy(&self, alloc: Global) -> Result<Token<'a>, AllocError>
-        ensures { IfOk result (λ token. token_view token ≡ token_view self.now) }
+        ensures same { IfOk result (λ token. token_view token ≡ token_view self.now) }
+        ensures free { IsTrue (owns_nothing (token_view self.now)) → IsOk result }
     {
         match self {
             Token::Word(word) => Ok(Token::Word(word.copy(alloc)?)),
@@ -317,9 +319,10 @@ pub struct TokenAndSpan<'a> {
 }
 
 impl<'a> TokenAndSpan<'a> {
-    /// The same token at the same place, as `Token::copy`. Want of memory changes nothing.
+    /// The same token at the same place; memory is taken as by `Token::copy`, and want of it changes nothing.
     pub fn copy(&self, alloc: Global) -> Result<TokenAndSpan<'a>, AllocError>
-        ensures { IfOk result (λ t. spanned_view t ≡ spanned_view self.now) }
+        ensures same { IfOk result (λ t. spanned_view t ≡ spanned_view self.now) }
+        ensures free { IsTrue (owns_nothing (spanned_view self.now).token) → IsOk result }
     {
         Ok(TokenAndSpan {
             token: self.token.copy(alloc)?,
