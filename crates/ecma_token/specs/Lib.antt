@@ -1,4 +1,8 @@
 pub mod Kinds
+pub mod Messages
+pub mod Plain
+pub mod Questions
+pub mod Quoted
 pub mod View
 pub use Rattle.ecma_place.specs.Atom
 pub use Rattle.ecma_syntax.specs.Word

@@ -1,10 +1,11 @@
 -- Tokens and errors as callers see them: what owns memory is seen as what it holds.
-use Rattle.std.specs.Prelude.{◌≡◌, ℕ, Bool, List, string_bytes}
+use Rattle.std.specs.Prelude.{◌≡◌, ℕ, Bool, true, false, ◌&&◌, List, map, string_bytes}
 use Rattle.ecma_place.specs.Atom.{AtomView}
 use Rattle.ecma_place.specs.declared.place.Span.{Span}
-use Rattle.ecma_token.specs.declared.token.Token.{Token, Template', Error', Err'}
+use Rattle.ecma_syntax.specs.Word.{word_owns_nothing}
+use Rattle.ecma_token.specs.declared.token.Token.{Token, Word, Template', Str, Regex, Num, BigInt, JSXName, JSXText, Shebang, Error', Ok', Err'}
 use Rattle.ecma_token.specs.declared.token.TokenAndSpan.{TokenAndSpan}
-use Rattle.ecma_token.specs.declared.error.SyntaxError.{SyntaxError, BadCharacterEscapeSequence, Expected', WithLabel'}
+use Rattle.ecma_token.specs.declared.error.SyntaxError.{SyntaxError, EscapeInReservedWord, InvalidIdentInStrict, DuplicateLabel, JSXExpectedClosingTag, PrivateNameModifier, ExportExpectFrom, ImportBindingIsString, TS1030, TS1089, TS1273, TS1274, TS1277, TsNonNullAssertionNotAllowed, TS1029, TS1243, BadCharacterEscapeSequence, UnaryInExp, Unexpected, UnexpectedTokenWithSuggestions, Expected', WithLabel'}
 use Rattle.ecma_token.specs.declared.error.Error.{Error}
 
 mutual
@@ -12,6 +13,9 @@ mutual
   pub data KindView : Type 0 where
     plain : SyntaxError → KindView
     bad_escape : List ℕ → KindView
+    unary : List ℕ → Span → KindView
+    unexpected : List ℕ → List ℕ → KindView
+    suggestions : List (List ℕ) → KindView
     expected : TokenView → List ℕ → KindView
     with_label : KindView → Span → Span → List ℕ → KindView
 
@@ -24,6 +28,9 @@ mutual
 abbrev mutual
   pub kind_view : SyntaxError → KindView
   kind_view (BadCharacterEscapeSequence text) = bad_escape text.now
+  kind_view (UnaryInExp left at) = unary (string_bytes left) at
+  kind_view (Unexpected got wanted) = unexpected (string_bytes got) wanted.now
+  kind_view (UnexpectedTokenWithSuggestions all) = suggestions (map (λ x. x.now) all.items)
   kind_view (Expected' p token got) = expected (token_view token) (string_bytes got)
   kind_view (WithLabel' p q kind at span note) = with_label (kind_view kind) at span note.now
   kind_view kind = plain kind
@@ -60,3 +67,48 @@ pub record SpannedView : Type 0 where
 
 abbrev pub spanned_view : TokenAndSpan → SpannedView
 spanned_view t = record { token = token_view t.token; had_line_break = t.had_line_break; span = t.span }
+
+-- each text of the token is a slice of the source, and it holds no error
+abbrev pub token_owns_nothing : Token → Bool
+token_owns_nothing (Word word) = word_owns_nothing word
+token_owns_nothing (Template' raw (Ok' cooked)) = raw.is_borrowed && cooked.is_borrowed
+token_owns_nothing (Template' raw (Err' p kind span)) = false
+token_owns_nothing (Str value raw) = value.is_borrowed && raw.is_borrowed
+token_owns_nothing (Regex body flags) = body.is_borrowed && flags.is_borrowed
+token_owns_nothing (Num raw radix digits whole) = raw.is_borrowed && digits.is_borrowed
+token_owns_nothing (BigInt raw radix digits) = raw.is_borrowed && digits.is_borrowed
+token_owns_nothing (JSXName name) = name.is_borrowed
+token_owns_nothing (JSXText value raw) = value.is_borrowed && raw.is_borrowed
+token_owns_nothing (Shebang text) = text.is_borrowed
+token_owns_nothing (Error' p kind span) = false
+token_owns_nothing _ = true
+
+-- the same, of a token that is seen so
+abbrev pub owns_nothing : TokenView → Bool
+owns_nothing (plain_token token) = token_owns_nothing token
+owns_nothing (refused_template raw kind span) = false
+owns_nothing (error_token kind span) = false
+
+-- each text that the kind holds is a slice of the source, and it holds no token, error or list
+abbrev pub kind_owns_nothing : SyntaxError → Bool
+kind_owns_nothing (EscapeInReservedWord word) = word.is_borrowed
+kind_owns_nothing (InvalidIdentInStrict word) = word.is_borrowed
+kind_owns_nothing (DuplicateLabel word) = word.is_borrowed
+kind_owns_nothing (JSXExpectedClosingTag word) = word.is_borrowed
+kind_owns_nothing (PrivateNameModifier word) = word.is_borrowed
+kind_owns_nothing (ExportExpectFrom word) = word.is_borrowed
+kind_owns_nothing (ImportBindingIsString word) = word.is_borrowed
+kind_owns_nothing (TS1030 word) = word.is_borrowed
+kind_owns_nothing (TS1089 word) = word.is_borrowed
+kind_owns_nothing (TS1273 word) = word.is_borrowed
+kind_owns_nothing (TS1274 word) = word.is_borrowed
+kind_owns_nothing (TS1277 word) = word.is_borrowed
+kind_owns_nothing (TsNonNullAssertionNotAllowed word) = word.is_borrowed
+kind_owns_nothing (TS1029 left right) = left.is_borrowed && right.is_borrowed
+kind_owns_nothing (TS1243 left right) = left.is_borrowed && right.is_borrowed
+kind_owns_nothing (UnaryInExp left at) = false
+kind_owns_nothing (Unexpected got wanted) = false
+kind_owns_nothing (UnexpectedTokenWithSuggestions all) = false
+kind_owns_nothing (Expected' p token got) = false
+kind_owns_nothing (WithLabel' p q kind at span note) = false
+kind_owns_nothing _ = true

@@ -1,43 +1,48 @@
 //! What a text can have wrong.
-ghost use Rattle.std.specs.Prelude.{◌≡◌, IfOk};
-ghost use Rattle.ecma_token.specs.View.{IsErrorAt, error_kind, error_span};
+ghost use Rattle.std.specs.Prelude.{◌≡◌, IfOk, IsOk, IsTrue};
+ghost use Rattle.ecma_token.specs.View.{IsErrorAt, error_kind, error_span, error_view, kind_owns_nothing, kind_view};
 
+use crate::plain::PlainError;
 use crate::token::{Radix, Token};
 use ecma_place::{Atom, Span, Spanned};
 use std::alloc::{AllocError, Global};
 
 /// An error and where it is.
 #[cycle(token)]
-#[derive(PartialEq, Drop)]
+#[derive(Debug, PartialEq, Drop)]
 pub struct Error<'a> {
-    inner: Box<SyntaxError<'a>>,
+    pub(crate) inner: Box<SyntaxError<'a>>,
     span: Span,
 }
 
-/// What is wrong.
+/// What is wrong. The variants up to `TS1185` are those that the lexer raises.
 #[cycle(token)]
-#[derive(PartialEq, Drop)]
+#[derive(Debug, PartialEq, Drop)]
 pub enum SyntaxError<'a> {
     LegacyDecimal,
     LegacyOctal,
     InvalidIdentChar,
+    /// A number that lacks its digits, of this radix.
     ExpectedDigit {
         radix: Radix,
     },
     UnterminatedBlockComment,
     UnterminatedStrLit,
     ExpectedUnicodeEscape,
+    /// A reserved word that is written with an escape.
     EscapeInReservedWord {
         word: Atom<'a>,
     },
     UnterminatedRegExp,
     UnterminatedTpl,
     IdentAfterNum,
+    /// A character that begins no token.
     UnexpectedChar {
         c: char,
     },
     InvalidStrEscape,
     InvalidUnicodeEscape,
+    /// An escape that has not the form that is wanted.
     BadCharacterEscapeSequence {
         expected: &'static str,
     },
@@ -46,8 +51,51 @@ pub enum SyntaxError<'a> {
     NumericSeparatorIsAllowedOnlyBetweenTwoDigits,
     TS1085,
     TS1185,
-    /// A token that another was expected in the place of, and how that one is written.
+    /// One of the parser's errors that hold nothing.
+    Plain(PlainError),
+    /// A name that is reserved in strict mode code.
+    InvalidIdentInStrict(Atom<'a>),
+    /// A unary expression as the base of `**`: its text, and where it stands.
+    UnaryInExp {
+        left: String,
+        left_span: Span,
+    },
+    /// A token that does not fit: how it is written, and what was expected.
+    Unexpected {
+        got: String,
+        expected: &'static str,
+    },
+    /// A token that does not fit, and what may be meant.
+    UnexpectedTokenWithSuggestions {
+        candidate_list: Vec<&'static str>,
+    },
+    /// The token that was expected, and how the one in its place is written.
     Expected(Box<Token<'a>>, String),
+    /// No semicolon behind this expression.
+    ExpectedSemiForExprStmt {
+        expr: Span,
+    },
+    /// A second `default`; the first stands here.
+    MultipleDefault {
+        previous: Span,
+    },
+    DuplicateLabel(Atom<'a>),
+    /// The name of the tag that lacks its closing tag.
+    JSXExpectedClosingTag {
+        tag: Atom<'a>,
+    },
+    PrivateNameModifier(Atom<'a>),
+    ExportExpectFrom(Atom<'a>),
+    ImportBindingIsString(Atom<'a>),
+    DuplicatedRegExpFlags(char),
+    TS1029(Atom<'a>, Atom<'a>),
+    TS1030(Atom<'a>),
+    TS1089(Atom<'a>),
+    TS1243(Atom<'a>, Atom<'a>),
+    TS1273(Atom<'a>),
+    TS1274(Atom<'a>),
+    TS1277(Atom<'a>),
+    TsNonNullAssertionNotAllowed(Atom<'a>),
     /// An error that is told of at another place too.
     WithLabel {
         inner: Box<Error<'a>>,
@@ -93,6 +141,19 @@ impl<'a> Error<'a> {
         let Error { inner, span: _ } = self;
         Box::into_inner(inner)
     }
+
+    /// The same error at the same place. It takes memory for the kind; want of it changes nothing.
+    #[cycle(copy)]
+    pub fn copy(&self, alloc: Global) -> Result<Error<'a>, AllocError>
+        ensures { IfOk result (λ e. error_view e ≡ error_view self.now) }
+    {
+        let kind = self.inner.copy(alloc)?;
+        let inner = Box::new(alloc, kind)?;
+        Ok(Error {
+            inner,
+            span: self.span,
+        })
+    }
 }
 
 impl<'a> Spanned for Error<'a> {
@@ -100,5 +161,108 @@ impl<'a> Spanned for Error<'a> {
 
     fn span(&self) -> Span {
         self.span
+    }
+}
+
+impl<'a> SyntaxError<'a> {
+    /// The same, with its texts borrowed or owned as here. Memory is taken for owned texts, lists, tokens and errors
+    /// alone; want of it changes nothing.
+    #[cycle(copy)]
+    pub fn copy(&self, alloc: Global) -> Result<SyntaxError<'a>, AllocError>
+        ensures same { IfOk result (λ kind. kind_view kind ≡ kind_view self.now) }
+        ensures free { IsTrue (kind_owns_nothing self.now) → IsOk result }
+    {
+        match self {
+            SyntaxError::LegacyDecimal => Ok(SyntaxError::LegacyDecimal),
+            SyntaxError::LegacyOctal => Ok(SyntaxError::LegacyOctal),
+            SyntaxError::InvalidIdentChar => Ok(SyntaxError::InvalidIdentChar),
+            SyntaxError::UnterminatedBlockComment => Ok(SyntaxError::UnterminatedBlockComment),
+            SyntaxError::UnterminatedStrLit => Ok(SyntaxError::UnterminatedStrLit),
+            SyntaxError::ExpectedUnicodeEscape => Ok(SyntaxError::ExpectedUnicodeEscape),
+            SyntaxError::UnterminatedRegExp => Ok(SyntaxError::UnterminatedRegExp),
+            SyntaxError::UnterminatedTpl => Ok(SyntaxError::UnterminatedTpl),
+            SyntaxError::IdentAfterNum => Ok(SyntaxError::IdentAfterNum),
+            SyntaxError::InvalidStrEscape => Ok(SyntaxError::InvalidStrEscape),
+            SyntaxError::InvalidUnicodeEscape => Ok(SyntaxError::InvalidUnicodeEscape),
+            SyntaxError::NumLitTerminatedWithExp => Ok(SyntaxError::NumLitTerminatedWithExp),
+            SyntaxError::LegacyCommentInModule => Ok(SyntaxError::LegacyCommentInModule),
+            SyntaxError::NumericSeparatorIsAllowedOnlyBetweenTwoDigits => Ok(
+                SyntaxError::NumericSeparatorIsAllowedOnlyBetweenTwoDigits,
+            ),
+            SyntaxError::TS1085 => Ok(SyntaxError::TS1085),
+            SyntaxError::TS1185 => Ok(SyntaxError::TS1185),
+            SyntaxError::Plain(error) => Ok(SyntaxError::Plain(*error)),
+            SyntaxError::ExpectedDigit { radix } => Ok(SyntaxError::ExpectedDigit {
+                radix: *radix,
+            }),
+            SyntaxError::EscapeInReservedWord { word } => Ok(SyntaxError::EscapeInReservedWord {
+                word: word.copy(alloc)?,
+            }),
+            SyntaxError::UnexpectedChar { c } => Ok(SyntaxError::UnexpectedChar { c: *c }),
+            SyntaxError::BadCharacterEscapeSequence { expected } => Ok(
+                SyntaxError::BadCharacterEscapeSequence { expected },
+            ),
+            SyntaxError::InvalidIdentInStrict(word) => Ok(SyntaxError::InvalidIdentInStrict(
+                word.copy(alloc)?,
+            )),
+            SyntaxError::UnaryInExp { left, left_span } => Ok(SyntaxError::UnaryInExp {
+                left: left.clone()?,
+                left_span: *left_span,
+            }),
+            SyntaxError::Unexpected { got, expected } => Ok(SyntaxError::Unexpected {
+                got: got.clone()?,
+                expected,
+            }),
+            SyntaxError::UnexpectedTokenWithSuggestions { candidate_list } => Ok(
+                SyntaxError::UnexpectedTokenWithSuggestions {
+                    candidate_list: candidate_list.clone()?,
+                },
+            ),
+            SyntaxError::Expected(token, got) => Ok(SyntaxError::Expected(
+                Box::new(alloc, token.copy(alloc)?)?,
+                got.clone()?,
+            )),
+            SyntaxError::ExpectedSemiForExprStmt { expr } => Ok(
+                SyntaxError::ExpectedSemiForExprStmt { expr: *expr },
+            ),
+            SyntaxError::MultipleDefault { previous } => Ok(SyntaxError::MultipleDefault {
+                previous: *previous,
+            }),
+            SyntaxError::JSXExpectedClosingTag { tag } => Ok(SyntaxError::JSXExpectedClosingTag {
+                tag: tag.copy(alloc)?,
+            }),
+            SyntaxError::DuplicatedRegExpFlags(c) => Ok(SyntaxError::DuplicatedRegExpFlags(*c)),
+            SyntaxError::TS1029(left, right) => Ok(SyntaxError::TS1029(
+                left.copy(alloc)?,
+                right.copy(alloc)?,
+            )),
+            SyntaxError::TS1243(left, right) => Ok(SyntaxError::TS1243(
+                left.copy(alloc)?,
+                right.copy(alloc)?,
+            )),
+            SyntaxError::DuplicateLabel(word) => Ok(SyntaxError::DuplicateLabel(word.copy(alloc)?)),
+            SyntaxError::PrivateNameModifier(word) => Ok(SyntaxError::PrivateNameModifier(word.copy(
+                alloc,
+            )?)),
+            SyntaxError::ExportExpectFrom(word) => Ok(SyntaxError::ExportExpectFrom(word.copy(
+                alloc,
+            )?)),
+            SyntaxError::ImportBindingIsString(word) => Ok(SyntaxError::ImportBindingIsString(
+                word.copy(alloc)?,
+            )),
+            SyntaxError::TS1030(word) => Ok(SyntaxError::TS1030(word.copy(alloc)?)),
+            SyntaxError::TS1089(word) => Ok(SyntaxError::TS1089(word.copy(alloc)?)),
+            SyntaxError::TS1273(word) => Ok(SyntaxError::TS1273(word.copy(alloc)?)),
+            SyntaxError::TS1274(word) => Ok(SyntaxError::TS1274(word.copy(alloc)?)),
+            SyntaxError::TS1277(word) => Ok(SyntaxError::TS1277(word.copy(alloc)?)),
+            SyntaxError::TsNonNullAssertionNotAllowed(word) => Ok(
+                SyntaxError::TsNonNullAssertionNotAllowed(word.copy(alloc)?),
+            ),
+            SyntaxError::WithLabel { inner, span, note } => Ok(SyntaxError::WithLabel {
+                inner: Box::new(alloc, inner.copy(alloc)?)?,
+                span: *span,
+                note,
+            }),
+        }
     }
 }

@@ -3,8 +3,15 @@
 
 pub mod error;
 pub mod kind;
+mod message;
+mod names;
+pub mod plain;
+mod quoted;
+#[cfg(test)]
+mod tests;
 pub mod token;
 
 pub use error::{Error, SyntaxError};
 pub use kind::TokenKind;
+pub use plain::PlainError;
 pub use token::{Radix, Token, TokenAndSpan};

@@ -1,12 +1,16 @@
 //! Tokens.
-ghost use Rattle.std.specs.Prelude.{◌≡◌};
-ghost use Rattle.ecma_token.specs.View.{token_view};
+ghost use Rattle.std.specs.Prelude.{◌≡◌, IfOk, IsOk, IsTrue};
+ghost use Rattle.std.specs.Option.{option_copied};
 ghost use Rattle.ecma_token.specs.Kinds.{token_kind};
+ghost use Rattle.ecma_token.specs.Messages.{spelling, token_text};
+ghost use Rattle.ecma_token.specs.View.{owns_nothing, spanned_view, token_view};
 
 use crate::error::Error;
 use crate::kind::TokenKind;
 use ecma_place::{Atom, Span, Spanned};
 use ecma_syntax::{AssignOp, BinOpToken, Word};
+use std::alloc::{AllocError, Global};
+use std::fmt;
 
 /// The radix in which a number is written.
 #[derive(Debug, Clone, Copy, PartialEq, Eq, Hash)]
@@ -157,15 +161,175 @@ impl<'a> Token<'a> {
             Token::Error(_) => TokenKind::Error,
         }
     }
+
+    /// The same token, with its texts borrowed or owned as here. Memory is taken for owned texts and for errors alone;
+    /// want of it changes nothing.
+    #[cycle(copy)]
+    pub fn copy(&self, alloc: Global) -> Result<Token<'a>, AllocError>
+        ensures same { IfOk result (λ token. token_view token ≡ token_view self.now) }
+        ensures free { IsTrue (owns_nothing (token_view self.now)) → IsOk result }
+    {
+        match self {
+            Token::Word(word) => Ok(Token::Word(word.copy(alloc)?)),
+            Token::BinOp(op) => Ok(Token::BinOp(*op)),
+            Token::AssignOp(op) => Ok(Token::AssignOp(*op)),
+            Token::Arrow => Ok(Token::Arrow),
+            Token::Hash => Ok(Token::Hash),
+            Token::At => Ok(Token::At),
+            Token::Dot => Ok(Token::Dot),
+            Token::DotDotDot => Ok(Token::DotDotDot),
+            Token::Bang => Ok(Token::Bang),
+            Token::LParen => Ok(Token::LParen),
+            Token::RParen => Ok(Token::RParen),
+            Token::LBracket => Ok(Token::LBracket),
+            Token::RBracket => Ok(Token::RBracket),
+            Token::LBrace => Ok(Token::LBrace),
+            Token::RBrace => Ok(Token::RBrace),
+            Token::Semi => Ok(Token::Semi),
+            Token::Comma => Ok(Token::Comma),
+            Token::BackQuote => Ok(Token::BackQuote),
+            Token::Colon => Ok(Token::Colon),
+            Token::DollarLBrace => Ok(Token::DollarLBrace),
+            Token::QuestionMark => Ok(Token::QuestionMark),
+            Token::PlusPlus => Ok(Token::PlusPlus),
+            Token::MinusMinus => Ok(Token::MinusMinus),
+            Token::Tilde => Ok(Token::Tilde),
+            Token::JSXTagStart => Ok(Token::JSXTagStart),
+            Token::JSXTagEnd => Ok(Token::JSXTagEnd),
+            Token::Template {
+                raw,
+                cooked: Ok(cooked),
+            } => Ok(Token::Template {
+                raw: raw.copy(alloc)?,
+                cooked: Ok(cooked.copy(alloc)?),
+            }),
+            Token::Template {
+                raw,
+                cooked: Err(error),
+            } => Ok(Token::Template {
+                raw: raw.copy(alloc)?,
+                cooked: Err(error.copy(alloc)?),
+            }),
+            Token::Str { value, raw } => Ok(Token::Str {
+                value: value.copy(alloc)?,
+                raw: raw.copy(alloc)?,
+            }),
+            Token::Regex(body, flags) => Ok(Token::Regex(body.copy(alloc)?, flags.copy(alloc)?)),
+            Token::Num {
+                raw,
+                radix,
+                digits,
+                whole,
+            } => Ok(Token::Num {
+                raw: raw.copy(alloc)?,
+                radix: *radix,
+                digits: digits.copy(alloc)?,
+                whole: *whole,
+            }),
+            Token::BigInt { raw, radix, digits } => Ok(Token::BigInt {
+                raw: raw.copy(alloc)?,
+                radix: *radix,
+                digits: digits.copy(alloc)?,
+            }),
+            Token::JSXName { name } => Ok(Token::JSXName {
+                name: name.copy(alloc)?,
+            }),
+            Token::JSXText { value, raw } => Ok(Token::JSXText {
+                value: value.copy(alloc)?,
+                raw: raw.copy(alloc)?,
+            }),
+            Token::Shebang(text) => Ok(Token::Shebang(text.copy(alloc)?)),
+            Token::Error(error) => Ok(Token::Error(error.copy(alloc)?)),
+        }
+    }
+
+    /// The debug text of a token that is no literal and no error.
+    fn spelling(&self) -> Option<&str>
+        ensures { option_copied result ≡ spelling self.now }
+    {
+        match self {
+            Token::Word(word) => Some(word.as_str()),
+            Token::BinOp(op) => Some(op.as_str()),
+            Token::AssignOp(op) => Some(op.as_str()),
+            Token::Arrow => Some("=>"),
+            Token::Hash => Some("#"),
+            Token::At => Some("@"),
+            Token::Dot => Some("."),
+            Token::DotDotDot => Some("..."),
+            Token::Bang => Some("!"),
+            Token::LParen => Some("("),
+            Token::RParen => Some(")"),
+            Token::LBracket => Some("["),
+            Token::RBracket => Some("]"),
+            Token::LBrace => Some("{"),
+            Token::RBrace => Some("}"),
+            Token::Semi => Some(";"),
+            Token::Comma => Some(","),
+            Token::BackQuote => Some("`"),
+            Token::Colon => Some(":"),
+            Token::DollarLBrace => Some("${"),
+            Token::QuestionMark => Some("?"),
+            Token::PlusPlus => Some("++"),
+            Token::MinusMinus => Some("--"),
+            Token::Tilde => Some("~"),
+            Token::JSXTagStart => Some("< (jsx tag start)"),
+            Token::JSXTagEnd => Some("> (jsx tag end)"),
+            Token::Shebang(_) => Some("#!"),
+            _ => None,
+        }
+    }
+}
+
+/// A word or a punctuator as it is written, a literal by its name and its texts, an error by its message.
+impl<'a> fmt::Debug for Token<'a> {
+    ghost use Rattle.std.specs.Prelude.{Some};
+
+    ghost debug_output = { λ t. Some (token_text t) };
+
+    #[cycle(show)]
+    fn fmt<W: fmt::Write>(&self, f: &mut fmt::Formatter<W>) -> fmt::Result {
+        if let Some(text) = self.spelling() {
+            return f.write_str(text);
+        }
+        match self {
+            Token::Template { raw, .. } => write!(f, "template token ({raw})"),
+            Token::Str { value, raw } => write!(f, "string literal ({value}, {raw})"),
+            Token::Regex(body, flags) => write!(f, "regexp literal ({body}, {flags})"),
+            Token::Num { raw, .. } => write!(f, "numeric literal ({raw})"),
+            Token::BigInt { raw, digits, .. } => write!(f, "bigint literal ({digits}, {raw})"),
+            Token::JSXName { name } => write!(f, "jsx name ({name})"),
+            Token::JSXText { raw, .. } => write!(f, "jsx text ({raw})"),
+            Token::Error(error) => {
+                f.write_str("<lexing error: ")?;
+                fmt::Display::fmt(error, f)?;
+                f.write_str(">")
+            }
+            _ => Ok(()),
+        }
+    }
 }
 
 /// A token, where it stands, and whether a line terminator stands before it.
-#[derive(PartialEq, Drop)]
+#[derive(Debug, PartialEq, Drop)]
 pub struct TokenAndSpan<'a> {
     pub token: Token<'a>,
     /// Whether the gap before the token holds a line terminator, or no token but a shebang came before.
     pub had_line_break: bool,
     pub span: Span,
+}
+
+impl<'a> TokenAndSpan<'a> {
+    /// The same token at the same place; memory is taken as by `Token::copy`, and want of it changes nothing.
+    pub fn copy(&self, alloc: Global) -> Result<TokenAndSpan<'a>, AllocError>
+        ensures same { IfOk result (λ t. spanned_view t ≡ spanned_view self.now) }
+        ensures free { IsTrue (owns_nothing (spanned_view self.now).token) → IsOk result }
+    {
+        Ok(TokenAndSpan {
+            token: self.token.copy(alloc)?,
+            had_line_break: self.had_line_break,
+            span: self.span,
+        })
+    }
 }
 
 impl<'a> Spanned for TokenAndSpan<'a> {
