@@ -50,6 +50,7 @@ reads-behind mode flag input here n (c ∷ cs) gap e =
     lo_in : Option SpannedView → ℕ
     lo_in None = 0
     lo_in (Some t) = t.span.lo.0
+
     hi_in : Option SpannedView → ℕ
     hi_in None = 0
     hi_in (Some t) = t.span.hi.0

@@ -132,8 +132,7 @@ so_far-token settings input k l next t so found moved =
     let less = reading-less (mode_of l) l.input t found in
     let input_is : next.input ≡ (reading_of l).input = ap (λ x. x.input) moved in
     let shorter : length (rest next.input) < length (rest l.input) = rw input_is less in
-    let kept : kept_back (act_on s Read).past ≡ t ∷ kept_back s.past = ap (λ o. kept_back (given_in (reading_of (state_of s)).end_flag o ∷ s.past)) gives in
-    (
+    let kept : kept_back (act_on s Read).past ≡ t ∷ kept_back s.past = ap (λ o. kept_back (given_in (reading_of (state_of s)).end_flag o ∷ s.past)) gives in (
       record { state = behind ∙ ap state_of (sym more); left = omega (arith, so.left, shorter) },
       ap (λ x. reverse (kept_back x.past)) more ∙ ap reverse kept ∙ reverse_onto (kept_back s.past) t [],
     )

@@ -6,7 +6,6 @@ pub mod Session
 pub mod Tiling
 pub mod TokenAt
 pub mod View
-
 pub use Rattle.ecma_place.specs.Atom
 pub use Rattle.ecma_place.specs.Cursor
 pub use Rattle.ecma_place.specs.Text

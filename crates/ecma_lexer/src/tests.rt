@@ -5,24 +5,19 @@ use ecma_place::{BytePos, Span, Spanned, StringInput};
 use ecma_syntax::{
     AssignOp, BinOpToken, EsVersion, IdentKind, Keyword, KnownIdent, Syntax, WordKind,
 };
-use ecma_token::{Radix, SyntaxError, Token, TokenKind};
+use ecma_token::{Radix, SyntaxError, Token, TokenAndSpan, TokenKind};
 use std::alloc::{AllocError, Global};
 use std::process::Abort;
 use std::test::Fail;
 
 const LET: TokenKind = TokenKind::Word(WordKind::Keyword(Keyword::Let));
+
 const NAME: TokenKind = TokenKind::Word(WordKind::Ident(IdentKind::Other));
 
 fn lexer(alloc: Global, text: &str) -> Option<Lexer<'_>> {
     if StringInput::fits(text, BytePos(0)) {
         let input = StringInput::new(text, BytePos(0));
-        Some(Lexer::new(
-            alloc,
-            Syntax::default(),
-            EsVersion::default(),
-            input,
-            false,
-        ))
+        Some(Lexer::new(alloc, Syntax::default(), EsVersion::default(), input, false))
     } else {
         None
     }
@@ -47,12 +42,7 @@ fn row(lo: u32, hi: u32, flag: bool, kind: TokenKind) -> Kept {
 }
 
 /// Reads the text, and asserts what is kept of its tokens, and that the end is answered twice behind them.
-fn assert_rows(
-    rt: &impl Abort,
-    alloc: Global,
-    text: &str,
-    rows: &[Kept],
-) -> Result<(), Fail> {
+fn assert_rows(rt: &impl Abort, alloc: Global, text: &str, rows: &[Kept]) -> Result<(), Fail> {
     let mut lexer = lexer(alloc, text).ok_or("too long")?;
     for expected in rows {
         assert_eq!(rt; next(&mut lexer)?, Some(*expected));
@@ -75,25 +65,49 @@ fn reads_a_statement(rt: HostRuntime) -> Result<(), Fail> {
     assert_rows(&rt, rt.alloc(), "let x = 1;", &rows)
 }
 
-#[test]
-fn reads_the_digits_of_a_number(rt: HostRuntime) -> Result<(), Fail> {
-    let mut lexer = lexer(rt.alloc(), " 120").ok_or("too long")?;
+/// The first token of the text.
+fn first<'a>(alloc: Global, text: &'a str) -> Result<TokenAndSpan<'a>, Fail> {
+    let mut lexer = lexer(alloc, text).ok_or("too long")?;
     let token = lexer.read()?.ok_or("no token")?;
-    match token.token {
+    Ok(token)
+}
+
+/// Whether the token is this decimal number, with texts that borrow.
+fn is_number(token: &Token, text: &str, value: u128) -> bool {
+    match token {
         Token::Num {
             raw,
             radix,
             digits,
             whole,
         } => {
-            assert_eq!(rt; raw.as_str(), "120");
-            assert_eq!(rt; digits.as_str(), "120");
-            assert!(rt; raw.is_borrowed() && digits.is_borrowed());
-            assert_eq!(rt; radix, Radix::Decimal);
-            assert_eq!(rt; whole, Some(120));
+            raw.as_str() == text
+                && raw.is_borrowed()
+                && digits.as_str() == text
+                && digits.is_borrowed()
+                && *radix == Radix::Decimal
+                && *whole == Some(value)
         }
-        _ => assert!(rt; false, "no number"),
+        _ => false,
     }
+}
+
+/// Whether the token is an error of its own, empty at the place.
+fn is_unexpected(token: &Token, at: u32, c: char) -> bool {
+    match token {
+        Token::Error(error) => {
+            error.span().lo == BytePos(at)
+                && error.span().hi == BytePos(at)
+                && matches!(error.kind(), SyntaxError::UnexpectedChar { c: found } if *found == c)
+        }
+        _ => false,
+    }
+}
+
+#[test]
+fn reads_the_digits_of_a_number(rt: HostRuntime) -> Result<(), Fail> {
+    let token = first(rt.alloc(), " 120")?;
+    assert!(rt; is_number(&token.token, "120", 120));
     Ok(())
 }
 
@@ -147,24 +161,21 @@ fn refuses_a_stray_character(rt: HostRuntime) -> Result<(), Fail> {
     assert_rows(&rt, alloc, "\"", &[row(0, 1, true, TokenKind::Error)])?;
     let nul = [row(0, 1, true, TokenKind::Error), row(1, 2, false, NAME)];
     assert_rows(&rt, alloc, "\0a", &nul)?;
-    let mut lexer = lexer(alloc, "\u{20ac}").ok_or("too long")?;
-    let token = lexer.read()?.ok_or("no token")?;
+    let token = first(alloc, "\u{20ac}")?;
     assert_eq!(rt; token.span.hi, BytePos(3));
-    match token.token {
-        Token::Error(error) => {
-            assert_eq!(rt; error.span().lo, BytePos(0));
-            assert_eq!(rt; error.span().hi, BytePos(0));
-            assert!(rt; matches!(error.kind(), SyntaxError::UnexpectedChar { c: '\u{20ac}' }));
-        }
-        _ => assert!(rt; false, "no error"),
-    }
+    assert!(rt; is_unexpected(&token.token, 0, '\u{20ac}'));
     Ok(())
 }
 
 #[test]
 fn reads_operators_by_their_longest_spelling(rt: HostRuntime) -> Result<(), Fail> {
     let rows = [
-        row(0, 4, true, TokenKind::AssignOp(AssignOp::ZeroFillRShiftAssign)),
+        row(
+            0,
+            4,
+            true,
+            TokenKind::AssignOp(AssignOp::ZeroFillRShiftAssign),
+        ),
         row(4, 7, false, TokenKind::BinOp(BinOpToken::ZeroFillRShift)),
         row(8, 9, false, TokenKind::QuestionMark),
         row(9, 10, false, TokenKind::Dot),
