@@ -59,11 +59,10 @@ pub lines-more : (bytes : List ℕ) (k : ℕ) (l next : LexerState) (t : Spanned
     × (lines bytes (map kept_of (read_tokens settings (whole bytes) (suc k))) ≡ lines bytes (map kept_of (read_tokens settings (whole bytes) k)) ++ line bytes (kept_of t))
 lines-more bytes k l next t so found moved =
     let more = so_far-token settings (whole bytes) k l next t so found moved in
-    let before = read_tokens settings (whole bytes) k in
-    (
+    let before = read_tokens settings (whole bytes) k in (
       more.0,
       ap (λ ts. lines bytes (map kept_of ts)) more.1
-      ∙ ap (lines bytes) (map-append kept_of before (t ∷ []))
-      ∙ flat_map-append (line bytes) (map kept_of before) (kept_of t ∷ [])
-      ∙ ap (λ tail. lines bytes (map kept_of before) ++ tail) (append-nil (line bytes (kept_of t))),
+          ∙ ap (lines bytes) (map-append kept_of before (t ∷ []))
+          ∙ flat_map-append (line bytes) (map kept_of before) (kept_of t ∷ [])
+          ∙ ap (λ tail. lines bytes (map kept_of before) ++ tail) (append-nil (line bytes (kept_of t))),
     )

@@ -105,12 +105,7 @@ fn push_escaped(out: &mut Vec<u8>, bytes: &[u8]) -> Result<(), AllocError>
 }
 
 /// Adds the line of a token of the text with these bytes, which starts at the place 0.
-fn push_line(
-    alloc: Global,
-    out: &mut Vec<u8>,
-    bytes: &[u8],
-    token: Kept,
-) -> Result<(), AllocError>
+fn push_line(alloc: Global, out: &mut Vec<u8>, bytes: &[u8], token: Kept) -> Result<(), AllocError>
     requires in_order { token.span.lo.0 ≤ token.span.hi.0 }
     requires within { token.span.hi.0 ≤ length bytes.now }
     ensures { OnOk result (out.new.items ≡ out.old.items ++ grammar.line bytes.now token) }
@@ -142,13 +137,7 @@ pub fn tokens_text(alloc: Global, text: &str) -> Result<Vec<u8>, AllocError>
     ensures { IfOk result (λ out. out.items ≡ grammar.tokens_text text.now) }
 {
     let input = StringInput::new(text, BytePos(0));
-    let mut lexer = Lexer::new(
-        alloc,
-        Syntax::default(),
-        EsVersion::default(),
-        input,
-        false,
-    );
+    let mut lexer = Lexer::new(alloc, Syntax::default(), EsVersion::default(), input, false);
     let mut out = Vec::new(alloc);
     'tokens: while let Some(token) = next_kept(&mut lexer)? {
         push_line(alloc, &mut out, text.as_bytes(), token)?;

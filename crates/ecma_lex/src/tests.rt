@@ -134,10 +134,18 @@ fn assert_word(
 #[test]
 fn writes_the_tokens(rt: HostRuntime) {
     let alloc = rt.alloc();
-    let lines = b"0 3 lf Keyword let\n4 5 - Ident x\n6 7 - AssignOp =\n8 9 - Num 1\n9 10 - Semi ;\n";
+    let lines =
+        b"0 3 lf Keyword let\n4 5 - Ident x\n6 7 - AssignOp =\n8 9 - Num 1\n9 10 - Semi ;\n";
     assert_run(&rt, alloc, &[], b"let x = 1;", 0, lines);
     assert_run(&rt, alloc, &[], b"", 0, b"");
-    assert_run(&rt, alloc, &[], b"a\nb", 0, b"0 1 lf Ident a\n2 3 lf Ident b\n");
+    assert_run(
+        &rt,
+        alloc,
+        &[],
+        b"a\nb",
+        0,
+        b"0 1 lf Ident a\n2 3 lf Ident b\n",
+    );
     assert_run(&rt, alloc, &[], b"\"", 0, b"0 1 lf Error \"\n");
     assert_run(&rt, alloc, &[], b"\\", 0, b"0 1 lf Error \\\\\n");
 }
@@ -149,7 +157,10 @@ fn tells_of_faults(rt: HostRuntime) -> Result<(), Fail> {
     assert_word(&rt, alloc, "tokens", 0, b"0 1 lf Semi ;\n")?;
     assert_word(&rt, alloc, "comments", 2, b"bad words\n")?;
     assert_word(&rt, alloc, "Tokens", 2, b"bad words\n")?;
-    let twice = vec![in alloc; String::from_str(alloc, "tokens")?, String::from_str(alloc, "tokens")?]?;
+    let twice = vec![in alloc;
+        String::from_str(alloc, "tokens")?,
+        String::from_str(alloc, "tokens")?,
+    ]?;
     assert_run(&rt, alloc, twice.as_slice(), b";", 2, b"bad words\n");
     Ok(())
 }
@@ -199,7 +210,10 @@ fn writes_a_byte_at_a_time(rt: HostRuntime) {
         run(rt.alloc(), &[], &mut b"a b".as_slice(), &mut writer),
         0
     );
-    assert_eq!(rt; writer.held(), b"0 1 lf Ident a\n2 3 - Ident b\n".as_slice());
+    assert_eq!(rt;
+        writer.held(),
+        b"0 1 lf Ident a\n2 3 - Ident b\n".as_slice()
+    );
 }
 
 /// No allocation here is the test's own, so each that is refused in turn is one of `run`.
@@ -208,7 +222,10 @@ fn answers_whole_or_out_of_memory(rt: HostRuntime) {
     let mut writer = Page::new(PAGE, PAGE, WhenFull::Fails);
     let status = run(rt.alloc(), &[], &mut b"a b".as_slice(), &mut writer);
     if status == 0 {
-        assert_eq!(rt; writer.held(), b"0 1 lf Ident a\n2 3 - Ident b\n".as_slice());
+        assert_eq!(rt;
+            writer.held(),
+            b"0 1 lf Ident a\n2 3 - Ident b\n".as_slice()
+        );
     } else {
         assert_eq!(rt; status, 5);
         assert_eq!(rt; writer.held(), b"out of memory\n".as_slice());

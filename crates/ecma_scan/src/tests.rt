@@ -69,7 +69,15 @@ fn reads_the_value_of_a_number_that_fits(rt: HostRuntime) -> Result<(), Fail> {
     let alloc = rt.alloc();
     let most = "340282366920938463463374607431768211455";
     let found = scan_number(alloc, &mut StringInput::new(most, BytePos(0)), false)?;
-    assert!(rt; matches!(found.value, Ok(Token::Num { whole: Some(u128::MAX), .. })));
+    assert!(rt;
+        matches!(
+            found.value,
+            Ok(Token::Num {
+                whole: Some(u128::MAX),
+                ..
+            })
+        )
+    );
     let more = "340282366920938463463374607431768211456";
     let found = scan_number(alloc, &mut StringInput::new(more, BytePos(0)), false)?;
     assert!(rt; matches!(found.value, Ok(Token::Num { whole: None, .. })));
@@ -120,7 +128,13 @@ fn reads_every_punctuator(rt: HostRuntime) -> Result<(), Fail> {
         TokenKind::PlusPlus,
         TokenKind::MinusMinus,
     ];
-    assert_kinds(&rt, rt.alloc(), "{ } ( ) [ ] ; , ~ @ # : ? . ... ! => ++ --", false, &kinds)
+    assert_kinds(
+        &rt,
+        rt.alloc(),
+        "{ } ( ) [ ] ; , ~ @ # : ? . ... ! => ++ --",
+        false,
+        &kinds,
+    )
 }
 
 #[test]
@@ -150,7 +164,13 @@ fn reads_every_operator(rt: HostRuntime) -> Result<(), Fail> {
         TokenKind::BinOp(BinOpToken::LogicalAnd),
         TokenKind::BinOp(BinOpToken::NullishCoalescing),
     ];
-    assert_kinds(&rt, rt.alloc(), "== != === !== < <= > >= << >> >>> + - * / % | ^ & ** || && ??", false, &kinds)
+    assert_kinds(
+        &rt,
+        rt.alloc(),
+        "== != === !== < <= > >= << >> >>> + - * / % | ^ & ** || && ??",
+        false,
+        &kinds,
+    )
 }
 
 #[test]
@@ -173,7 +193,13 @@ fn reads_every_assignment(rt: HostRuntime) -> Result<(), Fail> {
         TokenKind::AssignOp(AssignOp::OrAssign),
         TokenKind::AssignOp(AssignOp::NullishAssign),
     ];
-    assert_kinds(&rt, rt.alloc(), "= += -= *= /= %= <<= >>= >>>= |= ^= &= **= &&= ||= ??=", false, &kinds)
+    assert_kinds(
+        &rt,
+        rt.alloc(),
+        "= += -= *= /= %= <<= >>= >>>= |= ^= &= **= &&= ||= ??=",
+        false,
+        &kinds,
+    )
 }
 
 #[test]
@@ -181,7 +207,13 @@ fn reads_angles_alone_among_types(rt: HostRuntime) -> Result<(), Fail> {
     let lt = TokenKind::BinOp(BinOpToken::Lt);
     let gt = TokenKind::BinOp(BinOpToken::Gt);
     let assign = TokenKind::AssignOp(AssignOp::Assign);
-    assert_kinds(&rt, rt.alloc(), "<<>>>=", true, &[lt, lt, gt, gt, gt, assign])
+    assert_kinds(
+        &rt,
+        rt.alloc(),
+        "<<>>>=",
+        true,
+        &[lt, lt, gt, gt, gt, assign],
+    )
 }
 
 #[test]
