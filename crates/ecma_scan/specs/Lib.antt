@@ -1,8 +1,10 @@
+pub mod Escapes
 pub mod Found
 pub mod Gaps
 pub mod Numbers
 pub mod Pieces
 pub mod Punctuators
+pub mod Strings
 pub mod Words
 pub use Rattle.ecma_place.specs.Atom
 pub use Rattle.ecma_place.specs.Character
