@@ -1,12 +1,13 @@
 //! Each reader once on its happy path, and every punctuator.
+use crate::found::Found;
 use crate::gap::{GapMode, scan_gap};
 use crate::number::scan_number;
 use crate::punctuator::scan_punct;
 use crate::word::scan_word;
-use ecma_place::{BytePos, Span, StringInput};
+use ecma_place::{BytePos, CharExt, Span, StringInput};
 use ecma_syntax::{AssignOp, BinOpToken, Context, Keyword, Word};
 use ecma_token::{Token, TokenKind};
-use std::alloc::Global;
+use std::alloc::{AllocError, Global};
 use std::process::Abort;
 use std::test::Fail;
 
@@ -48,17 +49,46 @@ fn reads_gaps(rt: HostRuntime) -> Result<(), Fail> {
     Ok(())
 }
 
+/// The word at the cursor, where one begins.
+fn word<'a>(
+    alloc: Global,
+    input: &mut StringInput<'a>,
+) -> Result<Option<Found<'a, Word<'a>>>, AllocError> {
+    match input.cur() {
+        Some(c) if c.is_ident_start() => Ok(Some(scan_word(alloc, input, &Context::default())?)),
+        _ => Ok(None),
+    }
+}
+
+/// The number at the cursor, where one begins.
+fn number<'a>(
+    alloc: Global,
+    input: &mut StringInput<'a>,
+) -> Result<Option<Found<'a, Token<'a>>>, AllocError> {
+    match input.cur() {
+        Some(c) if c.is_digit(10) => Ok(Some(scan_number(alloc, input, false)?)),
+        _ => Ok(None),
+    }
+}
+
 #[test]
-fn reads_words_and_numbers(rt: HostRuntime) -> Result<(), Fail> {
+fn reads_words(rt: HostRuntime) -> Result<(), Fail> {
     let alloc = rt.alloc();
     let mut input = StringInput::new("let1 let", BytePos(3));
-    let found = scan_word(alloc, &mut input, &Context::default())?;
+    let found = word(alloc, &mut input)?.ok_or("no word")?;
     assert_eq!(rt; found.extent, span(3, 7));
+    assert!(rt; matches!(found.value, Ok(Word::Ident(_))));
     let mut keyword = StringInput::new("let", BytePos(0));
-    let word = scan_word(alloc, &mut keyword, &Context::default())?.value;
-    assert!(rt; matches!(word, Ok(Word::Keyword(Keyword::Let))));
-    let mut number = StringInput::new("007.", BytePos(0));
-    let found = scan_number(alloc, &mut number, false)?;
+    let found = word(alloc, &mut keyword)?.ok_or("no word")?;
+    assert!(rt; matches!(found.value, Ok(Word::Keyword(Keyword::Let))));
+    Ok(())
+}
+
+#[test]
+fn reads_numbers(rt: HostRuntime) -> Result<(), Fail> {
+    let alloc = rt.alloc();
+    let mut input = StringInput::new("007.", BytePos(0));
+    let found = number(alloc, &mut input)?.ok_or("no number")?;
     assert_eq!(rt; found.extent, span(0, 3));
     assert!(rt; matches!(found.value, Ok(Token::Num { whole: Some(7), .. })));
     Ok(())
@@ -68,7 +98,7 @@ fn reads_words_and_numbers(rt: HostRuntime) -> Result<(), Fail> {
 fn reads_the_value_of_a_number_that_fits(rt: HostRuntime) -> Result<(), Fail> {
     let alloc = rt.alloc();
     let most = "340282366920938463463374607431768211455";
-    let found = scan_number(alloc, &mut StringInput::new(most, BytePos(0)), false)?;
+    let found = number(alloc, &mut StringInput::new(most, BytePos(0)))?.ok_or("no number")?;
     assert!(rt;
         matches!(
             found.value,
@@ -79,7 +109,7 @@ fn reads_the_value_of_a_number_that_fits(rt: HostRuntime) -> Result<(), Fail> {
         )
     );
     let more = "340282366920938463463374607431768211456";
-    let found = scan_number(alloc, &mut StringInput::new(more, BytePos(0)), false)?;
+    let found = number(alloc, &mut StringInput::new(more, BytePos(0)))?.ok_or("no number")?;
     assert!(rt; matches!(found.value, Ok(Token::Num { whole: None, .. })));
     Ok(())
 }
