@@ -3,7 +3,8 @@ use crate::kept::Kept;
 use crate::lexer::Lexer;
 use ecma_place::{BytePos, Span, Spanned, StringInput};
 use ecma_syntax::{
-    AssignOp, BinOpToken, EsVersion, IdentKind, Keyword, KnownIdent, Syntax, WordKind,
+    AssignOp, BinOpToken, EsVersion, IdentKind, IdentLike, Keyword, KnownIdent, Syntax, Word,
+    WordKind,
 };
 use ecma_token::{Radix, SyntaxError, Token, TokenAndSpan, TokenKind};
 use std::alloc::{AllocError, Global};
@@ -92,6 +93,16 @@ fn is_number(token: &Token, text: &str, value: u128) -> bool {
     }
 }
 
+/// Whether the token is this name, its text borrowed.
+fn is_borrowed_name(token: &Token, text: &str) -> bool {
+    match token {
+        Token::Word(Word::Ident(IdentLike::Other(name))) => {
+            name.as_str() == text && name.is_borrowed()
+        }
+        _ => false,
+    }
+}
+
 /// Whether the token is an error of its own, empty at the place.
 fn is_unexpected(token: &Token, at: u32, c: char) -> bool {
     match token {
@@ -108,6 +119,13 @@ fn is_unexpected(token: &Token, at: u32, c: char) -> bool {
 fn reads_the_digits_of_a_number(rt: HostRuntime) -> Result<(), Fail> {
     let token = first(rt.alloc(), " 120")?;
     assert!(rt; is_number(&token.token, "120", 120));
+    Ok(())
+}
+
+#[test]
+fn borrows_the_text_of_a_name(rt: HostRuntime) -> Result<(), Fail> {
+    let token = first(rt.alloc(), "a\u{e9} b")?;
+    assert!(rt; is_borrowed_name(&token.token, "a\u{e9}"));
     Ok(())
 }
 
