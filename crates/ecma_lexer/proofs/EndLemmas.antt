@@ -6,7 +6,7 @@ use Rattle.ecma_place.specs.Cursor.{Cursor, rest, place, passed}
 use Rattle.ecma_place.proofs.MoveLemmas.{place-passed, place-passed-le}
 use Rattle.ecma_token.specs.View.{SpannedView}
 use Rattle.ecma_scan.specs.Pieces.{spelled}
-use Rattle.ecma_scan.specs.Gaps.{gap_spelling, has_line_break, gap_cutter, elements_if}
+use Rattle.ecma_scan.specs.Blanks.{gap_spelling, has_line_break, gap_cutter, elements_if}
 use Rattle.ecma_scan.specs.declared.gap.GapMode.{GapMode}
 use Rattle.ecma_scan.proofs.PunctuatorLemmas.{passed-zero}
 use Rattle.ecma_lexer.specs.Mode.{gap_mode}

@@ -5,8 +5,8 @@ use Rattle.std.proofs.lemmas.List.Sums.{take_while-cons}
 use Rattle.ecma_place.specs.Text.{Text}
 use Rattle.ecma_place.specs.Character.{is_ident_start, is_ident_part}
 use Rattle.ecma_place.proofs.CharacterLemmas.{is_ident_start-is_ident_part}
-use Rattle.ecma_scan.specs.Numbers.{opens_number, is_decimal_digit}
-use Rattle.ecma_scan.specs.Words.{opens_word, word_spelling}
+use Rattle.ecma_scan.specs.DigitRuns.{opens_number, is_decimal_digit}
+use Rattle.ecma_scan.specs.PlainWords.{opens_word, word_spelling}
 use Rattle.ecma_scan.specs.Punctuators.{Punctuator, punctuator_in, spelling_in}
 use Rattle.ecma_scan.proofs.Fronts.{take_while-front}
 use Rattle.ecma_scan.proofs.NumberLemmas.{digit_run-some}

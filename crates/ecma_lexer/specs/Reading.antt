@@ -7,7 +7,7 @@ use Rattle.ecma_token.specs.declared.kind.TokenKind.TheVariants.{Error}
 use Rattle.ecma_token.specs.Kinds.{kind_of}
 use Rattle.ecma_token.specs.View.{TokenView, SpannedView}
 use Rattle.ecma_scan.specs.Found.{Fault, Scanned, fault_behind, token_behind, span_of}
-use Rattle.ecma_scan.specs.Gaps.{gap_spelling, has_line_break}
+use Rattle.ecma_scan.specs.Blanks.{gap_spelling, has_line_break}
 use Rattle.ecma_lexer.specs.Mode.{gap_mode}
 use Rattle.ecma_lexer.specs.TokenAt.{token_at, token_of}
 use Rattle.ecma_lexer.specs.declared.mode.Mode.{Mode}

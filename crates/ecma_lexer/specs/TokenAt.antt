@@ -6,8 +6,8 @@ use Rattle.ecma_token.specs.declared.token.Token as token
 use Rattle.ecma_token.specs.declared.error.SyntaxError.{UnexpectedChar}
 use Rattle.ecma_token.specs.View.{TokenView, ErrorView, plain, plain_token, error_token}
 use Rattle.ecma_scan.specs.Found.{Scanned, error_at}
-use Rattle.ecma_scan.specs.Numbers as numbers
-use Rattle.ecma_scan.specs.Words as words
+use Rattle.ecma_scan.specs.DigitRuns as numbers
+use Rattle.ecma_scan.specs.PlainWords as words
 use Rattle.ecma_scan.specs.Punctuators as punctuators
 use Rattle.ecma_lexer.specs.Mode.{type_mode}
 use Rattle.ecma_lexer.specs.declared.mode.Mode.{Mode}

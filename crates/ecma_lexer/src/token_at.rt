@@ -3,7 +3,7 @@ ghost use Rattle.std.specs.Prelude.{◌≡◌, true, Some, length, slice_get, is
 ghost use Rattle.ecma_place.specs.Cursor.{rest, place, passed};
 ghost use Rattle.ecma_token.specs.View.{token_view};
 ghost use Rattle.ecma_scan.specs.Found.{found_view, found_at, token_behind};
-ghost use Rattle.ecma_scan.specs.Words.{opens_word};
+ghost use Rattle.ecma_scan.specs.PlainWords.{opens_word};
 ghost use Rattle.ecma_lexer.specs.TokenAt as grammar;
 
 use crate::mode::Mode;

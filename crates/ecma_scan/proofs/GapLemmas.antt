@@ -6,7 +6,7 @@ use Rattle.ecma_place.specs.Text.{Text}
 use Rattle.ecma_place.specs.Character.{is_white_space}
 use Rattle.ecma_place.specs.Cursor.{Cursor, rest, passed}
 use Rattle.ecma_scan.specs.Pieces.{pieces, spelled}
-use Rattle.ecma_scan.specs.Gaps.{gap_cutter, gap_spelling}
+use Rattle.ecma_scan.specs.Blanks.{gap_cutter, gap_spelling}
 use Rattle.ecma_scan.specs.declared.gap.GapMode.{GapMode}
 use Rattle.ecma_scan.proofs.Fronts.{length-take_while}
 

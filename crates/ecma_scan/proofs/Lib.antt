@@ -1,5 +1,7 @@
+pub mod Agreement
 pub mod Fronts
 pub mod GapLemmas
 pub mod NumberLemmas
+pub mod PieceLemmas
 pub mod PunctuatorLemmas
 mod StringRows

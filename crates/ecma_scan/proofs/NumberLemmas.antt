@@ -7,7 +7,7 @@ use Rattle.std.proofs.lemmas.Str.Parse.{digit_from_value}
 use Rattle.std.proofs.lemmas.Bool.Decides.{nat_tests}
 use Rattle.std.proofs.lemmas.List.Sums.{take_while-cons}
 use Rattle.ecma_place.specs.Text.{Text}
-use Rattle.ecma_scan.specs.Numbers.{is_decimal_digit, opens_number, digit_run, whole_value}
+use Rattle.ecma_scan.specs.DigitRuns.{is_decimal_digit, opens_number, digit_run, whole_value}
 
 digit_bounds : (c : ℕ) → is_decimal_digit c ≡ true → (47 < c) × (c < 58)
 digit_bounds c h = (grind (arith, nat_tests), grind (arith, nat_tests))

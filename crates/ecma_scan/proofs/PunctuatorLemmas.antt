@@ -11,7 +11,8 @@ use Rattle.ecma_place.proofs.RunLemmas.{passed-later-by}
 use Rattle.ecma_token.specs.View.{token_view, plain_token}
 use Rattle.ecma_syntax.specs.declared.operator.BinOpToken.TheVariants as bin
 use Rattle.ecma_token.specs.declared.token.Token.{Token, BinOp}
-use Rattle.ecma_scan.specs.Punctuators.{Punctuator, spells, punctuators, begins_with, first_of, token_in, count_behind, spelling_in, is_lone, begins_more, angle, angle_in, alone_or, punctuator_in}
+use Rattle.ecma_scan.specs.Fronts.{begins_with}
+use Rattle.ecma_scan.specs.Punctuators.{Punctuator, spells, punctuators, first_of, token_in, count_behind, spelling_in, is_lone, begins_more, angle, angle_in, alone_or, punctuator_in}
 use Rattle.ecma_scan.specs.Found.{token_behind}
 
 pub passed-zero : (c : Cursor) → passed 0 c ≡ c

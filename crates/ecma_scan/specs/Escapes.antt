@@ -2,7 +2,6 @@
 -- 12.7): what is written of one, and its value or why it is refused. Which spans refusals have is our own choice.
 use Rattle.std.specs.Prelude.{ℕ, ◌+◌, Bool, false, not, ◌&&◌, ◌==◌, nat_lt, nat_le, List, [], ◌∷◌, ◌++◌, codes, length, take, drop, if◌then◌else◌}
 use Rattle.std.specs.Char.{is_digit}
-use Rattle.std.specs.List.{take_while, prefix_len}
 use Rattle.std.specs.Str.Parse.{digits_value}
 use Rattle.ecma_place.specs.Text.{Text}
 use Rattle.ecma_place.specs.Character.{is_line_terminator}
@@ -10,6 +9,7 @@ use Rattle.ecma_token.specs.View.{KindView, ErrorView, plain, bad_escape}
 use Rattle.ecma_token.specs.declared.error.SyntaxError.{InvalidIdentChar, LegacyOctal, InvalidUnicodeEscape, InvalidStrEscape, ExpectedUnicodeEscape}
 use Rattle.ecma_scan.specs.declared.found.Blame.TheVariants.{Always, Strict}
 use Rattle.ecma_scan.specs.Found.{Fault, error_over, error_at, span_of}
+use Rattle.ecma_scan.specs.Fronts.{front, after, next_is, next_passes}
 
 -- where an escape stands
 pub data Use : Type 0 where
@@ -31,15 +31,6 @@ is_octal_digit c = is_digit c 8
 
 abbrev pub is_surrogate : ℕ → Bool
 is_surrogate c = nat_le 0xD800 c && nat_le c 0xDFFF
-
--- the text begins with the character
-abbrev pub next_is : ℕ → Text → Bool
-next_is x [] = false
-next_is x (c ∷ cs) = c == x
-
-abbrev pub next_passes : (ℕ → Bool) → Text → Bool
-next_passes p [] = false
-next_passes p (c ∷ cs) = p c
 
 -- what the character behind a backslash begins
 pub data Opening : Type 0 where
@@ -83,7 +74,7 @@ hex_escape digits =
 -- Octal digits: one to three, while the value is below 256
 
 abbrev pub octal_front : Text → Text
-octal_front text = take_while is_octal_digit text
+octal_front text = front is_octal_digit text
 
 abbrev pub octal_digits : Text → Text
 octal_digits text =
@@ -142,12 +133,12 @@ braced_escape within (d ∷ ds) rest =
     else no_brace within (d ∷ ds))
 
 abbrev pub hex_front : Text → Text
-hex_front text = take_while is_hex_digit text
+hex_front text = front is_hex_digit text
 
 abbrev pub unicode_escape : Use → Text → Escape
 unicode_escape within text =
     if next_is 123 text
-    then braced_escape within (hex_front (drop 1 text)) (drop (prefix_len is_hex_digit (drop 1 text)) (drop 1 text))
+    then braced_escape within (hex_front (drop 1 text)) (after is_hex_digit (drop 1 text))
     else four_escape within (take 4 (hex_front text))
 
 -- Any escape

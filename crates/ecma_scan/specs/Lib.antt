@@ -1,11 +1,14 @@
+pub mod Blanks
+pub mod Cutters
+pub mod DigitRuns
 pub mod Escapes
 pub mod Found
-pub mod Gaps
-pub mod Numbers
+pub mod Fronts
+pub mod Locality
 pub mod Pieces
+pub mod PlainWords
 pub mod Punctuators
 pub mod Strings
-pub mod Words
 pub use Rattle.ecma_place.specs.Atom
 pub use Rattle.ecma_place.specs.Character
 pub use Rattle.ecma_place.specs.Cursor

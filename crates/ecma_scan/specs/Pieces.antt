@@ -1,5 +1,5 @@
 -- A text cut into pieces from the front on, as many as there are.
-use Rattle.std.specs.Prelude.{ℕ, zero, suc, ◌-◌, List, [], ◌∷◌, ◌++◌, length, Option, Some, None}
+use Rattle.std.specs.Prelude.{◌≡◌, ℕ, zero, suc, ◌-◌, List, [], ◌∷◌, ◌++◌, length, drop, Option, Some, None}
 use Rattle.ecma_place.specs.Text.{Text}
 
 -- Which piece begins a text in a state, what is written of it, and the state behind it.
@@ -28,3 +28,18 @@ pieces cutter s text = pieces_behind cutter s 0 text
 abbrev pub spelled : {S A : Type 0} → Cutter S A → List A → Text
 spelled cutter [] = []
 spelled cutter (piece ∷ more) = cutter.spelling piece ++ spelled cutter more
+
+-- the state behind the pieces
+abbrev pub state_behind : {S A : Type 0} → Cutter S A → S → List A → S
+state_behind cutter s [] = s
+state_behind cutter s (piece ∷ more) = state_behind cutter (cutter.next s piece) more
+
+-- what follows the pieces of a text
+abbrev pub remainder : {S A : Type 0} → Cutter S A → S → Text → Text
+remainder cutter s text = drop (length (spelled cutter (pieces cutter s text))) text
+
+-- The pieces of a text and what follows them are the text, and no piece begins what follows.
+abbrev pub Tiled : {S A : Type 0} → Cutter S A → S → Text → Type 0
+Tiled cutter s text =
+    (spelled cutter (pieces cutter s text) ++ remainder cutter s text ≡ text)
+    × (cutter.read (state_behind cutter s (pieces cutter s text)) (remainder cutter s text) ≡ None)

@@ -7,6 +7,7 @@ use Rattle.ecma_syntax.specs.declared.operator.AssignOp.TheVariants as assign
 use Rattle.ecma_token.specs.View.{TokenView, plain_token}
 use Rattle.ecma_token.specs.declared.token.Token.{Token, Arrow, At, Bang, Colon, Comma, Dot, DotDotDot, Hash, LBrace, LBracket, LParen, MinusMinus, PlusPlus, QuestionMark, RBrace, RBracket, RParen, Semi, Tilde, BinOp, AssignOp}
 use Rattle.ecma_scan.specs.Found.{Scanned, scanned}
+use Rattle.ecma_scan.specs.Fronts.{begins_with}
 
 -- a punctuator: how it is written, and its token
 pub record Punctuator : Type 0 where
@@ -77,12 +78,6 @@ punctuators =
     spells (codes "??=") (AssignOp assign.NullishAssign) ∷
     spells (codes "??") (BinOp bin.NullishCoalescing) ∷
     spells (codes "?") QuestionMark ∷ []
-
--- the text begins with these characters
-abbrev pub begins_with : Text → Text → Bool
-begins_with [] text = true
-begins_with (x ∷ xs) [] = false
-begins_with (x ∷ xs) (c ∷ cs) = (c == x) && begins_with xs cs
 
 -- the first of the list with which the text begins
 abbrev pub first_of : List Punctuator → Text → Option Punctuator

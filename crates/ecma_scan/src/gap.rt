@@ -3,7 +3,7 @@ ghost use Rattle.std.specs.Prelude.{◌≡◌, ◌||◌, [], length, map, IfOk, 
 ghost use Rattle.std.specs.List.{prefix_len, take_while, list_any};
 ghost use Rattle.ecma_place.specs.Cursor.{rest, place, passed};
 ghost use Rattle.ecma_place.specs.Character.{is_white_space, is_line_terminator};
-ghost use Rattle.ecma_scan.specs.Gaps as grammar;
+ghost use Rattle.ecma_scan.specs.Blanks as grammar;
 
 use crate::found::Blame;
 use ecma_place::character::is_white_space;

@@ -4,7 +4,7 @@ ghost use Rattle.std.specs.List.{prefix_len};
 ghost use Rattle.ecma_place.specs.Cursor.{rest, place, passed};
 ghost use Rattle.ecma_token.specs.View.{token_view};
 ghost use Rattle.ecma_scan.specs.Found.{found_view, found_at, token_behind};
-ghost use Rattle.ecma_scan.specs.Numbers as grammar;
+ghost use Rattle.ecma_scan.specs.DigitRuns as grammar;
 
 use crate::found::Found;
 use ecma_place::{Atom, Span, StringInput};

@@ -3,7 +3,8 @@ ghost use Rattle.std.specs.Prelude.{◌≡◌, ◌∷◌, [], true, false, Some,
 ghost use Rattle.ecma_place.specs.Cursor.{rest, place, passed};
 ghost use Rattle.ecma_scan.specs.Found.{found_view, found_at, token_behind};
 ghost use Rattle.ecma_scan.specs.Punctuators as grammar;
-ghost use Rattle.ecma_scan.specs.Punctuators.{begins_with, first_of, punctuators, token_in, spelling_in, count_behind, is_lone, begins_more, punctuator_in, angle_in, spells};
+ghost use Rattle.ecma_scan.specs.Fronts.{begins_with};
+ghost use Rattle.ecma_scan.specs.Punctuators.{first_of, punctuators, token_in, spelling_in, count_behind, is_lone, begins_more, punctuator_in, angle_in, spells};
 ghost use Rattle.ecma_place.specs.Text.{Text};
 ghost use Rattle.ecma_token.specs.View.{token_view};
 

@@ -4,7 +4,7 @@ ghost use Rattle.std.specs.List.{prefix_len};
 ghost use Rattle.ecma_place.specs.Character.{is_ident_part};
 ghost use Rattle.ecma_place.specs.Cursor.{rest, place, passed};
 ghost use Rattle.ecma_scan.specs.Found.{found_view, found_at, placeless};
-ghost use Rattle.ecma_scan.specs.Words as grammar;
+ghost use Rattle.ecma_scan.specs.PlainWords as grammar;
 ghost use Rattle.std.specs.Prelude.{encode_utf8_all};
 
 use crate::found::Found;

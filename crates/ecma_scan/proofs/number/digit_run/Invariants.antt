@@ -1,7 +1,7 @@
 use Rattle.std.proofs.Common.{◌≡◌, length}
 use Rattle.ecma_place.specs.Cursor.{rest, place}
 use Rattle.ecma_place.proofs.RunLemmas.{IsOnRun}
-use Rattle.ecma_scan.specs.Numbers.{is_decimal_digit}
+use Rattle.ecma_scan.specs.DigitRuns.{is_decimal_digit}
 use Rattle.ecma_scan.proofs.number.digit_run.Given as goal
 
 abbrev pub invariant-chars : goal.invariant-chars

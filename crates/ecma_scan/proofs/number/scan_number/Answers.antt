@@ -1,7 +1,7 @@
 use Rattle.std.proofs.Common.{◌≡◌, sym, ap, ◌∙◌, refl}
 use Rattle.ecma_place.specs.Cursor.{rest, passed}
 use Rattle.ecma_place.proofs.MoveLemmas.{place-passed-le, span-passed}
-use Rattle.ecma_scan.specs.Numbers.{digit_run, is_decimal_digit, whole_value}
+use Rattle.ecma_scan.specs.DigitRuns.{digit_run, is_decimal_digit, whole_value}
 use Rattle.ecma_scan.proofs.Fronts.{length-take_while, take_while-front}
 use Rattle.ecma_scan.proofs.NumberLemmas.{digit_run-bytes, digit_run-digits, digit_run-some, whole_value-parsed}
 use Rattle.ecma_scan.proofs.number.scan_number.Goals as goal

@@ -2,7 +2,7 @@ use Rattle.std.proofs.Common.{sym, ap, ◌∙◌, refl}
 use Rattle.ecma_place.specs.Character.{is_ident_part}
 use Rattle.ecma_place.specs.Cursor.{rest, passed}
 use Rattle.ecma_place.proofs.MoveLemmas.{place-passed-le, span-passed}
-use Rattle.ecma_scan.specs.Words.{word_spelling}
+use Rattle.ecma_scan.specs.PlainWords.{word_spelling}
 use Rattle.ecma_scan.proofs.Fronts.{length-take_while, take_while-front}
 use Rattle.ecma_scan.proofs.word.scan_word.Goals as goal
 
