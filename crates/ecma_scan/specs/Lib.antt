@@ -1,13 +1,17 @@
+pub mod Bars
 pub mod Blanks
+pub mod Comments
 pub mod Cutters
 pub mod DigitRuns
 pub mod Escapes
 pub mod Found
 pub mod Fronts
+pub mod Gaps
 pub mod Locality
 pub mod Pieces
 pub mod PlainWords
 pub mod Punctuators
+pub mod Shebangs
 pub mod Strings
 pub use Rattle.ecma_place.specs.Atom
 pub use Rattle.ecma_place.specs.Character
