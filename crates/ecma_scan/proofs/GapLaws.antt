@@ -159,7 +159,7 @@ not_true false h = refl
 cond_false : {A : Type 0} (b : Bool) (x y : A) → b ≡ false → cond b x y ≡ y
 cond_false b x y e = rw e
 
-cond_true : {A : Type 0} (b : Bool) (x y : A) → b ≡ true → cond b x y ≡ x
+pub cond_true : {A : Type 0} (b : Bool) (x y : A) → b ≡ true → cond b x y ≡ x
 cond_true b x y e = rw e
 
 and_none : (a b : Bool) → b ≡ false → (a && b) ≡ false

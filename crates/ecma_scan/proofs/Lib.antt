@@ -1,4 +1,6 @@
 pub mod Agreement
+pub mod BarsLaws
+pub mod CommentLaws
 mod CommentRows
 pub mod Fronts
 pub mod GapLaws
@@ -7,4 +9,5 @@ mod GapRows
 pub mod NumberLemmas
 pub mod PieceLemmas
 pub mod PunctuatorLemmas
+pub mod ShebangLaws
 mod StringRows
