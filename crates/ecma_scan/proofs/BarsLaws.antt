@@ -3,30 +3,25 @@ use Rattle.std.proofs.Common.{◌≡◌, true, [], ◌∷◌, ◌++◌, drop, le
 use Rattle.std.specs.Prelude.{codes}
 use Rattle.std.proofs.lemmas.List.{drop_at}
 use Rattle.ecma_place.specs.Text.{Text}
-use Rattle.ecma_scan.specs.declared.gap.GapMode.{GapMode}
 use Rattle.ecma_scan.specs.Bars.{common_element, common_cutter, opens_bars, behind_signs, behind_bars_line, bars_spelling, behind_bars, BarsTile}
 use Rattle.ecma_scan.specs.Cutters.{IsCutter}
 use Rattle.ecma_scan.specs.Fronts.{line}
-use Rattle.ecma_scan.specs.Gaps.{Element, gap_cutter}
+use Rattle.ecma_scan.specs.Gaps.{Element}
 use Rattle.ecma_scan.specs.Pieces.{pieces, spelled, remainder}
 use Rattle.ecma_scan.proofs.Fronts.{begins_with-front}
-use Rattle.ecma_scan.proofs.GapLaws.{line_front, common_front}
+use Rattle.ecma_scan.proofs.GapForms.{RuledIf, line_front, common_ruled, never_empty}
 use Rattle.ecma_scan.proofs.PieceLemmas.{FrontIf, is_cutter, tiling, maximal}
 
-as_common : (mode : GapMode) (o : Option Element) (text : Text) → FrontIf (gap_cutter mode) o text → FrontIf common_cutter o text
-as_common mode None text h = tt
-as_common mode (Some e) text h = h
-
--- no element behind bars asks for a mode
-abbrev some_mode : GapMode
-some_mode = record { first = true; type_mode = true; keeps_space = true; template = true; prev = None; collect = true }
+as_common : (o : Option Element) (text : Text) → RuledIf true true o text → FrontIf common_cutter o text
+as_common None text h = tt
+as_common (Some e) text h = ((h.0, h.1), never_empty e)
 
 pub common_is_cutter : IsCutter common_cutter
 common_is_cutter = is_cutter common_cutter (λ _ text. at text)
   where
     at : (text : Text) → FrontIf common_cutter (common_element text) text
     at [] = tt
-    at (c ∷ cs) = as_common some_mode (common_element (c ∷ cs)) (c ∷ cs) (common_front some_mode c cs None tt)
+    at (c ∷ cs) = as_common (common_element (c ∷ cs)) (c ∷ cs) (common_ruled true true c cs None tt)
 
 signs_front : (text : Text) → opens_bars text ≡ true → codes "|||||||" ++ behind_signs text ≡ text
 signs_front text h = ap (λ l. codes "|||||||" ++ drop 7 l) (sym (begins_with-front (codes "||||||| ") text h)) ∙ begins_with-front (codes "||||||| ") text h

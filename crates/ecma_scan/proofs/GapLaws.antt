@@ -12,81 +12,8 @@ use Rattle.ecma_scan.specs.Cutters.{IsCutter}
 use Rattle.ecma_scan.specs.Fronts.{in_line, line, behind_line, begins_with, next_is}
 use Rattle.ecma_scan.specs.Pieces.{pieces, spelled, state_behind}
 use Rattle.ecma_scan.specs.Gaps.{Element, Blank, LineComment, BlockComment, OpenComment, HtmlOpening, HtmlClosing, Marker, element_text, comment_body, block_of, is_marker, marker, flagged_element, special_element, common_or, element, flag_behind, gap_cutter, elements, elements_if, elements_under, gap, gap_spelling, behind_gap, has_line_break, is_inert, GapTiles, GapIsFront, FlagIsBehind, CommentBodyIsFirst, NoElement, NothingIsTheGap, SpaceIsTheGap, LineFeedIsTheGap}
-use Rattle.ecma_scan.proofs.Fronts.{front_after, begins_with-front}
+use Rattle.ecma_scan.proofs.GapForms.{cond_true, cond_false, gap_is_cutter}
 use Rattle.ecma_scan.proofs.PieceLemmas.{FrontIf, is_cutter, pieces_more, pieces_none, tiling, maximal}
-
--- What is read is a front of the text
-
-pub line_front : (text : Text) → line text ++ behind_line text ≡ text
-line_front text = front_after in_line text
-
--- a spelling and a line, at a text that begins with the spelling
-pub spelled_line : (needle text : Text) → begins_with needle text ≡ true → (rest : Text) × ((needle ++ line (drop (length needle) text)) ++ rest ≡ text)
-spelled_line needle text e =
-    (behind_line (drop (length needle) text), rw append_assoc (ap (λ l. needle ++ l) (line_front (drop (length needle) text)) ∙ begins_with-front needle text e))
-
--- the body of a comment that ends, and what follows
-abbrev pub BodyFront : Option Text → Text → Type 0
-BodyFront None text = ⊤
-BodyFront (Some body) text = (rest : Text) × (body ++ (codes "*/" ++ rest) ≡ text)
-
-pub body_front : (text : Text) → BodyFront (comment_body text) text
-body_front [] = tt
-body_front (c ∷ cs) = go (begins_with (codes "*/") (c ∷ cs)) (comment_body cs) refl (body_front cs)
-  where
-    go : (x : Bool) (o : Option Text) → begins_with (codes "*/") (c ∷ cs) ≡ x → BodyFront o cs
-        → BodyFront (cond x (Some []) (option_map (λ body. c ∷ body) o)) (c ∷ cs)
-    go true o e h = (drop 2 (c ∷ cs), begins_with-front (codes "*/") (c ∷ cs) e)
-    go false (Some body) e h = (h.0, ap (λ l. c ∷ l) h.1)
-    go false None e h = tt
-
-block_front : (mode : GapMode) (text : Text) → begins_with (codes "/*") text ≡ true → FrontIf (gap_cutter mode) (Some (block_of (comment_body (drop 2 text)) (drop 2 text))) text
-block_front mode text e = go (comment_body (drop 2 text)) (body_front (drop 2 text))
-  where
-    whole : codes "/*" ++ drop 2 text ≡ text
-    whole = begins_with-front (codes "/*") text e
-
-    go : (o : Option Text) → BodyFront o (drop 2 text) → FrontIf (gap_cutter mode) (Some (block_of o (drop 2 text))) text
-    go (Some body) h = ((h.0, ap (λ l. codes "/*" ++ l) (append_assoc body (codes "*/") h.0 ∙ h.1) ∙ whole), omega arith)
-    go None h = (([], ap (λ l. codes "/*" ++ l) (append-nil (drop 2 text)) ∙ whole), omega arith)
-
-marker_front : (mode : GapMode) (text : Text) → FrontIf (gap_cutter mode) (marker mode.type_mode text) text
-marker_front mode [] = tt
-marker_front mode (c ∷ cs) = go (is_marker mode.type_mode c (c ∷ cs)) refl
-  where
-    go : (x : Bool) → is_marker mode.type_mode c (c ∷ cs) ≡ x → FrontIf (gap_cutter mode) (marker mode.type_mode (c ∷ cs)) (c ∷ cs)
-    go true e =
-        let begins = and_parts (begins_with (replicate 7 c) (c ∷ cs)) (c == 61 || (((c == 60 || c == 62) && not mode.type_mode) && next_is 32 (drop 7 (c ∷ cs)))) e in
-        rw e (spelled_line (replicate 7 c) (c ∷ cs) begins.0, omega arith)
-    go false e = rw e tt
-
-special_front : (mode : GapMode) (flag : Bool) (text : Text) → FrontIf (gap_cutter mode) (special_element mode.type_mode flag text) text
-special_front mode flag text = go (begins_with (codes "<!--") text && not mode.type_mode) flag (begins_with (codes "-->") text) refl refl (marker_front mode text)
-  where
-    go : (x y z : Bool) → (begins_with (codes "<!--") text && not mode.type_mode) ≡ x → begins_with (codes "-->") text ≡ z → FrontIf (gap_cutter mode) (marker mode.type_mode text) text
-        → FrontIf (gap_cutter mode) (cond x (Some (HtmlOpening (line (drop 4 text)))) (cond y (cond z (Some (HtmlClosing (line (drop 3 text)))) (marker mode.type_mode text)) None)) text
-    go true y z e f h = (spelled_line (codes "<!--") text (and_parts (begins_with (codes "<!--") text) (not mode.type_mode) e).0, omega arith)
-    go false true true e f h = (spelled_line (codes "-->") text f, omega arith)
-    go false true false e f h = h
-    go false false z e f h = tt
-
--- white space and comments are fronts, and so is what is read else
-pub common_front : (mode : GapMode) (c : ℕ) (cs : Text) (otherwise : Option Element) → FrontIf (gap_cutter mode) otherwise (c ∷ cs) → FrontIf (gap_cutter mode) (common_or c cs otherwise) (c ∷ cs)
-common_front mode c cs otherwise h = go (is_white_space c) (begins_with (codes "//") (c ∷ cs)) (begins_with (codes "/*") (c ∷ cs)) refl refl
-  where
-    go : (x y z : Bool) → begins_with (codes "//") (c ∷ cs) ≡ y → begins_with (codes "/*") (c ∷ cs) ≡ z
-        → FrontIf (gap_cutter mode) (cond x (Some (Blank c)) (cond y (Some (LineComment (line (drop 1 cs)))) (cond z (Some (block_of (comment_body (drop 1 cs)) (drop 1 cs))) otherwise))) (c ∷ cs)
-    go true y z e f = ((cs, refl), omega arith)
-    go false true z e f = (spelled_line (codes "//") (c ∷ cs) e, omega arith)
-    go false false true e f = block_front mode (c ∷ cs) f
-    go false false false e f = h
-
-element_front : (mode : GapMode) (flag : Bool) (text : Text) → FrontIf (gap_cutter mode) (element mode flag text) text
-element_front mode flag [] = tt
-element_front mode flag (c ∷ cs) = common_front mode c cs (special_element mode.type_mode flag (c ∷ cs)) (special_front mode flag (c ∷ cs))
-
-pub gap_is_cutter : (mode : GapMode) → IsCutter (gap_cutter mode)
-gap_is_cutter mode = is_cutter (gap_cutter mode) (element_front mode)
 
 pub gap_tiles : GapTiles
 gap_tiles mode text = (tiling (gap_cutter mode) (gap_is_cutter mode) mode.first text, maximal (gap_cutter mode) (gap_is_cutter mode) mode.first text)
@@ -125,26 +52,6 @@ state_is_flag mode flag (e ∷ es) =
 pub flag_is_behind : FlagIsBehind
 flag_is_behind mode text = state_is_flag mode mode.first (gap mode text)
 
--- the first `*/`
-pub comment_body_is_first : CommentBodyIsFirst
-comment_body_is_first [] behind = ([], behind, refl, refl, omega arith)
-comment_body_is_first (c ∷ cs) behind = go (begins_with (codes "*/") text) refl (comment_body_is_first cs behind)
-  where
-    more : Text
-    more = cs ++ (codes "*/" ++ behind)
-
-    text : Text
-    text = c ∷ more
-
-    go : (x : Bool) → begins_with (codes "*/") text ≡ x
-        → ((body rest : Text) × (comment_body more ≡ Some body) × (body ++ (codes "*/" ++ rest) ≡ more) × (length body ≤ length cs))
-        → (body rest : Text)
-        × (cond x (Some []) (option_map (λ body. c ∷ body) (comment_body more)) ≡ Some body)
-        × (body ++ (codes "*/" ++ rest) ≡ text)
-        × (length body ≤ length (c ∷ cs))
-    go true e h = ([], drop 2 text, refl, begins_with-front (codes "*/") text e, omega arith)
-    go false e (body, rest, is, spells, less) = (c ∷ body, rest, ap (option_map (λ body. c ∷ body)) is, ap (λ l. c ∷ l) spells, omega (arith, less))
-
 -- What begins no element
 
 not_or : (a b : Bool) → not (a || b) ≡ true → (not a ≡ true) × (b ≡ false)
@@ -155,12 +62,6 @@ not_or false false h = (refl, refl)
 not_true : (a : Bool) → not a ≡ true → a ≡ false
 not_true true h = cc
 not_true false h = refl
-
-cond_false : {A : Type 0} (b : Bool) (x y : A) → b ≡ false → cond b x y ≡ y
-cond_false b x y e = rw e
-
-pub cond_true : {A : Type 0} (b : Bool) (x y : A) → b ≡ true → cond b x y ≡ x
-cond_true b x y e = rw e
 
 and_none : (a b : Bool) → b ≡ false → (a && b) ≡ false
 and_none true b e = e

@@ -7,7 +7,7 @@ use Rattle.ecma_scan.specs.Fronts.{in_line, line, behind_line, next_passes, begi
 use Rattle.ecma_scan.specs.Locality.{ends_line}
 use Rattle.ecma_scan.specs.Shebangs.{opens_shebang, found_shebang, shebang, ShebangIsLocal}
 use Rattle.ecma_scan.proofs.Fronts.{front_all, front_run}
-use Rattle.ecma_scan.proofs.GapLaws.{cond_true}
+use Rattle.ecma_scan.proofs.GapForms.{cond_true}
 
 feed_ends_line : in_line 10 ≡ false
 unfolding is_line_terminator

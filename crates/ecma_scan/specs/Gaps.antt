@@ -1,7 +1,7 @@
 -- Gaps (ECMA-262 WhiteSpace, LineTerminator and Comment, 12.2 to 12.4; HTML-like comments, Annex B.1.1): what stands
 -- before a token. Conflict markers, and which spans faults have, are our own choice.
 use Rattle.std.specs.Prelude.{◌≡◌, ◌≤◌, ℕ, ◌+◌, Bool, true, false, not, ◌&&◌, ◌||◌, ◌==◌, List, [], ◌∷◌, ◌++◌, codes, replicate, length, drop, Option, Some, None, option_map, if◌then◌else◌}
-use Rattle.std.specs.List.{list_any}
+use Rattle.std.specs.List.{list_any, list_all}
 use Rattle.ecma_place.specs.Text.{Text, byte_len}
 use Rattle.ecma_place.specs.Character.{is_white_space, is_line_terminator}
 use Rattle.ecma_token.specs.View.{plain}
@@ -10,8 +10,8 @@ use Rattle.ecma_scan.specs.declared.found.Blame.{Blame}
 use Rattle.ecma_scan.specs.declared.found.Blame.TheVariants.{Always, Module}
 use Rattle.ecma_scan.specs.declared.gap.GapMode.{GapMode}
 use Rattle.ecma_scan.specs.Found.{Fault, span_of}
-use Rattle.ecma_scan.specs.Fronts.{line, begins_with, next_is}
-use Rattle.ecma_scan.specs.Pieces.{Cutter, pieces, spelled, state_behind, Tiled}
+use Rattle.ecma_scan.specs.Fronts.{in_line, line, begins_with, next_is, next_passes}
+use Rattle.ecma_scan.specs.Pieces.{Cutter, pieces, spelled, state_behind, remainder, Tiled}
 
 -- an element of a gap
 pub data Element : Type 0 where
@@ -52,10 +52,13 @@ abbrev pub block_of : Option Text → Text → Element
 block_of (Some body) text = BlockComment body
 block_of None text = OpenComment text
 
--- the text begins with seven `=`, or outside of types with seven `<` or `>` and a space
+-- which characters make a marker, and before what: `=`, and outside of types `<` and `>` before a space
+abbrev pub marks : Bool → ℕ → Text → Bool
+marks type_mode c text = c == 61 || (((c == 60 || c == 62) && not type_mode) && next_is 32 text)
+
+-- the text begins with a marker of this character
 abbrev pub is_marker : Bool → ℕ → Text → Bool
-is_marker type_mode c text =
-    begins_with (replicate 7 c) text && (c == 61 || (((c == 60 || c == 62) && not type_mode) && next_is 32 (drop 7 text)))
+is_marker type_mode c text = begins_with (replicate 7 c) text && marks type_mode c (drop 7 text)
 
 abbrev pub marker : Bool → Text → Option Element
 marker type_mode [] = None
@@ -188,7 +191,43 @@ gap_faults mode text = faults_of None 0 (gap mode text)
 abbrev pub is_inert : ℕ → Bool
 is_inert c = not (((((is_white_space c || c == 47) || c == 60) || c == 45) || c == 61) || c == 62)
 
+-- The same by rules, one for each element
+
+-- characters that are no line terminators, as many as there are before the rest
+abbrev pub IsLine : Text → Text → Type 0
+IsLine line rest = (list_all in_line line ≡ true) × (next_passes in_line rest ≡ false)
+
+-- the text holds `*/` at its end at most
+abbrev pub HoldsEndAtEnd : Text → Type 0
+HoldsEndAtEnd text = (before behind : Text) → text ≡ before ++ (codes "*/" ++ behind) → behind ≡ []
+
+abbrev pub HoldsNoEnd : Text → Type 0
+HoldsNoEnd text = (before behind : Text) → text ≡ before ++ (codes "*/" ++ behind) → ⊥
+
+-- what makes a text an element before the rest, where the flag stands or not
+abbrev pub IsElement : Bool → Bool → Element → Text → Type 0
+IsElement type_mode flag (Blank c) rest = is_white_space c ≡ true
+IsElement type_mode flag (LineComment line) rest = IsLine line rest
+IsElement type_mode flag (BlockComment body) rest = HoldsEndAtEnd (body ++ codes "*/")
+IsElement type_mode flag (OpenComment body) rest = HoldsNoEnd body × (rest ≡ [])
+IsElement type_mode flag (HtmlOpening line) rest = (type_mode ≡ false) × IsLine line rest
+IsElement type_mode flag (HtmlClosing line) rest = (flag ≡ true) × IsLine line rest
+IsElement type_mode flag (Marker c line) rest = (flag ≡ true) × (marks type_mode c line ≡ true) × IsLine line rest
+
+-- elements in a row before the rest, behind which no element stands
+abbrev pub AreElements : GapMode → Bool → List Element → Text → Type 0
+AreElements mode flag [] rest = (e : Element) (more : Text) → rest ≡ element_text e ++ more → IsElement mode.type_mode flag e more → ⊥
+AreElements mode flag (e ∷ es) rest =
+    IsElement mode.type_mode flag e (spelled (gap_cutter mode) es ++ rest) × AreElements mode (flag_behind flag e) es rest
+
 -- Laws
+
+-- The elements of a text are as the rules say, and are the only ones that are so.
+abbrev pub ElementsAreRuled : Type 0
+ElementsAreRuled =
+    (mode : GapMode) (text : Text)
+    → AreElements mode mode.first (elements mode text) (remainder (gap_cutter mode) mode.first text)
+    × ((es : List Element) (rest : Text) → AreElements mode mode.first es rest → elements mode (spelled (gap_cutter mode) es ++ rest) ≡ es)
 
 -- The elements and what follows them are the text, and no element begins what follows.
 abbrev pub GapTiles : Type 0
