@@ -132,6 +132,10 @@ no_opening_in_types : read types (codes "<!--y") ≡ ([], [], false, codes "<!--
 unfolding is_white_space is_line_terminator encode
 no_opening_in_types = refl
 
+closing_in_types : read types (codes "\n-->x") ≡ (Blank 10 ∷ HtmlClosing (codes "x") ∷ [], fault_between Module LegacyCommentInModule 1 4 ∷ [], true, [])
+unfolding is_white_space is_line_terminator encode
+closing_in_types = refl
+
 -- the fault of an opening comes after that of the block comment behind it
 late_fault : read later (codes "<!--y\n/*z")
     ≡ (HtmlOpening (codes "y") ∷ Blank 10 ∷ OpenComment (codes "z") ∷ [], fault_between Always UnterminatedBlockComment 6 9 ∷ fault_between Module LegacyCommentInModule 0 9 ∷ [], true, [])

@@ -3,6 +3,7 @@ pub mod BarsLaws
 pub mod CommentLaws
 mod CommentRows
 pub mod Fronts
+pub mod GapFaults
 pub mod GapForms
 pub mod GapLaws
 pub mod GapLemmas

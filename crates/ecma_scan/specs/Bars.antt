@@ -40,12 +40,15 @@ bars_spelling text = spelled common_cutter (bars_elements text)
 abbrev pub behind_bars : Text → Text
 behind_bars text = drop (length (bars_spelling text)) text
 
--- the error lies over the bars, and is the first of the faults
+-- the error lies over the bars, and is the first of the faults; both are counted from the first bar
 abbrev pub bars_error : ErrorView
 bars_error = error_over (plain TS1185) 7
 
+abbrev pub bars_faults_at : ℕ → Text → List Fault
+bars_faults_at n text = faults_of None n (bars_elements text)
+
 abbrev pub bars_faults : Text → List Fault
-bars_faults text = faults_of None 0 (bars_elements text)
+bars_faults text = bars_faults_at 0 text
 
 -- the comments of the bars with which a text at the place n begins: the flag stands, so all are for the token of the
 -- bars but block comments before a semicolon

@@ -1,6 +1,6 @@
 -- Gaps (ECMA-262 WhiteSpace, LineTerminator and Comment, 12.2 to 12.4; HTML-like comments, Annex B.1.1): what stands
 -- before a token. Conflict markers, and which spans faults have, are our own choice.
-use Rattle.std.specs.Prelude.{◌≡◌, ◌≤◌, ℕ, ◌+◌, Bool, true, false, not, ◌&&◌, ◌||◌, ◌==◌, List, [], ◌∷◌, ◌++◌, codes, replicate, length, drop, Option, Some, None, option_map, if◌then◌else◌}
+use Rattle.std.specs.Prelude.{◌≡◌, ◌≤◌, ℕ, ◌+◌, Bool, true, false, not, ◌&&◌, ◌||◌, ◌==◌, List, [], ◌∷◌, ◌++◌, map, codes, replicate, length, drop, Option, Some, None, option_map, if◌then◌else◌}
 use Rattle.std.specs.List.{list_any, list_all}
 use Rattle.ecma_place.specs.Text.{Text, byte_len}
 use Rattle.ecma_place.specs.Character.{is_white_space, is_line_terminator}
@@ -9,7 +9,7 @@ use Rattle.ecma_token.specs.declared.error.SyntaxError.{SyntaxError, Unterminate
 use Rattle.ecma_scan.specs.declared.found.Blame.{Blame}
 use Rattle.ecma_scan.specs.declared.found.Blame.TheVariants.{Always, Module}
 use Rattle.ecma_scan.specs.declared.gap.GapMode.{GapMode}
-use Rattle.ecma_scan.specs.Found.{Fault, span_of}
+use Rattle.ecma_scan.specs.Found.{Fault, span_of, fault_behind}
 use Rattle.ecma_scan.specs.Fronts.{in_line, line, begins_with, next_is, next_passes}
 use Rattle.ecma_scan.specs.Pieces.{Cutter, pieces, spelled, state_behind, remainder, Tiled}
 
@@ -183,9 +183,13 @@ faults_of pending n (e ∷ es) =
     (if is_common e then [] else pending_fault pending n)
     ++ (element_faults n e ++ faults_of (pending_behind pending n e) (end_of n e) es)
 
--- the faults of the gap, counted from its first byte
+-- the faults of the gap with which a text at the place n begins
+abbrev pub gap_faults_at : ℕ → GapMode → Text → List Fault
+gap_faults_at n mode text = faults_of None n (gap mode text)
+
+-- the same, counted from the gap's first byte
 abbrev pub gap_faults : GapMode → Text → List Fault
-gap_faults mode text = faults_of None 0 (gap mode text)
+gap_faults mode text = gap_faults_at 0 mode text
 
 -- a character with which no element begins, whatever follows
 abbrev pub is_inert : ℕ → Bool
@@ -268,3 +272,7 @@ abbrev pub LineFeedIsTheGap : Type 0
 LineFeedIsTheGap =
     (mode : GapMode) (text : Text) → mode.template ≡ false → mode.keeps_space ≡ false → element mode true text ≡ None
     → (gap mode (10 ∷ text) ≡ Blank 10 ∷ []) × (has_line_break mode (10 ∷ text) ≡ true)
+
+-- The faults of a gap are the same wherever it stands.
+abbrev pub GapFaultsMove : Type 0
+GapFaultsMove = (n : ℕ) (mode : GapMode) (text : Text) → map (fault_behind n) (gap_faults mode text) ≡ gap_faults_at n mode text
