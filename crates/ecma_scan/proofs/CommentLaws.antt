@@ -1,17 +1,14 @@
 -- What follows a comment, and where the comments of a gap lie.
 use Rattle.std.proofs.Common.{◌≡◌, ◌≤◌, ℕ, ◌+◌, Bool, true, false, not, cond, ◌&&◌, ◌||◌, ◌==◌, List, [], ◌∷◌, ◌++◌, drop, length, replicate, Option, Some, None, refl, ap, ◌∙◌, sym, subst, eqb-true, append_assoc, arith}
 use Rattle.std.specs.Prelude.{codes}
-use Rattle.std.specs.List.{list_all}
 use Rattle.std.proofs.lemmas.Str.{length-le-encodes}
 use Rattle.ecma_place.specs.Text.{Text, byte_len}
 use Rattle.ecma_place.specs.Character.{is_white_space, is_line_terminator}
 use Rattle.ecma_place.specs.declared.comment.Comment.{Comment}
-use Rattle.ecma_place.specs.declared.comment.CommentKind.TheVariants.{Line, Block}
 use Rattle.ecma_place.proofs.MoveLemmas.{byte_len-append}
 use Rattle.ecma_token.specs.declared.kind.TokenKind.{TokenKind}
 use Rattle.ecma_scan.specs.declared.gap.GapMode.{GapMode}
-use Rattle.ecma_scan.specs.Comments.{marker_margin, comment_of, semicolon_follows, paired, behind_element, comments_of, collected, comments_at, LieBetween, is_blank, SemicolonFollows, CommentsLieInOrder}
-use Rattle.ecma_scan.specs.Cutters.{ReadsInOrder}
+use Rattle.ecma_scan.specs.Comments.{marker_margin, comment_of, semicolon_follows, paired, behind_element, comments_of, collected, LieBetween, is_blank, SemicolonFollows, CommentsLieInOrder}
 use Rattle.ecma_scan.specs.Fronts.{after, next_is, line, begins_with}
 use Rattle.ecma_scan.specs.Gaps.{Element, Blank, LineComment, BlockComment, OpenComment, HtmlOpening, HtmlClosing, Marker, element_text, comment_body, block_of, is_marker, element, flag_behind, end_of, gap_cutter, gap, gap_spelling, is_inert}
 use Rattle.ecma_scan.specs.Pieces.{spelled}

@@ -10,7 +10,7 @@ use Rattle.ecma_place.specs.declared.comment.CommentKind.TheVariants.{Line, Bloc
 use Rattle.ecma_syntax.specs.declared.operator.BinOpToken.TheVariants.{Add}
 use Rattle.ecma_syntax.specs.declared.word.IdentKind.TheVariants.{Other}
 use Rattle.ecma_syntax.specs.declared.word.WordKind.TheVariants.{Ident, Null}
-use Rattle.ecma_token.specs.View.{TokenView, plain_token}
+use Rattle.ecma_token.specs.View.{plain_token}
 use Rattle.ecma_token.specs.declared.error.SyntaxError.{UnterminatedBlockComment, TS1185}
 use Rattle.ecma_token.specs.declared.kind.TokenKind.{TokenKind}
 use Rattle.ecma_token.specs.declared.kind.TokenKind.TheVariants as kind

@@ -1,15 +1,14 @@
 -- The elements of a gap by rules: what is read is as they say, and what they say is read.
-use Rattle.std.proofs.Common.{◌≡◌, ◌≤◌, ◌<◌, zero, suc, ℕ, ◌+◌, ◌-◌, Bool, true, false, not, cond, ◌&&◌, ◌||◌, ◌==◌, List, [], ◌∷◌, ◌++◌, drop, length, Option, Some, None, refl, ap, ◌∙◌, sym, subst, append_assoc, append-nil, length-append, arith, eqb-true}
+use Rattle.std.proofs.Common.{◌≡◌, ◌≤◌, ◌<◌, ℕ, Bool, true, false, not, cond, ◌&&◌, ◌||◌, ◌==◌, List, [], ◌∷◌, ◌++◌, drop, length, Option, Some, None, refl, ap, ◌∙◌, sym, subst, append_assoc, append-nil, length-append, arith, eqb-true}
 use Rattle.std.specs.Prelude.{⊤, codes, replicate, option_map}
-use Rattle.std.specs.List.{list_all}
 use Rattle.std.proofs.lemmas.Bool.{and_parts}
 use Rattle.ecma_place.specs.Text.{Text}
 use Rattle.ecma_place.specs.Character.{is_white_space, is_line_terminator}
 use Rattle.ecma_scan.specs.declared.gap.GapMode.{GapMode}
 use Rattle.ecma_scan.specs.Cutters.{IsCutter, ReadsInOrder}
 use Rattle.ecma_scan.specs.Fronts.{front, after, in_line, line, behind_line, begins_with, next_is, next_passes}
-use Rattle.ecma_scan.specs.Pieces.{pieces, spelled, remainder}
-use Rattle.ecma_scan.specs.Gaps.{Element, Blank, LineComment, BlockComment, OpenComment, HtmlOpening, HtmlClosing, Marker, element_text, comment_body, block_of, marks, is_marker, marker, flagged_element, special_element, common_or, element, flag_behind, gap_cutter, IsLine, HoldsEndAtEnd, HoldsNoEnd, IsElement, AreElements, CommentBodyIsFirst, ElementsAreRuled}
+use Rattle.ecma_scan.specs.Pieces.{pieces, spelled}
+use Rattle.ecma_scan.specs.Gaps.{Element, Blank, LineComment, BlockComment, OpenComment, HtmlOpening, HtmlClosing, Marker, element_text, comment_body, block_of, marks, is_marker, marker, special_element, common_or, element, flag_behind, gap_cutter, IsLine, HoldsEndAtEnd, HoldsNoEnd, IsElement, AreElements, CommentBodyIsFirst, ElementsAreRuled}
 use Rattle.ecma_scan.proofs.Fronts.{front_after, front_all, front_run, begins_with-front}
 use Rattle.ecma_scan.proofs.PieceLemmas.{FrontIf, is_cutter, pieces_in_order, cut, remainder_is}
 

@@ -1,19 +1,17 @@
 -- The elements of a gap and what follows them tile the text.
-use Rattle.std.proofs.Common.{◌≡◌, ◌≤◌, ℕ, ◌+◌, Bool, true, false, not, cond, ◌&&◌, ◌||◌, ◌==◌, List, [], ◌∷◌, ◌++◌, drop, length, Option, Some, None, refl, ap, ◌∙◌, sym, append_assoc, append-nil, arith, eqb-true}
-use Rattle.std.specs.Prelude.{⊤, codes, replicate, option_map}
+use Rattle.std.proofs.Common.{◌≡◌, ℕ, Bool, true, false, not, cond, ◌&&◌, ◌||◌, ◌==◌, List, [], ◌∷◌, ◌++◌, drop, length, Option, Some, None, refl, ap, ◌∙◌, sym}
+use Rattle.std.specs.Prelude.{codes, replicate}
 use Rattle.std.specs.List.{list_any}
 use Rattle.std.proofs.Math.Bool.{or_assoc}
-use Rattle.std.proofs.lemmas.Bool.{and_parts}
 use Rattle.std.proofs.lemmas.List.Folds.{list_any-append}
 use Rattle.ecma_place.specs.Text.{Text}
 use Rattle.ecma_place.specs.Character.{is_white_space, is_line_terminator}
 use Rattle.ecma_scan.specs.declared.gap.GapMode.{GapMode}
-use Rattle.ecma_scan.specs.Cutters.{IsCutter}
-use Rattle.ecma_scan.specs.Fronts.{in_line, line, behind_line, begins_with, next_is}
-use Rattle.ecma_scan.specs.Pieces.{pieces, spelled, state_behind}
-use Rattle.ecma_scan.specs.Gaps.{Element, Blank, LineComment, BlockComment, OpenComment, HtmlOpening, HtmlClosing, Marker, element_text, comment_body, block_of, is_marker, marker, flagged_element, special_element, common_or, element, flag_behind, gap_cutter, elements, elements_if, elements_under, gap, gap_spelling, behind_gap, has_line_break, is_inert, GapTiles, GapIsFront, FlagIsBehind, CommentBodyIsFirst, NoElement, NothingIsTheGap, SpaceIsTheGap, LineFeedIsTheGap}
+use Rattle.ecma_scan.specs.Fronts.{line, begins_with, next_is}
+use Rattle.ecma_scan.specs.Pieces.{spelled, state_behind}
+use Rattle.ecma_scan.specs.Gaps.{Element, Blank, Marker, element_text, is_marker, marker, flagged_element, special_element, element, flag_behind, gap_cutter, elements, elements_if, elements_under, gap, GapTiles, GapIsFront, FlagIsBehind, NoElement, NothingIsTheGap, SpaceIsTheGap, LineFeedIsTheGap}
 use Rattle.ecma_scan.proofs.GapForms.{cond_true, cond_false, gap_is_cutter}
-use Rattle.ecma_scan.proofs.PieceLemmas.{FrontIf, is_cutter, pieces_more, pieces_none, tiling, maximal}
+use Rattle.ecma_scan.proofs.PieceLemmas.{pieces_more, pieces_none, tiling, maximal}
 
 pub gap_tiles : GapTiles
 gap_tiles mode text = (tiling (gap_cutter mode) (gap_is_cutter mode) mode.first text, maximal (gap_cutter mode) (gap_is_cutter mode) mode.first text)

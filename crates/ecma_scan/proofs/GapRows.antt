@@ -1,10 +1,9 @@
 -- Gaps that were read by hand.
-use Rattle.std.proofs.Common.{◌≡◌, ℕ, List, [], ◌∷◌, ◌++◌, Bool, true, false, Option, None, refl}
+use Rattle.std.proofs.Common.{◌≡◌, List, [], ◌∷◌, ◌++◌, Bool, true, false, None, refl}
 use Rattle.std.specs.Prelude.{codes, replicate}
 use Rattle.ecma_place.specs.Text.{Text}
 use Rattle.ecma_place.specs.Character.{is_white_space, is_line_terminator}
-use Rattle.ecma_token.specs.declared.error.SyntaxError.{SyntaxError, UnterminatedBlockComment, LegacyCommentInModule, TS1185}
-use Rattle.ecma_scan.specs.declared.found.Blame.{Blame}
+use Rattle.ecma_token.specs.declared.error.SyntaxError.{UnterminatedBlockComment, LegacyCommentInModule, TS1185}
 use Rattle.ecma_scan.specs.declared.found.Blame.TheVariants.{Always, Module}
 use Rattle.ecma_scan.specs.declared.gap.GapMode.{GapMode}
 use Rattle.ecma_scan.specs.Found.{Fault}

@@ -1,11 +1,11 @@
 -- A shebang is read the same in front of a line feed and at the end.
-use Rattle.std.proofs.Common.{◌≡◌, ℕ, Bool, true, false, not, cond, [], ◌∷◌, ◌++◌, drop, Some, None, refl, ap, ◌∙◌, sym, eqb-true, append_assoc}
+use Rattle.std.proofs.Common.{◌≡◌, true, false, [], ◌∷◌, ◌++◌, drop, refl, ap, ◌∙◌, sym, eqb-true}
 use Rattle.std.specs.Prelude.{codes}
 use Rattle.ecma_place.specs.Text.{Text}
 use Rattle.ecma_place.specs.Character.{is_line_terminator}
-use Rattle.ecma_scan.specs.Fronts.{in_line, line, behind_line, next_passes, begins_with}
+use Rattle.ecma_scan.specs.Fronts.{in_line, line, next_passes}
 use Rattle.ecma_scan.specs.Locality.{ends_line}
-use Rattle.ecma_scan.specs.Shebangs.{opens_shebang, found_shebang, shebang, ShebangIsLocal}
+use Rattle.ecma_scan.specs.Shebangs.{found_shebang, shebang, ShebangIsLocal}
 use Rattle.ecma_scan.proofs.Fronts.{front_all, front_run}
 use Rattle.ecma_scan.proofs.GapForms.{cond_true}
 

@@ -1,5 +1,5 @@
 -- Shebangs (ECMA-262 Hashbang Comment, 12.5): `#!` at the very start, and the line behind it.
-use Rattle.std.specs.Prelude.{Bool, false, [], ◌++◌, codes, drop, Option, Some, None, Ok, encode_utf8_all, if◌then◌else◌}
+use Rattle.std.specs.Prelude.{Bool, [], ◌++◌, codes, drop, Option, Some, None, encode_utf8_all, if◌then◌else◌}
 use Rattle.ecma_place.specs.Text.{Text}
 use Rattle.ecma_place.specs.Atom.{borrowed_atom}
 use Rattle.ecma_token.specs.View.{TokenView, plain_token}
