@@ -1,7 +1,9 @@
 pub mod Agreement
+pub mod EscapeLaws
 pub mod Fronts
 pub mod GapLemmas
 pub mod NumberLemmas
 pub mod PieceLemmas
 pub mod PunctuatorLemmas
 mod StringRows
+mod WordRows
