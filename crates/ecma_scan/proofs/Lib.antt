@@ -6,4 +6,5 @@ pub mod NumberLemmas
 pub mod PieceLemmas
 pub mod PunctuatorLemmas
 mod StringRows
+pub mod WordLaws
 mod WordRows
