@@ -1,11 +1,11 @@
 -- The pieces of a word tile it, and are found again in front of any separator.
-use Rattle.std.proofs.Common.{◌≡◌, ℕ, zero, suc, ◌<◌, ◌≤◌, Bool, true, false, not, cond, ◌&&◌, ◌||◌, ◌==◌, List, [], ◌∷◌, ◌++◌, drop, take, length, Option, Some, None, Result, Ok, Err, refl, ap, ◌∙◌, sym, subst, arith, append_assoc, append-nil, length-append, eqb-true, take_at}
+use Rattle.std.proofs.Common.{◌≡◌, ℕ, zero, suc, ◌+◌, ◌<◌, ◌≤◌, Bool, true, false, not, cond, ◌&&◌, ◌||◌, ◌==◌, List, [], ◌∷◌, ◌++◌, drop, take, length, Option, Some, None, Result, Ok, Err, refl, ap, ◌∙◌, sym, subst, arith, append_assoc, append-nil, length-append, eqb-true, take_at}
 use Rattle.std.proofs.lemmas.List.{drop_at}
 use Rattle.std.proofs.lemmas.Bool.{and_parts}
-use Rattle.std.specs.Prelude.{⊤, encode_utf8_all}
+use Rattle.std.specs.Prelude.{⊤, map, encode_utf8_all}
 use Rattle.std.specs.List.{list_any}
 use Rattle.ecma_place.specs.Text.{Text, byte_len}
-use Rattle.ecma_place.specs.Atom.{AtomView}
+use Rattle.ecma_place.specs.Atom.{AtomView, borrowed_atom}
 use Rattle.ecma_place.specs.Character.{is_ident_part}
 use Rattle.ecma_syntax.specs.Reserved.{is_reserved}
 use Rattle.ecma_syntax.specs.Word.{word_of, word_text, word_kind}
@@ -14,7 +14,7 @@ use Rattle.ecma_syntax.specs.declared.word.IdentLike.TheVariants.{Known, Other}
 use Rattle.ecma_syntax.specs.declared.word.Word.{Word}
 use Rattle.ecma_syntax.specs.declared.word.Word.TheVariants.{Keyword, Null, True, False, Ident}
 use Rattle.ecma_token.specs.View.{ErrorView}
-use Rattle.ecma_scan.specs.Found.{Fault, Scanned}
+use Rattle.ecma_scan.specs.Found.{Fault, Scanned, scanned}
 use Rattle.ecma_scan.specs.Fronts.{front, after, next_is, next_passes, is, begins_with}
 use Rattle.ecma_scan.specs.Locality.{is_clean, is_accepted, has_clean_faults, separates}
 use Rattle.ecma_scan.specs.Pieces.{pieces, spelled, remainder}
@@ -23,7 +23,7 @@ use Rattle.ecma_scan.specs.Escapes.{Escape, Accepted, Refused, InWord, escape_sp
 use Rattle.ecma_scan.specs.Strings.{Piece, Plain, Escaped, piece_text, value_of, faults_of, atom_of, is_escaped}
 use Rattle.ecma_scan.specs.Words.{WordRole, Part, Backslash, Stop, word_role, may_stand, named_piece, word_piece_of, word_piece, word_cutter, WordEnding, Ended, BadEscape, bad_escape_ending, word_ending_of, word_ending, found_name, word_pieces, identifier_name, owned_word, escaped_word, word_value, found_word, word, WordTiles, WordIsFront, NameIsLocal, WordIsLocal, WordIsItsRow, PlainWordIsItsRow}
 use Rattle.ecma_scan.proofs.Agreement.{Agree, agree_less, agree_behind}
-use Rattle.ecma_scan.proofs.Fronts.{separated}
+use Rattle.ecma_scan.proofs.Fronts.{separated, after_drop}
 use Rattle.ecma_scan.proofs.PieceLemmas.{FrontIf, is_cutter, pieces_in_order, cut, remainder_is, tiling, maximal}
 use Rattle.ecma_scan.proofs.EscapeLaws.{is_accepted_escape, IsFrontOf, Names, opening_names, unicode_front, unicode_accepted_again, accepted_size, escape_front, front_begins}
 
@@ -286,3 +286,67 @@ word_is_its_row context text w h = go (word_ending (remainder word_cutter true t
     go : (e : WordEnding) → (found_word context (found_name (word_pieces text) e)).value ≡ Ok w → IsOfRow w (word_of (encode_utf8_all (value_of (word_pieces text))))
     go Ended h = subst (λ l. IsOfRow w (word_of l)) (atom_bytes (word_pieces text)) (value_row context (spelled word_cutter (word_pieces text)) (atom_of (word_pieces text)) w h)
     go (BadEscape spelling error) h = cc
+
+-- a run of part characters with no backslash behind it
+
+plain_pieces : (s : Bool) (text : Text) → next_is 92 (after is_ident_part text) ≡ false → pieces word_cutter s text ≡ map Plain (front is_ident_part text)
+plain_pieces s [] h = refl
+plain_pieces s (c ∷ cs) h = go (is_ident_part c) (c == 92) refl refl (plain_pieces false cs)
+  where
+    go : (x y : Bool) → is_ident_part c ≡ x → (c == 92) ≡ y
+        → (next_is 92 (after is_ident_part cs) ≡ false → pieces word_cutter false cs ≡ map Plain (front is_ident_part cs))
+        → pieces word_cutter s (c ∷ cs) ≡ map Plain (front is_ident_part (c ∷ cs))
+    go true y e f more = rw (e, front) (ap (λ l. Plain c ∷ l) (more (rw (e, after) at h)))
+    go false true e f more = let h' : true ≡ false = sym f ∙ rw (e, after) at h in cc
+    go false false e f more = rw (e, front) (rw f)
+
+plain_spelled : (xs : Text) → spelled word_cutter (map Plain xs) ≡ xs
+plain_spelled [] = refl
+plain_spelled (x ∷ xs) = ap (λ l. x ∷ l) (plain_spelled xs)
+
+plain_value : (xs : Text) → value_of (map Plain xs) ≡ xs
+plain_value [] = refl
+plain_value (x ∷ xs) = ap (λ l. x ∷ l) (plain_value xs)
+
+plain_unescaped : (xs : Text) → list_any is_escaped (map Plain xs) ≡ false
+plain_unescaped [] = refl
+plain_unescaped (x ∷ xs) = plain_unescaped xs
+
+plain_faults : (n : ℕ) (xs : Text) → faults_of n (map Plain xs) ≡ []
+plain_faults n [] = refl
+plain_faults n (x ∷ xs) = plain_faults (n + byte_len (x ∷ [])) xs
+
+plain_atom : (xs : Text) → atom_of (map Plain xs) ≡ borrowed_atom (encode_utf8_all xs)
+plain_atom xs = rw plain_unescaped (ap (λ l. borrowed_atom (encode_utf8_all l)) (plain_value xs))
+
+plain_found : (context : Context) (xs : Text) → found_word context (found_name (map Plain xs) Ended) ≡ scanned (word_of (encode_utf8_all xs)) xs
+plain_found context xs =
+    ap (λ a. found_word context (record { value = Ok a; faults = faults_of 0 (map Plain xs); spelling = spelled word_cutter (map Plain xs); line_break = false })) (plain_atom xs)
+    ∙ ap (λ fs. record { value = Ok (word_of (encode_utf8_all xs)); faults = fs; spelling = spelled word_cutter (map Plain xs); line_break = false }) (plain_faults 0 xs)
+    ∙ ap (scanned (word_of (encode_utf8_all xs))) (plain_spelled xs)
+
+after_stop : (p : ℕ → Bool) (text : Text) → next_passes p (after p text) ≡ false
+after_stop p [] = refl
+after_stop p (c ∷ cs) = go (p c) refl (after_stop p cs)
+  where
+    go : (x : Bool) → p c ≡ x → next_passes p (after p cs) ≡ false → next_passes p (after p (c ∷ cs)) ≡ false
+    go true e more = rw (e, after) more
+    go false e more = rw (e, after) e
+
+plain_end : (text : Text) → next_passes is_ident_part text ≡ false → next_is 92 text ≡ false → word_ending text ≡ Ended
+plain_end [] h f = refl
+plain_end (c ∷ cs) h f = rw (h, f)
+
+pub plain_word_is_its_row : PlainWordIsItsRow
+plain_word_is_its_row context text h =
+    let xs = front is_ident_part text in
+    let same : word_pieces text ≡ map Plain xs = plain_pieces true text h in
+    let left : remainder word_cutter true text ≡ after is_ident_part text =
+    ap (λ l. drop (length (spelled word_cutter l)) text) same
+    ∙ ap (λ l. drop (length l) text) (plain_spelled xs)
+    ∙ sym (after_drop is_ident_part text) in
+    let ended : word_ending (remainder word_cutter true text) ≡ Ended =
+    ap word_ending left ∙ plain_end (after is_ident_part text) (after_stop is_ident_part text) h in
+    ap (λ ps. found_word context (found_name ps (word_ending (remainder word_cutter true text)))) same
+    ∙ ap (λ e. found_word context (found_name (map Plain xs) e)) ended
+    ∙ plain_found context xs
