@@ -5,6 +5,7 @@ pub mod GapLemmas
 pub mod NumberLemmas
 pub mod PieceLemmas
 pub mod PunctuatorLemmas
+pub mod StringLaws
 mod StringRows
 pub mod WordLaws
 mod WordRows
