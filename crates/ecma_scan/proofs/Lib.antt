@@ -1,5 +1,6 @@
 pub mod Agreement
 pub mod EscapeLaws
+mod EscapeRows
 pub mod Fronts
 pub mod GapLemmas
 pub mod NumberLemmas

@@ -1,12 +1,13 @@
 -- Words that were read by hand.
-use Rattle.std.proofs.Common.{◌≡◌, ℕ, Bool, true, false, List, [], ◌∷◌, Result, Ok, Err, refl}
-use Rattle.std.specs.Prelude.{codes}
+use Rattle.std.proofs.Common.{◌≡◌, ℕ, Bool, true, false, List, [], ◌∷◌, Result, Ok, Err, refl, ap, ◌∙◌}
+use Rattle.std.specs.Prelude.{codes, encode_utf8_all}
 use lib.Utf8.{encode}
 use Rattle.ecma_place.specs.Text.{Text}
 use Rattle.ecma_place.specs.Atom.{borrowed_atom, owned_atom}
 use Rattle.ecma_place.specs.Character.{is_ident_start, is_ident_part, is_line_terminator}
 use Rattle.ecma_syntax.specs.Keyword.{keyword_of}
 use Rattle.ecma_syntax.specs.KnownIdent.{known_of}
+use Rattle.ecma_syntax.specs.Word.{word_of}
 use Rattle.ecma_syntax.specs.declared.context.Context.{Context}
 use Rattle.ecma_syntax.specs.declared.keyword.Keyword.TheVariants.{Let}
 use Rattle.ecma_syntax.specs.declared.word.IdentLike.TheVariants.{Other}
@@ -16,7 +17,9 @@ use Rattle.ecma_token.specs.View.{ErrorView, KindView, plain, bad_escape}
 use Rattle.ecma_token.specs.declared.error.SyntaxError.{EscapeInReservedWord, ExpectedUnicodeEscape, InvalidIdentChar, InvalidUnicodeEscape}
 use Rattle.ecma_scan.specs.declared.found.Blame.TheVariants.{Always}
 use Rattle.ecma_scan.specs.Found.{Fault, Scanned, scanned, span_of}
+use Rattle.ecma_scan.specs.Fronts.{front, after, next_is}
 use Rattle.ecma_scan.specs.Words.{identifier_name, word}
+use Rattle.ecma_scan.proofs.WordLaws.{plain_word_is_its_row}
 
 abbrev error : KindView → ℕ → ℕ → ErrorView
 error kind low high = record { kind = kind; span = span_of low high }
@@ -141,6 +144,25 @@ out_of_range = refl
 open_brace : read (codes "a\\u{41 ") ≡ refused (error (plain InvalidUnicodeEscape) 4 6) [] (codes "a\\u{41")
 unfolding is_ident_start is_ident_part is_line_terminator encode keyword_of known_of
 open_brace = refl
+
+letter : is_ident_part 97 ≡ true
+unfolding is_ident_part
+letter = refl
+
+space : is_ident_part 32 ≡ false
+unfolding is_ident_part
+space = refl
+
+past_ascii_row : scanned (word_of (encode_utf8_all (97 ∷ 0xE9 ∷ []))) (97 ∷ 0xE9 ∷ []) ≡ scanned (Ident (Other (borrowed_atom (97 ∷ 0xC3 ∷ 0xA9 ∷ [])))) (97 ∷ 0xE9 ∷ [])
+unfolding encode keyword_of known_of
+past_ascii_row = refl
+
+-- `aé b`: a character of two bytes, which Unicode names
+past_ascii : is_ident_part 0xE9 ≡ true → read (codes "aé b") ≡ scanned (Ident (Other (borrowed_atom (97 ∷ 0xC3 ∷ 0xA9 ∷ [])))) (97 ∷ 0xE9 ∷ [])
+past_ascii named =
+    let behind : after is_ident_part (codes "aé b") ≡ codes " b" = simp (letter, named, space) in
+    let run : front is_ident_part (codes "aé b") ≡ 97 ∷ 0xE9 ∷ [] = simp (letter, named, space) in
+    plain_word_is_its_row (under false) (codes "aé b") (ap (next_is 92) behind) ∙ ap (λ l. scanned (word_of (encode_utf8_all l)) l) run ∙ past_ascii_row
 
 -- the flags `g\u0069`, and a reserved word, which is not asked for here
 flags : identifier_name (codes "g\\u0069") ≡ scanned (owned_atom (codes "gi")) (codes "g\\u0069")
