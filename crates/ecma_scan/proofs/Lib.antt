@@ -8,5 +8,6 @@ pub mod PieceLemmas
 pub mod PunctuatorLemmas
 pub mod StringLaws
 mod StringRows
+mod TemplateRows
 pub mod WordLaws
 mod WordRows

@@ -9,6 +9,7 @@ pub mod Pieces
 pub mod PlainWords
 pub mod Punctuators
 pub mod Strings
+pub mod Templates
 pub mod Words
 pub use Rattle.ecma_place.specs.Atom
 pub use Rattle.ecma_place.specs.Character
