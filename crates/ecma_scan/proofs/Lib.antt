@@ -8,6 +8,7 @@ pub mod PieceLemmas
 pub mod PunctuatorLemmas
 pub mod StringLaws
 mod StringRows
+pub mod TemplateLaws
 mod TemplateRows
 pub mod WordLaws
 mod WordRows
