@@ -1,14 +1,16 @@
 -- Escapes that were read by hand.
-use Rattle.std.proofs.Common.{◌≡◌, ℕ, List, [], ◌∷◌, refl}
+use Rattle.std.proofs.Common.{◌≡◌, ℕ, false, List, [], ◌∷◌, Option, Some, None, Result, Ok, Err, refl}
 use Rattle.std.specs.Prelude.{codes}
 use Rattle.ecma_place.specs.Text.{Text}
+use lib.Utf8.{encode}
+use Rattle.ecma_place.specs.Atom.{owned_atom}
 use Rattle.ecma_place.specs.Character.{is_line_terminator}
 use Rattle.ecma_token.specs.View.{KindView, plain, bad_escape}
 use Rattle.ecma_token.specs.declared.error.SyntaxError.{InvalidIdentChar, LegacyOctal, InvalidUnicodeEscape, InvalidStrEscape, ExpectedUnicodeEscape}
 use Rattle.ecma_scan.specs.declared.found.Blame.{Blame}
 use Rattle.ecma_scan.specs.declared.found.Blame.TheVariants.{Always, Strict}
-use Rattle.ecma_scan.specs.Found.{Fault, span_of}
-use Rattle.ecma_scan.specs.Escapes.{Use, InString, InTemplate, InWord, Escape, Accepted, Refused, escape}
+use Rattle.ecma_scan.specs.Found.{Fault, scanned, span_of}
+use Rattle.ecma_scan.specs.Escapes.{Use, InString, InTemplate, InWord, Escape, Accepted, Refused, escape, scanned_escape}
 
 abbrev refused : Text → KindView → ℕ → ℕ → Escape
 refused spelling kind low high = Refused spelling (record { kind = kind; span = span_of low high })
@@ -170,3 +172,17 @@ end_of_word = refl
 no_letter : escape InWord (codes "\\n") ≡ refused (codes "\\") (plain ExpectedUnicodeEscape) 0 0
 unfolding is_line_terminator
 no_letter = refl
+
+-- an escape by itself
+
+alone : scanned_escape InString (codes "\\400") ≡ record { value = Ok (Some (owned_atom (codes " "))); faults = fault Strict (plain LegacyOctal) 0 2 ∷ []; spelling = codes "\\40"; line_break = false }
+unfolding is_line_terminator encode
+alone = refl
+
+nothing : scanned_escape InTemplate (codes "\\\na") ≡ scanned None (codes "\\\n")
+unfolding is_line_terminator encode
+nothing = refl
+
+refused_alone : scanned_escape InTemplate (codes "\\400") ≡ record { value = Err (record { kind = plain LegacyOctal; span = span_of 0 2 }); faults = []; spelling = codes "\\4"; line_break = false }
+unfolding is_line_terminator encode
+refused_alone = refl

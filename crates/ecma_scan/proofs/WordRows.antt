@@ -10,7 +10,8 @@ use Rattle.ecma_syntax.specs.KnownIdent.{known_of}
 use Rattle.ecma_syntax.specs.Word.{word_of}
 use Rattle.ecma_syntax.specs.declared.context.Context.{Context}
 use Rattle.ecma_syntax.specs.declared.keyword.Keyword.TheVariants.{Let}
-use Rattle.ecma_syntax.specs.declared.word.IdentLike.TheVariants.{Other}
+use Rattle.ecma_syntax.specs.declared.known_ident.KnownIdent.TheVariants.{Type_}
+use Rattle.ecma_syntax.specs.declared.word.IdentLike.TheVariants.{Known, Other}
 use Rattle.ecma_syntax.specs.declared.word.Word.{Word}
 use Rattle.ecma_syntax.specs.declared.word.Word.TheVariants.{Keyword, Ident}
 use Rattle.ecma_token.specs.View.{ErrorView, KindView, plain, bad_escape}
@@ -99,6 +100,25 @@ escaped_let = refl
 strict_let : word (under true) (codes "l\\u0065t") ≡ refused (error (plain (EscapeInReservedWord (owned_atom (codes "let")))) 0 8) [] (codes "l\\u0065t")
 unfolding is_ident_start is_ident_part is_line_terminator encode keyword_of known_of
 strict_let = refl
+
+-- `t\u0079pe`: a known name holds no text
+known : read (codes "t\\u0079pe") ≡ scanned (Ident (Known Type_)) (codes "t\\u0079pe")
+unfolding is_ident_start is_ident_part is_line_terminator encode keyword_of known_of
+known = refl
+
+-- `\u0065num` and `nul\u006c`
+reserved_name : read (codes "\\u0065num") ≡ refused (error (plain (EscapeInReservedWord (owned_atom (codes "enum")))) 0 9) [] (codes "\\u0065num")
+unfolding is_ident_start is_ident_part is_line_terminator encode keyword_of known_of
+reserved_name = refl
+
+reserved_literal : read (codes "nul\\u006c") ≡ refused (error (plain (EscapeInReservedWord (owned_atom (codes "null")))) 0 9) [] (codes "nul\\u006c")
+unfolding is_ident_start is_ident_part is_line_terminator encode keyword_of known_of
+reserved_literal = refl
+
+-- `\u0061`
+first_escaped : read (codes "\\u0061") ≡ scanned (Ident (Other (owned_atom (codes "a")))) (codes "\\u0061")
+unfolding is_ident_start is_ident_part is_line_terminator encode keyword_of known_of
+first_escaped = refl
 
 -- `\u0031a`: a digit does not begin a word, and stays
 digit_first : read (codes "\\u0031a") ≡ found (Ident (Other (owned_atom (codes "1a")))) (bad_character 0 6 ∷ []) (codes "\\u0031a")

@@ -1,4 +1,5 @@
--- Template text (ECMA-262 TemplateCharacters, 12.9.6): pieces, up to a back quote, `${` or the end.
+-- Template text (ECMA-262 TemplateCharacters, 12.9.6): pieces, up to a back quote, `${` or the end. Which refusal of an
+-- escape stays, and what is said of text that meets the end, is our own choice.
 use Rattle.std.specs.Prelude.{◌≡◌, ◌<◌, ℕ, ◌+◌, Bool, true, false, not, ◌&&◌, ◌||◌, ◌==◌, List, [], ◌∷◌, ◌++◌, codes, Option, Some, None, Result, Ok, Err, encode_utf8_all, if◌then◌else◌}
 use Rattle.std.specs.List.{list_all, list_any}
 use Rattle.ecma_place.specs.Text.{Text, byte_len}
@@ -89,11 +90,11 @@ template_piece (c ∷ cs) = template_piece_of (template_role c cs) c cs
 abbrev pub template_cutter : Cutter (Unit {0}) TemplatePiece
 template_cutter = record { read = λ _ text. template_piece text; spelling = piece_text; next = λ s _. s }
 
--- what is written of the pieces, as it is (TRV)
+-- what is written of the pieces, CR as it stands (the standard's TRV has LF for it)
 abbrev pub raw_text : List TemplatePiece → Text
 raw_text ps = spelled template_cutter ps
 
--- what they mean, in a row (TV)
+-- what they mean, in a row (the standard's TV)
 abbrev pub cooked_text : List TemplatePiece → Text
 cooked_text [] = []
 cooked_text (piece ∷ more) = cooked_piece piece ++ cooked_text more

@@ -1,4 +1,5 @@
--- Words (ECMA-262 IdentifierName, 12.7): part characters and escapes of code points, as many as there are.
+-- Words (ECMA-262 IdentifierName, 12.7): part characters and escapes of code points, as many as there are. Which faults
+-- stay and which refuse the word is our own choice.
 use Rattle.std.specs.Prelude.{◌≡◌, ℕ, Bool, true, false, ◌||◌, ◌==◌, List, [], ◌∷◌, ◌++◌, Option, Some, None, Result, Ok, Err, encode_utf8_all, if◌then◌else◌}
 use Rattle.ecma_place.specs.Text.{Text, byte_len}
 use Rattle.ecma_place.specs.Atom.{AtomView, owned_atom}
