@@ -7,7 +7,7 @@ use Rattle.std.specs.Str.Parse.{digits_value}
 use Rattle.ecma_place.specs.Text.{Text}
 use Rattle.ecma_place.specs.Character.{is_line_terminator}
 use Rattle.ecma_scan.specs.Fronts.{front, after, next_passes, next_is, is, begins_with}
-use Rattle.ecma_scan.specs.Escapes.{Use, InString, InTemplate, InWord, Escape, Accepted, Refused, escape_spelling, bare, escape, is_hex_digit, is_surrogate, is_octal_digit, code_escape, four_escape, braced_escape, unicode_escape, hex_escape, octal_digits, octal_escape, legacy_escape, line_end, escape_of, opening, Opening, UnicodeLetter, HexLetter, OctalDigit, LineEnd, Single, escape_behind, EscapeIsFront, EscapeIsSettled}
+use Rattle.ecma_scan.specs.Escapes.{Use, InString, InTemplate, InWord, Escape, Accepted, Refused, escape_spelling, escape, is_hex_digit, is_surrogate, is_octal_digit, code_escape, four_escape, braced_escape, unicode_escape, hex_escape, octal_digits, octal_escape, legacy_escape, line_end, escape_of, opening, Opening, UnicodeLetter, HexLetter, OctalDigit, LineEnd, Single, escape_behind, EscapeIsFront, EscapeIsSettled}
 use Rattle.ecma_scan.proofs.Fronts.{front_after}
 use Rattle.ecma_scan.proofs.Agreement.{Agree, agree_less, agree_behind, next_agree, drop_agree, take_front, front_agree, after_agree, take_front_agree}
 

@@ -1,5 +1,5 @@
 -- Escapes that were read by hand.
-use Rattle.std.proofs.Common.{◌≡◌, ℕ, false, List, [], ◌∷◌, Option, Some, None, Result, Ok, Err, refl}
+use Rattle.std.proofs.Common.{◌≡◌, ℕ, false, [], ◌∷◌, Some, None, Ok, Err, refl}
 use Rattle.std.specs.Prelude.{codes}
 use Rattle.ecma_place.specs.Text.{Text}
 use lib.Utf8.{encode}
@@ -10,7 +10,7 @@ use Rattle.ecma_token.specs.declared.error.SyntaxError.{InvalidIdentChar, Legacy
 use Rattle.ecma_scan.specs.declared.found.Blame.{Blame}
 use Rattle.ecma_scan.specs.declared.found.Blame.TheVariants.{Always, Strict}
 use Rattle.ecma_scan.specs.Found.{Fault, scanned, span_of}
-use Rattle.ecma_scan.specs.Escapes.{Use, InString, InTemplate, InWord, Escape, Accepted, Refused, escape, scanned_escape}
+use Rattle.ecma_scan.specs.Escapes.{InString, InTemplate, InWord, Escape, Accepted, Refused, escape, scanned_escape}
 
 abbrev refused : Text → KindView → ℕ → ℕ → Escape
 refused spelling kind low high = Refused spelling (record { kind = kind; span = span_of low high })

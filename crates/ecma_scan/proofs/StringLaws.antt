@@ -1,5 +1,5 @@
 -- The pieces of a string tile it, and are found again whatever stands behind its closing quote.
-use Rattle.std.proofs.Common.{◌≡◌, ℕ, zero, suc, ◌+◌, ◌<◌, ◌≤◌, Bool, true, false, not, cond, ◌&&◌, ◌||◌, ◌==◌, List, [], ◌∷◌, ◌++◌, drop, take, length, Some, None, refl, ap, ◌∙◌, sym, arith, append_assoc, length-append, eqb-true, eq-eqb, subst}
+use Rattle.std.proofs.Common.{◌≡◌, ℕ, zero, suc, ◌<◌, ◌≤◌, Bool, true, false, not, cond, ◌==◌, List, [], ◌∷◌, ◌++◌, drop, take, length, Some, refl, ap, ◌∙◌, sym, arith, append_assoc, length-append, eqb-true, eq-eqb, subst}
 use Rattle.std.proofs.lemmas.List.{drop_at, append_cancel_left}
 use Rattle.std.proofs.lemmas.Bool.{and_parts}
 use Rattle.ecma_place.specs.Text.{Text, byte_len}
@@ -7,13 +7,12 @@ use Rattle.ecma_place.specs.Character.{is_line_break}
 use Rattle.ecma_token.specs.View.{ErrorView, plain}
 use Rattle.ecma_token.specs.declared.error.SyntaxError.{UnterminatedStrLit}
 use Rattle.ecma_scan.specs.declared.found.Blame.TheVariants.{Always}
-use Rattle.ecma_scan.specs.Found.{Fault, Scanned, error_over}
-use Rattle.ecma_scan.specs.Fronts.{begins_with}
-use Rattle.ecma_scan.specs.Locality.{is_always, has_clean_faults, is_accepted, is_clean}
+use Rattle.ecma_scan.specs.Found.{Fault, error_over}
+use Rattle.ecma_scan.specs.Locality.{is_always, has_clean_faults, is_clean}
 use Rattle.ecma_scan.specs.Pieces.{Cutter, pieces, spelled, remainder}
 use Rattle.ecma_scan.specs.Cutters.{IsCutter, ReadsInOrder}
 use Rattle.ecma_scan.specs.Escapes.{Escape, Accepted, Refused, InString, escape_spelling, escape_behind}
-use Rattle.ecma_scan.specs.Strings.{opens_string, Piece, Escaped, piece_text, escaped_piece, Role, Quote, Backslash, Break, Itself, role, piece_of, string_piece, string_cutter, Ending, Closed, Unclosed, BadEscape, bad_escape_ending, ending_of, ending, found_string, faults_of, string_pieces, string_literal, StringTiles, StringIsFront, StringIsLocal}
+use Rattle.ecma_scan.specs.Strings.{Piece, Escaped, piece_text, escaped_piece, Role, Quote, Backslash, Break, Itself, role, piece_of, string_piece, string_cutter, Ending, Closed, Unclosed, BadEscape, bad_escape_ending, ending_of, ending, found_string, faults_of, string_pieces, string_literal, StringTiles, StringIsPieces, StringIsFront, StringIsLocal}
 use Rattle.ecma_scan.proofs.Agreement.{Agree, agree_less, agree_behind}
 use Rattle.ecma_scan.proofs.PieceLemmas.{FrontIf, is_cutter, pieces_in_order, cut, remainder_is, tiling, maximal}
 use Rattle.ecma_scan.proofs.EscapeLaws.{IsFrontOf, escape_size, escape_again, escape_front, escape_some, front_begins}
@@ -177,6 +176,20 @@ string_is_local (quote ∷ b) behind r opens clean extent free =
 
 pub string_tiles : StringTiles
 string_tiles quote text = (tiling (string_cutter quote) (string_is_cutter quote) tt text, maximal (string_cutter quote) (string_is_cutter quote) tt text)
+
+pub string_is_pieces : StringIsPieces
+string_is_pieces quote text clean = go (ending quote (remainder (string_cutter quote) tt text)) clean
+  where
+    ps : List Piece
+    ps = string_pieces quote text
+
+    opened : Text
+    opened = quote ∷ spelled (string_cutter quote) (string_pieces quote text)
+
+    go : (e : Ending) → is_clean (found_string quote opened ps e) ≡ true → (found_string quote opened ps e).spelling ≡ opened ++ quote ∷ []
+    go Closed clean = refl
+    go Unclosed clean = absurd (always_last (faults_of 1 ps) (error_over (plain UnterminatedStrLit) (byte_len opened)) clean)
+    go (BadEscape spelling error) clean = cc
 
 ending_front : (quote : ℕ) (opened : Text) (ps : List Piece) (rest : Text) → IsFrontOf (found_string quote opened ps (ending quote rest)).spelling (opened ++ rest)
 ending_front quote opened ps [] = ([], refl)

@@ -1,16 +1,15 @@
 -- Strings and escapes that were read by hand.
-use Rattle.std.proofs.Common.{◌≡◌, ℕ, List, [], ◌∷◌, ◌++◌, Result, Ok, Err, refl}
+use Rattle.std.proofs.Common.{◌≡◌, ℕ, [], ◌∷◌, Ok, Err, refl}
 use Rattle.std.specs.Prelude.{codes}
-use Rattle.ecma_place.specs.Text.{Text}
 use Rattle.ecma_place.specs.Atom.{borrowed_atom, owned_atom}
 use lib.Utf8.{encode}
 use Rattle.ecma_place.specs.Character.{is_line_break, is_line_terminator}
-use Rattle.ecma_token.specs.View.{TokenView, ErrorView, KindView, plain, bad_escape, plain_token}
+use Rattle.ecma_token.specs.View.{ErrorView, KindView, plain, bad_escape, plain_token}
 use Rattle.ecma_token.specs.declared.error.SyntaxError.{LegacyOctal, UnterminatedStrLit, InvalidUnicodeEscape, InvalidStrEscape}
 use Rattle.ecma_token.specs.declared.token.Token.{Str}
 use Rattle.ecma_scan.specs.declared.found.Blame.{Blame}
 use Rattle.ecma_scan.specs.declared.found.Blame.TheVariants.{Always, Strict}
-use Rattle.ecma_scan.specs.Found.{Fault, Scanned, span_of}
+use Rattle.ecma_scan.specs.Found.{Fault, span_of}
 use Rattle.ecma_scan.specs.Strings.{string_literal, scanned_string}
 
 abbrev error : KindView → ℕ → ℕ → ErrorView

@@ -1,9 +1,9 @@
 -- The pieces of template text tile it, and are found again in front of any text that ends it.
-use Rattle.std.proofs.Common.{◌≡◌, ℕ, suc, ◌+◌, ◌<◌, ◌≤◌, Bool, true, false, not, cond, ◌&&◌, ◌||◌, ◌==◌, List, [], ◌∷◌, ◌++◌, drop, take, length, Some, None, Result, Ok, Err, refl, ap, ◌∙◌, sym, subst, arith, append_assoc, length-append, eqb-true}
+use Rattle.std.proofs.Common.{◌≡◌, ℕ, suc, ◌+◌, ◌<◌, ◌≤◌, Bool, true, false, not, cond, ◌&&◌, ◌||◌, ◌==◌, List, [], ◌∷◌, ◌++◌, drop, take, length, Some, None, Ok, refl, ap, ◌∙◌, sym, subst, arith, append_assoc, length-append, eqb-true}
 use Rattle.std.proofs.lemmas.List.{drop_at, append_cancel_left}
 use Rattle.std.proofs.lemmas.Bool.{and_parts}
 use Rattle.std.proofs.lemmas.Str.{len_utf8_bounds}
-use Rattle.std.specs.Prelude.{⊤, codes, encode_utf8_all}
+use Rattle.std.specs.Prelude.{⊤, encode_utf8_all}
 use Rattle.std.specs.List.{list_all}
 use Rattle.ecma_place.specs.Text.{Text, byte_len}
 use Rattle.ecma_place.specs.Atom.{borrowed_atom}
@@ -13,14 +13,14 @@ use Rattle.ecma_token.specs.Kinds.{kind_of}
 use Rattle.ecma_token.specs.View.{TokenView, plain_token}
 use Rattle.ecma_token.specs.declared.kind.TokenKind.TheVariants.{Template}
 use Rattle.ecma_token.specs.declared.token.Token.{BackQuote, DollarLBrace, Template', Ok'}
-use Rattle.ecma_scan.specs.Found.{Scanned, scanned}
+use Rattle.ecma_scan.specs.Found.{Scanned}
 use Rattle.ecma_scan.specs.Fronts.{front, after, next_passes, next_is, is}
 use Rattle.ecma_scan.specs.Locality.{is_clean, ends_template}
 use Rattle.ecma_scan.specs.Pieces.{pieces, spelled, remainder}
 use Rattle.ecma_scan.specs.Cutters.{IsCutter, ReadsInOrder}
-use Rattle.ecma_scan.specs.Escapes.{Escape, Accepted, Refused, InTemplate, Opening, UnicodeLetter, HexLetter, OctalDigit, LineEnd, Single, opening, escape_of, escape_behind, unicode_escape, four_escape, braced_escape, hex_escape, octal_escape, line_end, is_hex_digit, is_octal_digit, escape_spelling}
+use Rattle.ecma_scan.specs.Escapes.{Accepted, InTemplate, Opening, UnicodeLetter, HexLetter, OctalDigit, LineEnd, Single, opening, escape_of, escape_behind, unicode_escape, four_escape, braced_escape, hex_escape, octal_escape, line_end, is_hex_digit, is_octal_digit}
 use Rattle.ecma_scan.specs.Templates as spec
-use Rattle.ecma_scan.specs.Templates.{TemplatePiece, Break, Escaped, piece_text, TemplateEnd, AtEnd, AtBackQuote, AtDollarBrace, template_end, found_text, text_of, mark_of, template_of, template_text, template_token, token_of_refusal, is_verbatim, last_refusal, cooked_text, cooked_break, cooked_atom, raw_text, raw_atom, TemplateRole, Stop, Backslash, Itself, template_role, template_piece_of, template_piece, template_cutter, TemplateTiles, TemplateIsFront, TemplateIsLocal, TemplateIsEnded, TemplateMarksAreLocal, TemplateGoesOn, CookedIsRaw}
+use Rattle.ecma_scan.specs.Templates.{TemplatePiece, Break, Escaped, piece_text, TemplateEnd, AtEnd, AtBackQuote, AtDollarBrace, template_end, found_text, text_of, mark_of, template_of, template_text, template_token, token_of_refusal, is_verbatim, last_refusal, cooked_text, cooked_break, cooked_atom, raw_text, raw_atom, TemplateRole, Stop, Backslash, Itself, template_role, template_piece_of, template_piece, template_cutter, TemplateTiles, TemplateIsPieces, TemplateIsFront, TemplateIsLocal, TemplateIsEnded, TemplateMarksAreLocal, TemplateGoesOn, CookedIsRaw}
 use Rattle.ecma_scan.proofs.Fronts.{front_before, begins_before, begins_after_before}
 use Rattle.ecma_scan.proofs.PieceLemmas.{FrontIf, is_cutter, pieces_in_order, cut, remainder_is, tiling, maximal}
 use Rattle.ecma_scan.proofs.EscapeLaws.{escape_size, IsFrontOf, escape_front, escape_some, line_end_front, line_length, braced_rest, front_begins}
@@ -312,6 +312,17 @@ text_goes_on : (ps : List TemplatePiece) (e : TemplateEnd) (token : TokenView) �
 text_goes_on ps AtEnd token h = cc
 text_goes_on ps AtBackQuote token h = (refl, refl)
 text_goes_on ps AtDollarBrace token h = (refl, refl)
+
+pub template_is_pieces : TemplateIsPieces
+template_is_pieces after_template text token value kind = go after_template (pieces template_cutter tt text) value
+  where
+    end : TemplateEnd
+    end = template_end (remainder template_cutter tt text)
+
+    go : (x : Bool) (ps : List TemplatePiece) → (template_of x ps end).value ≡ Ok token → (template_of x ps end).spelling ≡ raw_text ps
+    go false ps value = (text_goes_on ps end token value).1
+    go true (piece ∷ more) value = (text_goes_on (piece ∷ more) end token value).1
+    go true [] value = absurd (mark_kind end token value kind)
 
 pub template_is_ended : TemplateIsEnded
 template_is_ended after_template b behind token value kind extent = go after_template (pieces template_cutter tt text) refl value extent

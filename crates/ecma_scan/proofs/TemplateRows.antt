@@ -1,11 +1,11 @@
 -- Template text that was read by hand.
-use Rattle.std.proofs.Common.{◌≡◌, ℕ, Bool, true, false, List, [], ◌∷◌, Result, Ok, Err, refl}
+use Rattle.std.proofs.Common.{◌≡◌, ℕ, Bool, true, false, [], ◌∷◌, Ok, Err, refl}
 use Rattle.std.specs.Prelude.{codes}
 use lib.Utf8.{encode}
 use Rattle.ecma_place.specs.Text.{Text}
 use Rattle.ecma_place.specs.Atom.{AtomView, borrowed_atom, owned_atom}
 use Rattle.ecma_place.specs.Character.{is_line_terminator}
-use Rattle.ecma_token.specs.View.{TokenView, ErrorView, KindView, plain, bad_escape, plain_token, refused_template}
+use Rattle.ecma_token.specs.View.{TokenView, KindView, plain, bad_escape, plain_token, refused_template}
 use Rattle.ecma_token.specs.declared.error.SyntaxError.{LegacyOctal, UnterminatedTpl, InvalidUnicodeEscape}
 use Rattle.ecma_token.specs.declared.token.Token.{BackQuote, DollarLBrace, Template', Ok'}
 use Rattle.ecma_scan.specs.Found.{FoundView, Scanned, scanned, span_of}

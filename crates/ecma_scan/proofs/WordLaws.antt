@@ -1,5 +1,5 @@
 -- The pieces of a word tile it, and are found again in front of any separator.
-use Rattle.std.proofs.Common.{◌≡◌, ℕ, zero, suc, ◌+◌, ◌<◌, ◌≤◌, Bool, true, false, not, cond, ◌&&◌, ◌||◌, ◌==◌, List, [], ◌∷◌, ◌++◌, drop, take, length, Option, Some, None, Result, Ok, Err, refl, ap, ◌∙◌, sym, subst, arith, append_assoc, append-nil, length-append, eqb-true, take_at}
+use Rattle.std.proofs.Common.{◌≡◌, ℕ, zero, suc, ◌+◌, ◌<◌, ◌≤◌, Bool, true, false, cond, ◌==◌, List, [], ◌∷◌, ◌++◌, drop, length, Option, Some, None, Result, Ok, Err, refl, ap, ◌∙◌, sym, subst, arith, append_assoc, length-append, eqb-true, take_at}
 use Rattle.std.proofs.lemmas.List.{drop_at}
 use Rattle.std.proofs.lemmas.Bool.{and_parts}
 use Rattle.std.specs.Prelude.{⊤, map, encode_utf8_all}
@@ -15,16 +15,16 @@ use Rattle.ecma_syntax.specs.declared.word.Word.{Word}
 use Rattle.ecma_syntax.specs.declared.word.Word.TheVariants.{Keyword, Null, True, False, Ident}
 use Rattle.ecma_token.specs.View.{ErrorView}
 use Rattle.ecma_scan.specs.Found.{Fault, Scanned, scanned}
-use Rattle.ecma_scan.specs.Fronts.{front, after, next_is, next_passes, is, begins_with}
+use Rattle.ecma_scan.specs.Fronts.{front, after, next_is, next_passes}
 use Rattle.ecma_scan.specs.Locality.{is_clean, is_accepted, has_clean_faults, separates}
 use Rattle.ecma_scan.specs.Pieces.{pieces, spelled, remainder}
 use Rattle.ecma_scan.specs.Cutters.{IsCutter, ReadsInOrder}
 use Rattle.ecma_scan.specs.Escapes.{Escape, Accepted, Refused, InWord, escape_spelling, Opening, UnicodeLetter, HexLetter, OctalDigit, LineEnd, Single, opening, escape_of, escape_behind, unicode_escape}
 use Rattle.ecma_scan.specs.Strings.{Piece, Plain, Escaped, piece_text, value_of, faults_of, atom_of, is_escaped}
-use Rattle.ecma_scan.specs.Words.{WordRole, Part, Backslash, Stop, word_role, may_stand, named_piece, word_piece_of, word_piece, word_cutter, WordEnding, Ended, BadEscape, bad_escape_ending, word_ending_of, word_ending, found_name, word_pieces, identifier_name, owned_word, escaped_word, word_value, found_word, word, WordTiles, WordIsFront, NameIsLocal, WordIsLocal, WordIsItsRow, PlainWordIsItsRow}
+use Rattle.ecma_scan.specs.Words.{WordRole, Part, Backslash, Stop, word_role, named_piece, word_piece_of, word_piece, word_cutter, WordEnding, Ended, BadEscape, bad_escape_ending, word_ending_of, word_ending, found_name, word_pieces, identifier_name, owned_word, word_value, found_word, word, WordTiles, WordIsPieces, WordIsFront, NameIsLocal, WordIsLocal, WordIsItsRow, PlainWordIsItsRow}
 use Rattle.ecma_scan.proofs.Agreement.{Agree, agree_less, agree_behind}
 use Rattle.ecma_scan.proofs.Fronts.{separated, after_drop}
-use Rattle.ecma_scan.proofs.PieceLemmas.{FrontIf, is_cutter, pieces_in_order, cut, remainder_is, tiling, maximal}
+use Rattle.ecma_scan.proofs.PieceLemmas.{FrontIf, is_cutter, pieces_in_order, cut, tiling, maximal}
 use Rattle.ecma_scan.proofs.EscapeLaws.{is_accepted_escape, IsFrontOf, Names, opening_names, unicode_front, unicode_accepted_again, accepted_size, escape_front, front_begins}
 
 backslash_is : (c : ℕ) → word_role c ≡ Backslash → 92 ≡ c
@@ -208,6 +208,14 @@ word_is_local context b behind r opens clean spells free =
 
 pub word_tiles : WordTiles
 word_tiles text = (tiling word_cutter word_is_cutter true text, maximal word_cutter word_is_cutter true text)
+
+pub word_is_pieces : WordIsPieces
+word_is_pieces context text w h = go (word_ending (remainder word_cutter true text)) h
+  where
+    go : (e : WordEnding) → (found_word context (found_name (word_pieces text) e)).value ≡ Ok w
+        → (found_word context (found_name (word_pieces text) e)).spelling ≡ spelled word_cutter (word_pieces text)
+    go Ended h = refl
+    go (BadEscape spelling error) h = cc
 
 ending_front : (ps : List Piece) (rest : Text) → IsFrontOf (found_name ps (word_ending rest)).spelling (spelled word_cutter ps ++ rest)
 ending_front ps [] = ([], refl)

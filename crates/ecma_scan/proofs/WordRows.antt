@@ -1,5 +1,5 @@
 -- Words that were read by hand.
-use Rattle.std.proofs.Common.{◌≡◌, ℕ, Bool, true, false, List, [], ◌∷◌, Result, Ok, Err, refl, ap, ◌∙◌}
+use Rattle.std.proofs.Common.{◌≡◌, ℕ, Bool, true, false, List, [], ◌∷◌, Ok, Err, refl, ap, ◌∙◌}
 use Rattle.std.specs.Prelude.{codes, encode_utf8_all}
 use lib.Utf8.{encode}
 use Rattle.ecma_place.specs.Text.{Text}

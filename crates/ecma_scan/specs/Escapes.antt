@@ -1,6 +1,6 @@
 -- Escapes (ECMA-262 EscapeSequence, 12.9.4, with LegacyOctalEscapeSequence of Annex B; UnicodeEscapeSequence in names,
 -- 12.7): what is written of one, and its value or why it is refused. Which spans refusals have is our own choice.
-use Rattle.std.specs.Prelude.{◌≡◌, ℕ, ◌+◌, Bool, true, false, not, ◌&&◌, ◌==◌, nat_lt, nat_le, List, [], ◌∷◌, ◌++◌, codes, length, take, drop, Option, Some, None, Result, Ok, Err, encode_utf8_all, if◌then◌else◌}
+use Rattle.std.specs.Prelude.{◌≡◌, ℕ, ◌+◌, Bool, true, false, not, ◌&&◌, ◌==◌, nat_lt, nat_le, List, [], ◌∷◌, ◌++◌, codes, length, take, drop, Option, Some, None, Ok, Err, encode_utf8_all, if◌then◌else◌}
 use Rattle.std.specs.Char.{is_digit}
 use Rattle.std.specs.Str.Parse.{digits_value}
 use Rattle.ecma_place.specs.Text.{Text}

@@ -10,7 +10,7 @@ use Rattle.ecma_token.specs.declared.token.Token.{Str}
 use Rattle.ecma_scan.specs.declared.found.Blame.TheVariants.{Always}
 use Rattle.ecma_scan.specs.Found.{Fault, Scanned, error_over, error_behind, fault_behind}
 use Rattle.ecma_scan.specs.Fronts.{begins_with}
-use Rattle.ecma_scan.specs.Locality.{IsLocal}
+use Rattle.ecma_scan.specs.Locality.{IsLocal, is_clean}
 use Rattle.ecma_scan.specs.Pieces.{Cutter, pieces, spelled, remainder, Tiled}
 use Rattle.ecma_scan.specs.Escapes.{Escape, Accepted, Refused, InString, escape}
 
@@ -133,6 +133,12 @@ string_literal (quote ∷ text) =
 -- The pieces of a string and what follows them are the text behind its quote, and no piece begins what follows.
 abbrev pub StringTiles : Type 0
 StringTiles = (quote : ℕ) (text : Text) → Tiled (string_cutter quote) tt text
+
+-- A string that is read cleanly is a quote, its pieces in a row, and the same quote.
+abbrev pub StringIsPieces : Type 0
+StringIsPieces =
+    (quote : ℕ) (text : Text) → is_clean (string_literal (quote ∷ text)) ≡ true
+    → (string_literal (quote ∷ text)).spelling ≡ quote ∷ (spelled (string_cutter quote) (string_pieces quote text) ++ quote ∷ [])
 
 -- What is read as a string is a front of the text.
 abbrev pub StringIsFront : Type 0

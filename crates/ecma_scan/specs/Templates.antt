@@ -179,6 +179,12 @@ template_found opened n s = record (found_at token_behind n s) { value = templat
 abbrev pub TemplateTiles : Type 0
 TemplateTiles = (text : Text) → Tiled template_cutter tt text
 
+-- Template text is its pieces in a row.
+abbrev pub TemplateIsPieces : Type 0
+TemplateIsPieces =
+    (after_template : Bool) (text : Text) (token : TokenView) → (template_text after_template text).value ≡ Ok token → kind_of token ≡ Template
+    → (template_text after_template text).spelling ≡ raw_text (pieces template_cutter tt text)
+
 -- What is read in a template is a front of the text.
 abbrev pub TemplateIsFront : Type 0
 TemplateIsFront = (after_template : Bool) (text : Text) → begins_with (template_text after_template text).spelling text ≡ true

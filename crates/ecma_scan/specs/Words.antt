@@ -7,14 +7,13 @@ use Rattle.ecma_place.specs.Character.{is_ident_start, is_ident_part}
 use Rattle.ecma_syntax.specs.Reserved.{is_reserved}
 use Rattle.ecma_syntax.specs.Word.{word_of, word_text, word_kind}
 use Rattle.ecma_syntax.specs.declared.context.Context.{Context}
-use Rattle.ecma_syntax.specs.declared.word.IdentLike.{IdentLike}
 use Rattle.ecma_syntax.specs.declared.word.IdentLike.TheVariants.{Known, Other}
 use Rattle.ecma_syntax.specs.declared.word.Word.{Word}
 use Rattle.ecma_syntax.specs.declared.word.Word.TheVariants.{Keyword, Null, True, False, Ident}
 use Rattle.ecma_token.specs.View.{ErrorView, plain}
 use Rattle.ecma_token.specs.declared.error.SyntaxError.{EscapeInReservedWord, InvalidIdentChar}
 use Rattle.ecma_scan.specs.declared.found.Blame.TheVariants.{Always}
-use Rattle.ecma_scan.specs.Found.{Fault, Scanned, scanned, error_over, error_behind}
+use Rattle.ecma_scan.specs.Found.{Scanned, scanned, error_over, error_behind}
 use Rattle.ecma_scan.specs.Fronts.{front, after, next_is, begins_with}
 use Rattle.ecma_scan.specs.Locality.{IsLocal, separates}
 use Rattle.ecma_scan.specs.Pieces.{Cutter, pieces, spelled, remainder, Tiled}
@@ -140,6 +139,10 @@ word context text = found_word context (identifier_name text)
 -- The pieces of a word and what follows them are the text, and no piece begins what follows.
 abbrev pub WordTiles : Type 0
 WordTiles = (text : Text) → Tiled word_cutter true text
+
+-- A word that is not refused is its pieces in a row.
+abbrev pub WordIsPieces : Type 0
+WordIsPieces = (context : Context) (text : Text) (w : Word) → (word context text).value ≡ Ok w → (word context text).spelling ≡ spelled word_cutter (word_pieces text)
 
 -- What is read as a word is a front of the text.
 abbrev pub WordIsFront : Type 0
