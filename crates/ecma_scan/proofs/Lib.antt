@@ -3,6 +3,8 @@ pub mod BarsLaws
 pub mod CharacterLaws
 pub mod CommentLaws
 mod CommentRows
+pub mod EscapeLaws
+mod EscapeRows
 pub mod Fronts
 pub mod GapFaults
 pub mod GapForms
@@ -13,4 +15,9 @@ pub mod NumberLemmas
 pub mod PieceLemmas
 pub mod PunctuatorLemmas
 pub mod ShebangLaws
+pub mod StringLaws
 mod StringRows
+pub mod TemplateLaws
+mod TemplateRows
+pub mod WordLaws
+mod WordRows
