@@ -4,7 +4,7 @@ use Rattle.std.specs.List.{list_all, list_any}
 use Rattle.std.specs.Char.{is_whitespace}
 use Rattle.std.proofs.lemmas.Bool.{and_parts}
 use Rattle.std.proofs.lemmas.Bool.Decides.{nat_tests}
-use Rattle.unicode_ident.proofs.Computing.{unicode_ident}
+use Rattle.unicode.proofs.IdentComputing.{unicode_ident}
 use Rattle.ecma_place.specs.Character.{is_ident_start, is_ident_part, is_white_space, is_line_terminator}
 
 -- all of it

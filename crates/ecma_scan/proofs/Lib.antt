@@ -14,6 +14,7 @@ mod GapRows
 pub mod NumberLemmas
 pub mod PieceLemmas
 pub mod PunctuatorLemmas
+pub mod SeparationLaws
 pub mod ShebangLaws
 pub mod StringLaws
 mod StringRows

@@ -1,11 +1,13 @@
 -- Shebangs (ECMA-262 Hashbang Comment, 12.5): `#!` at the very start, and the line behind it.
-use Rattle.std.specs.Prelude.{Bool, [], ◌++◌, codes, drop, Option, Some, None, encode_utf8_all, if◌then◌else◌}
+use Rattle.std.specs.Prelude.{◌≡◌, Bool, true, [], ◌++◌, codes, drop, Option, Some, None, encode_utf8_all, if◌then◌else◌}
 use Rattle.ecma_place.specs.Text.{Text}
 use Rattle.ecma_place.specs.Atom.{borrowed_atom}
 use Rattle.ecma_token.specs.View.{TokenView, plain_token}
 use Rattle.ecma_token.specs.declared.token.Token.{Shebang}
+use Rattle.ecma_scan.specs.declared.gap.GapMode.{GapMode}
 use Rattle.ecma_scan.specs.Found.{Scanned, scanned}
 use Rattle.ecma_scan.specs.Fronts.{line, begins_with}
+use Rattle.ecma_scan.specs.Gaps.{element}
 use Rattle.ecma_scan.specs.Locality.{IsLocal, ends_line}
 
 abbrev pub opens_shebang : Text → Bool
@@ -24,3 +26,7 @@ shebang text = if opens_shebang text then found_shebang (line (drop 2 text)) els
 -- A shebang is read the same in front of a line feed and at the end.
 abbrev pub ShebangIsLocal : Type 0
 ShebangIsLocal = IsLocal opens_shebang shebang ends_line
+
+-- No shebang begins an element of a gap.
+abbrev pub ShebangBeginsNoGap : Type 0
+ShebangBeginsNoGap = (mode : GapMode) (flag : Bool) (text : Text) → opens_shebang text ≡ true → element mode flag text ≡ None

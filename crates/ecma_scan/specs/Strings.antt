@@ -8,8 +8,10 @@ use Rattle.ecma_token.specs.View.{TokenView, ErrorView, plain, plain_token}
 use Rattle.ecma_token.specs.declared.error.SyntaxError.{UnterminatedStrLit}
 use Rattle.ecma_token.specs.declared.token.Token.{Str}
 use Rattle.ecma_scan.specs.declared.found.Blame.TheVariants.{Always}
+use Rattle.ecma_scan.specs.declared.gap.GapMode.{GapMode}
 use Rattle.ecma_scan.specs.Found.{Fault, Scanned, error_over, error_behind, fault_behind}
 use Rattle.ecma_scan.specs.Fronts.{begins_with}
+use Rattle.ecma_scan.specs.Gaps.{element}
 use Rattle.ecma_scan.specs.Locality.{IsLocal, is_clean}
 use Rattle.ecma_scan.specs.Pieces.{Cutter, pieces, spelled, remainder, Tiled}
 use Rattle.ecma_scan.specs.Escapes.{Escape, Accepted, Refused, InString, escape}
@@ -147,3 +149,7 @@ StringIsFront = (text : Text) → begins_with (string_literal text).spelling tex
 -- A string that is read cleanly is read the same in front of any text.
 abbrev pub StringIsLocal : Type 0
 StringIsLocal = IsLocal opens_string string_literal (λ text. true)
+
+-- No string begins an element of a gap.
+abbrev pub StringBeginsNoGap : Type 0
+StringBeginsNoGap = (mode : GapMode) (flag : Bool) (text : Text) → opens_string text ≡ true → element mode flag text ≡ None

@@ -13,8 +13,10 @@ use Rattle.ecma_syntax.specs.declared.word.Word.TheVariants.{Keyword, Null, True
 use Rattle.ecma_token.specs.View.{ErrorView, plain}
 use Rattle.ecma_token.specs.declared.error.SyntaxError.{EscapeInReservedWord, InvalidIdentChar}
 use Rattle.ecma_scan.specs.declared.found.Blame.TheVariants.{Always}
+use Rattle.ecma_scan.specs.declared.gap.GapMode.{GapMode}
 use Rattle.ecma_scan.specs.Found.{Scanned, scanned, error_over, error_behind}
 use Rattle.ecma_scan.specs.Fronts.{front, after, next_is, begins_with}
+use Rattle.ecma_scan.specs.Gaps.{element}
 use Rattle.ecma_scan.specs.Locality.{IsLocal, separates}
 use Rattle.ecma_scan.specs.Pieces.{Cutter, pieces, spelled, remainder, Tiled}
 use Rattle.ecma_scan.specs.Escapes.{Escape, Accepted, Refused, InWord, escape}
@@ -168,3 +170,7 @@ abbrev pub PlainWordIsItsRow : Type 0
 PlainWordIsItsRow =
     (context : Context) (text : Text) → next_is 92 (after is_ident_part text) ≡ false
     → word context text ≡ scanned (word_of (encode_utf8_all (front is_ident_part text))) (front is_ident_part text)
+
+-- No word begins an element of a gap.
+abbrev pub WordBeginsNoGap : Type 0
+WordBeginsNoGap = (mode : GapMode) (flag : Bool) (text : Text) → opens_word text ≡ true → element mode flag text ≡ None

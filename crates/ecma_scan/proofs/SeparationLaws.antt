@@ -1,0 +1,85 @@
+-- No token begins an element of a gap.
+use Rattle.std.proofs.Common.{◌≡◌, ℕ, Bool, true, false, not, cond, ◌||◌, ◌&&◌, ◌==◌, nat_lt, [], ◌∷◌, None, refl, ap, ◌∙◌, sym, eqb-true, arith}
+use Rattle.std.proofs.lemmas.Bool.{and_parts}
+use Rattle.std.proofs.lemmas.Bool.Decides.{nat_tests}
+use Rattle.std.specs.Char.{is_ascii_alphabetic, is_ascii_alphanumeric}
+use Rattle.ecma_place.specs.Text.{Text}
+use Rattle.ecma_place.specs.Character.{is_ident_start, is_ident_part, is_white_space, is_line_terminator}
+use Rattle.ecma_place.proofs.CharacterLemmas.{is_ident_start-is_ident_part}
+use Rattle.ecma_scan.specs.declared.gap.GapMode.{GapMode}
+use Rattle.ecma_scan.specs.Fronts.{begins_with}
+use Rattle.ecma_scan.specs.Gaps.{element, is_inert}
+use Rattle.ecma_scan.specs.Shebangs.{ShebangBeginsNoGap, opens_shebang}
+use Rattle.ecma_scan.specs.Strings.{StringBeginsNoGap, opens_string}
+use Rattle.ecma_scan.specs.Words.{WordBeginsNoGap, opens_word}
+use Rattle.ecma_scan.proofs.CharacterLaws.{white-no_part}
+use Rattle.ecma_scan.proofs.GapLaws.{no_element}
+
+-- a character that isn't white space and none of the five
+inert_by : (white : Bool) (c : ℕ) → is_white_space c ≡ white → white ≡ false → (c == 47) ≡ false → (c == 60) ≡ false → (c == 45) ≡ false → (c == 61) ≡ false → (c == 62) ≡ false
+    → is_inert c ≡ true
+inert_by white c e w slash less dash equals greater = rw (e, w, slash, less, dash, equals, greater) refl
+
+-- no start character is one of them
+
+start_none : (c : ℕ) → is_ident_start c ≡ true → ((c == 47) ≡ false) × ((c == 60) ≡ false) × ((c == 45) ≡ false) × ((c == 61) ≡ false) × ((c == 62) ≡ false)
+unfolding is_ident_start
+start_none c h = (go 47 refl, go 60 refl, go 45 refl, go 61 refl, go 62 refl)
+  where
+    go : (x : ℕ) → is_ident_start x ≡ false → (c == x) ≡ false
+    go x none = by_test (c == x) refl
+      where
+        by_test : (b : Bool) → (c == x) ≡ b → b ≡ false
+        by_test true e = let same : is_ident_start c ≡ false = ap is_ident_start (eqb-true c x e) ∙ none in cc
+        by_test false e = refl
+
+start_white : (c : ℕ) → is_ident_start c ≡ true → is_white_space c ≡ false
+start_white c h = go (is_white_space c) refl
+  where
+    go : (b : Bool) → is_white_space c ≡ b → b ≡ false
+    go true e = let part = is_ident_start-is_ident_part c h in let no = white-no_part c e in cc
+    go false e = refl
+
+start_inert : (c : ℕ) → is_ident_start c ≡ true → is_inert c ≡ true
+start_inert c h =
+    let n = start_none c h in
+    inert_by (is_white_space c) c refl (start_white c h) n.0 n.1 n.2 n.3 n.4
+
+-- some characters that begin tokens
+
+backslash_inert : is_inert 92 ≡ true
+unfolding is_white_space is_line_terminator
+backslash_inert = refl
+
+double_inert : is_inert 34 ≡ true
+unfolding is_white_space is_line_terminator
+double_inert = refl
+
+single_inert : is_inert 39 ≡ true
+unfolding is_white_space is_line_terminator
+single_inert = refl
+
+hash_inert : is_inert 35 ≡ true
+unfolding is_white_space is_line_terminator
+hash_inert = refl
+
+pub word_begins_no_gap : WordBeginsNoGap
+word_begins_no_gap mode flag [] h = cc
+word_begins_no_gap mode flag (c ∷ cs) h = no_element mode flag c cs (go (is_ident_start c) refl h)
+  where
+    go : (b : Bool) → is_ident_start c ≡ b → (b || c == 92) ≡ true → is_inert c ≡ true
+    go true e h = start_inert c e
+    go false e h = ap is_inert (eqb-true c 92 h) ∙ backslash_inert
+
+pub string_begins_no_gap : StringBeginsNoGap
+string_begins_no_gap mode flag [] h = cc
+string_begins_no_gap mode flag (c ∷ cs) h = no_element mode flag c cs (go (c == 34) refl h)
+  where
+    go : (b : Bool) → (c == 34) ≡ b → (b || c == 39) ≡ true → is_inert c ≡ true
+    go true e h = ap is_inert (eqb-true c 34 e) ∙ double_inert
+    go false e h = ap is_inert (eqb-true c 39 h) ∙ single_inert
+
+pub shebang_begins_no_gap : ShebangBeginsNoGap
+shebang_begins_no_gap mode flag [] h = cc
+shebang_begins_no_gap mode flag (c ∷ cs) h =
+    no_element mode flag c cs (ap is_inert (eqb-true c 35 (and_parts (c == 35) (begins_with (33 ∷ []) cs) h).0) ∙ hash_inert)
