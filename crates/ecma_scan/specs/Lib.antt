@@ -5,6 +5,7 @@ pub mod Escapes
 pub mod Found
 pub mod Fronts
 pub mod Locality
+pub mod Numbers
 pub mod Pieces
 pub mod PlainWords
 pub mod Punctuators
