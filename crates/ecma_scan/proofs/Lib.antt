@@ -6,5 +6,7 @@ pub mod NumberLemmas
 pub mod NumberLocal
 mod NumberRows
 pub mod PieceLemmas
+pub mod PunctuatorLaws
 pub mod PunctuatorLemmas
+mod PunctuatorRows
 mod StringRows

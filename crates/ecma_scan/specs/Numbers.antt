@@ -46,10 +46,15 @@ is_exponent_mark c = c == 101 || c == 69
 abbrev pub is_sign : ℕ → Bool
 is_sign c = c == 43 || c == 45
 
+-- a point and a digit begin the text
+abbrev pub opens_fraction : Text → Bool
+opens_fraction [] = false
+opens_fraction (c ∷ cs) = c == 46 && next_passes (digit Decimal) cs
+
 -- a number begins the text: a digit, or a point and a digit
 abbrev pub opens_number : Text → Bool
 opens_number [] = false
-opens_number (c ∷ cs) = digit Decimal c || (c == 46 && next_passes (digit Decimal) cs)
+opens_number (c ∷ cs) = digit Decimal c || opens_fraction (c ∷ cs)
 
 -- Parts
 
