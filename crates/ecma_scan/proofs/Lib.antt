@@ -1,4 +1,6 @@
 pub mod Agreement
+pub mod EscapeLaws
+mod EscapeRows
 pub mod Fronts
 pub mod GapLemmas
 pub mod NumberLaws
@@ -9,4 +11,9 @@ pub mod PieceLemmas
 pub mod PunctuatorLaws
 pub mod PunctuatorLemmas
 mod PunctuatorRows
+pub mod StringLaws
 mod StringRows
+pub mod TemplateLaws
+mod TemplateRows
+pub mod WordLaws
+mod WordRows

@@ -63,3 +63,23 @@ lone_backslash = refl
 line_feed : string_literal (codes "'a\nb'") ≡ scanned_string (Ok (plain_token (Str (borrowed_atom (codes "a")) (borrowed_atom (codes "'a"))))) (fault Always (plain UnterminatedStrLit) 0 2 ∷ []) (codes "'a")
 unfolding is_line_break is_line_terminator encode
 line_feed = refl
+
+-- `'`, U+2028, `'`: a line separator stands in a string
+line_separator : string_literal (39 ∷ 0x2028 ∷ 39 ∷ []) ≡ scanned_string (Ok (plain_token (Str (borrowed_atom (0xE2 ∷ 0x80 ∷ 0xA8 ∷ [])) (borrowed_atom (39 ∷ 0xE2 ∷ 0x80 ∷ 0xA8 ∷ 39 ∷ []))))) [] (39 ∷ 0x2028 ∷ 39 ∷ [])
+unfolding is_line_break is_line_terminator encode
+line_separator = refl
+
+-- `'/ a`: a string without its quote reaches to the end
+to_the_end : string_literal (codes "'/ a") ≡ scanned_string (Ok (plain_token (Str (borrowed_atom (codes "/ a")) (borrowed_atom (codes "'/ a"))))) (fault Always (plain UnterminatedStrLit) 0 4 ∷ []) (codes "'/ a")
+unfolding is_line_break is_line_terminator encode
+to_the_end = refl
+
+-- `"it's"`: the other quote stands for itself
+other_quote : string_literal (codes "\"it's\"") ≡ scanned_string (Ok (plain_token (Str (borrowed_atom (codes "it's")) (borrowed_atom (codes "\"it's\""))))) [] (codes "\"it's\"")
+unfolding is_line_break is_line_terminator encode
+other_quote = refl
+
+-- `'\1\x4'`: the fault before the refusal stays
+fault_and_refusal : string_literal (codes "'\\1\\x4'") ≡ scanned_string (Err (error (bad_escape (codes "2 hex characters")) 3 6)) (fault Strict (plain LegacyOctal) 1 3 ∷ []) (codes "'\\1\\x4")
+unfolding is_line_break is_line_terminator encode
+fault_and_refusal = refl

@@ -1,6 +1,6 @@
 -- Escapes (ECMA-262 EscapeSequence, 12.9.4, with LegacyOctalEscapeSequence of Annex B; UnicodeEscapeSequence in names,
 -- 12.7): what is written of one, and its value or why it is refused. Which spans refusals have is our own choice.
-use Rattle.std.specs.Prelude.{ℕ, ◌+◌, Bool, false, not, ◌&&◌, ◌==◌, nat_lt, nat_le, List, [], ◌∷◌, ◌++◌, codes, length, take, drop, if◌then◌else◌}
+use Rattle.std.specs.Prelude.{◌≡◌, ℕ, ◌+◌, Bool, true, false, not, ◌&&◌, ◌==◌, nat_lt, nat_le, List, [], ◌∷◌, ◌++◌, codes, length, take, drop, if◌then◌else◌}
 use Rattle.std.specs.Char.{is_digit}
 use Rattle.std.specs.Str.Parse.{digits_value}
 use Rattle.ecma_place.specs.Text.{Text}
@@ -9,7 +9,7 @@ use Rattle.ecma_token.specs.View.{KindView, ErrorView, plain, bad_escape}
 use Rattle.ecma_token.specs.declared.error.SyntaxError.{InvalidIdentChar, LegacyOctal, InvalidUnicodeEscape, InvalidStrEscape, ExpectedUnicodeEscape}
 use Rattle.ecma_scan.specs.declared.found.Blame.TheVariants.{Always, Strict}
 use Rattle.ecma_scan.specs.Found.{Fault, error_over, error_at, span_of}
-use Rattle.ecma_scan.specs.Fronts.{front, after, next_is, next_passes}
+use Rattle.ecma_scan.specs.Fronts.{front, after, next_is, next_passes, begins_with}
 
 -- where an escape stands
 pub data Use : Type 0 where
@@ -22,6 +22,10 @@ pub data Escape : Type 0 where
   Accepted : Text → Text → List Fault → Escape
   -- what is written up to where reading goes on, and why it is refused
   Refused : Text → ErrorView → Escape
+
+abbrev pub escape_spelling : Escape → Text
+escape_spelling (Accepted spelling value faults) = spelling
+escape_spelling (Refused spelling error) = spelling
 
 abbrev pub is_hex_digit : ℕ → Bool
 is_hex_digit c = is_digit c 16
@@ -165,3 +169,16 @@ escape_behind within (c ∷ cs) = escape_of within (opening c) c cs
 -- the escape with which a text begins
 abbrev pub escape : Use → Text → Escape
 escape within text = escape_behind within (drop 1 text)
+
+-- Laws
+
+-- What is written of an escape is a front of the text at its backslash.
+abbrev pub EscapeIsFront : Type 0
+EscapeIsFront = (within : Use) (text : Text) → begins_with (escape_spelling (escape within (92 ∷ text))) (92 ∷ text) ≡ true
+
+-- An escape is settled by what is written of it and one character more.
+abbrev pub EscapeIsSettled : Type 0
+EscapeIsSettled =
+    (within : Use) (text other : Text)
+    → take (1 + length (escape_spelling (escape within text))) text ≡ take (1 + length (escape_spelling (escape within text))) other
+    → escape within text ≡ escape within other

@@ -10,6 +10,8 @@ pub mod Pieces
 pub mod PlainWords
 pub mod Punctuators
 pub mod Strings
+pub mod Templates
+pub mod Words
 pub use Rattle.ecma_place.specs.Atom
 pub use Rattle.ecma_place.specs.Character
 pub use Rattle.ecma_place.specs.Cursor

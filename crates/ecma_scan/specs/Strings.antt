@@ -1,5 +1,5 @@
 -- Strings (ECMA-262 StringLiteral, 12.9.4): a quote, pieces, and the same quote.
-use Rattle.std.specs.Prelude.{ℕ, ◌+◌, Bool, true, false, ◌||◌, ◌==◌, List, [], ◌∷◌, ◌++◌, map, length, drop, Option, Some, None, Result, Ok, Err, encode_utf8_all, if◌then◌else◌}
+use Rattle.std.specs.Prelude.{◌≡◌, ℕ, ◌+◌, Bool, true, false, ◌||◌, ◌==◌, List, [], ◌∷◌, ◌++◌, map, Option, Some, None, Result, Ok, Err, encode_utf8_all, if◌then◌else◌}
 use Rattle.std.specs.List.{list_any}
 use Rattle.ecma_place.specs.Text.{Text, byte_len}
 use Rattle.ecma_place.specs.Atom.{AtomView, borrowed_atom, owned_atom}
@@ -9,7 +9,9 @@ use Rattle.ecma_token.specs.declared.error.SyntaxError.{UnterminatedStrLit}
 use Rattle.ecma_token.specs.declared.token.Token.{Str}
 use Rattle.ecma_scan.specs.declared.found.Blame.TheVariants.{Always}
 use Rattle.ecma_scan.specs.Found.{Fault, Scanned, error_over, error_behind, fault_behind}
-use Rattle.ecma_scan.specs.Pieces.{Cutter, pieces, spelled}
+use Rattle.ecma_scan.specs.Fronts.{begins_with}
+use Rattle.ecma_scan.specs.Locality.{IsLocal}
+use Rattle.ecma_scan.specs.Pieces.{Cutter, pieces, spelled, remainder, Tiled}
 use Rattle.ecma_scan.specs.Escapes.{Escape, Accepted, Refused, InString, escape}
 
 -- a character that stands for itself, or an escape: what is written, the value, and what is said of it
@@ -120,11 +122,22 @@ found_string quote opened ps (BadEscape spelling error) =
 abbrev pub string_pieces : ℕ → Text → List Piece
 string_pieces quote text = pieces (string_cutter quote) tt text
 
-abbrev pub pieces_text : ℕ → Text → Text
-pieces_text quote text = spelled (string_cutter quote) (string_pieces quote text)
-
 -- the string with which a text begins
 abbrev pub string_literal : Text → Scanned TokenView
 string_literal [] = found_string 0 [] [] Unclosed
 string_literal (quote ∷ text) =
-    found_string quote (quote ∷ pieces_text quote text) (string_pieces quote text) (ending quote (drop (length (pieces_text quote text)) text))
+    found_string quote (quote ∷ spelled (string_cutter quote) (string_pieces quote text)) (string_pieces quote text) (ending quote (remainder (string_cutter quote) tt text))
+
+-- Laws
+
+-- The pieces of a string and what follows them are the text behind its quote, and no piece begins what follows.
+abbrev pub StringTiles : Type 0
+StringTiles = (quote : ℕ) (text : Text) → Tiled (string_cutter quote) tt text
+
+-- What is read as a string is a front of the text.
+abbrev pub StringIsFront : Type 0
+StringIsFront = (text : Text) → begins_with (string_literal text).spelling text ≡ true
+
+-- A string that is read cleanly is read the same in front of any text.
+abbrev pub StringIsLocal : Type 0
+StringIsLocal = IsLocal opens_string string_literal (λ text. true)
