@@ -1,6 +1,7 @@
 pub mod Agreement
 pub mod EscapeLaws
 mod EscapeRows
+pub mod ExpressionLaws
 pub mod Fronts
 pub mod GapLemmas
 pub mod NumberLaws

@@ -2,6 +2,7 @@ pub mod Blanks
 pub mod Cutters
 pub mod DigitRuns
 pub mod Escapes
+pub mod Expressions
 pub mod Found
 pub mod Fronts
 pub mod Locality
