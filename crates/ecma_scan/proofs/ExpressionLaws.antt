@@ -7,12 +7,12 @@ use Rattle.ecma_place.specs.Atom.{AtomView}
 use Rattle.ecma_place.specs.Character.{is_ident_start, is_line_terminator}
 use Rattle.ecma_token.specs.View.{ErrorView}
 use Rattle.ecma_scan.specs.Found.{Scanned}
-use Rattle.ecma_scan.specs.Fronts.{next_passes, next_is, is, line, behind_line, in_line}
-use Rattle.ecma_scan.specs.Locality.{separates, is_accepted, is_clean, has_clean_faults}
+use Rattle.ecma_scan.specs.Fronts.{next_passes, next_is, behind_line, in_line}
+use Rattle.ecma_scan.specs.Locality.{separates, is_accepted, has_clean_faults}
 use Rattle.ecma_scan.specs.Pieces.{pieces, spelled, remainder}
 use Rattle.ecma_scan.specs.Cutters.{IsCutter, ReadsInOrder}
 use Rattle.ecma_scan.specs.Words.{word_cutter, word_ending, found_name, identifier_name}
-use Rattle.ecma_scan.specs.Expressions.{Letter, Bare, Quoted, letter_text, quoted, ClassRole, ClassStop, ClassBackslash, ClassItself, class_role, class_letter_of, class_letter, class_cutter, BodyPiece, Single, Class, body_piece_text, single, class_behind, BodyRole, BodyStop, BodyBackslash, Bracket, BodyItself, body_role, body_piece_of, body_piece, body_cutter, body_pieces, no_flags, flags, slashed, regex_value, closed_expression, open_expression, expression_behind, regular_expression, BodyTiles, ExpressionIsFront, ExpressionIsLocal}
+use Rattle.ecma_scan.specs.Expressions.{Letter, Bare, Quoted, letter_text, quoted, ClassRole, ClassStop, ClassBackslash, ClassItself, class_role, class_letter_of, class_letter, class_cutter, BodyPiece, Single, Class, body_piece_text, single, class_behind, BodyRole, BodyStop, BodyBackslash, Bracket, BodyItself, body_role, body_piece_of, body_piece, body_cutter, body_pieces, no_flags, flags, regex_value, closed_expression, open_expression, expression_behind, regular_expression, BodyTiles, ExpressionIsFront, ExpressionIsLocal}
 use Rattle.ecma_scan.proofs.Fronts.{separated, front_after}
 use Rattle.ecma_scan.proofs.NumberLaws.{begins_is}
 use Rattle.ecma_scan.proofs.PieceLemmas.{FrontIf, is_cutter, pieces_none, pieces_in_order, cut, remainder_is, tiling, maximal}

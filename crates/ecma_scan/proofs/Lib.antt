@@ -1,7 +1,10 @@
 pub mod Agreement
 pub mod EscapeLaws
 mod EscapeRows
+pub mod ExpressionForms
 pub mod ExpressionLaws
+pub mod ExpressionReading
+mod ExpressionRows
 pub mod Fronts
 pub mod GapLemmas
 pub mod NumberLaws
