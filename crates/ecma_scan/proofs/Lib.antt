@@ -1,4 +1,7 @@
 pub mod Agreement
+pub mod BarsLaws
+pub mod CommentLaws
+mod CommentRows
 pub mod EscapeLaws
 mod EscapeRows
 pub mod ExpressionForms
@@ -6,7 +9,11 @@ pub mod ExpressionLaws
 pub mod ExpressionReading
 mod ExpressionRows
 pub mod Fronts
+pub mod GapFaults
+pub mod GapForms
+pub mod GapLaws
 pub mod GapLemmas
+mod GapRows
 pub mod NumberLaws
 pub mod NumberLemmas
 pub mod NumberLocal
@@ -15,6 +22,7 @@ pub mod PieceLemmas
 pub mod PunctuatorLaws
 pub mod PunctuatorLemmas
 mod PunctuatorRows
+pub mod ShebangLaws
 pub mod StringLaws
 mod StringRows
 pub mod TemplateLaws
