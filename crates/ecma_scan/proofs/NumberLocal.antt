@@ -1,15 +1,18 @@
 -- What follows a number that is read cleanly may be replaced by any separator, and a number is not empty.
-use Rattle.std.proofs.Common.{◌≡◌, ℕ, ◌<◌, Bool, true, false, not, ◌&&◌, ◌||◌, ◌==◌, [], ◌∷◌, ◌++◌, length, Option, Some, None, refl, ap, ◌∙◌, sym, arith}
+use Rattle.std.proofs.Common.{◌≡◌, ℕ, ◌<◌, Bool, true, false, not, ◌&&◌, ◌||◌, ◌==◌, [], ◌∷◌, ◌++◌, length, Option, Some, None, refl, ap, ◌∙◌, sym, arith, eqb-true}
 use Rattle.std.proofs.lemmas.List.{drop_at}
+use Rattle.std.proofs.lemmas.Bool.Decides.{nat_tests}
 use Rattle.ecma_place.specs.Text.{Text, byte_len}
-use Rattle.ecma_place.specs.Character.{is_ident_start}
+use Rattle.ecma_place.specs.Character.{is_ident_start, is_white_space, is_line_terminator}
 use Rattle.ecma_token.specs.View.{ErrorView}
 use Rattle.ecma_token.specs.declared.token.Radix.{Radix}
 use Rattle.ecma_token.specs.declared.token.Radix.TheVariants.{Decimal}
 use Rattle.ecma_scan.specs.Fronts.{next_passes}
+use Rattle.ecma_scan.specs.Gaps.{is_inert}
 use Rattle.ecma_scan.specs.Locality.{is_clean, separates}
-use Rattle.ecma_scan.specs.Numbers.{digit, in_run, opens_number, Number, Prefixed, BigRun, OctalRun, DecimalRun, Exponent, NoExponent, Scaled, fraction_text, number_text, decimal_of, decimal_number, number_behind, prefix, run_of, behind_run, or_else, exponent_refusal, name_refusal, part_refusal, refusal, is_big_number, found_number, number_parts, behind_number, NumberIsLocal, NumberIsSome}
+use Rattle.ecma_scan.specs.Numbers.{digit, in_run, opens_number, Number, Prefixed, BigRun, OctalRun, DecimalRun, Exponent, NoExponent, Scaled, fraction_text, number_text, decimal_of, decimal_number, number_behind, prefix, run_of, behind_run, or_else, exponent_refusal, name_refusal, part_refusal, refusal, is_big_number, found_number, number_parts, behind_number, NumberIsLocal, NumberIsSome, NumberBeginsNoGap}
 use Rattle.ecma_scan.proofs.Fronts.{separated}
+use Rattle.ecma_scan.proofs.GapLaws.{no_element}
 use Rattle.ecma_scan.proofs.NumberLaws.{number_sound, number_back}
 
 -- no name begins at a separator
@@ -111,3 +114,22 @@ pub number_some : NumberIsSome
 number_some ts1085 text opens =
     let n = number_parts text in
     rw (spelling_is ts1085 n (refusal n (behind_number n text))) (parts_some text opens)
+
+-- no number begins an element of a gap
+
+digit_inert : (c : ℕ) → digit Decimal c ≡ true → is_inert c ≡ true
+unfolding is_white_space is_line_terminator
+digit_inert c h = grind (arith, nat_tests)
+
+point_inert : is_inert 46 ≡ true
+unfolding is_white_space is_line_terminator
+point_inert = refl
+
+pub number_begins_no_gap : NumberBeginsNoGap
+number_begins_no_gap mode flag [] opens = cc
+number_begins_no_gap mode flag (c ∷ cs) opens = no_element mode flag c cs (go (digit Decimal c) (c == 46) refl refl opens)
+  where
+    go : (x y : Bool) → digit Decimal c ≡ x → (c == 46) ≡ y → (x || (y && next_passes (digit Decimal) cs)) ≡ true → is_inert c ≡ true
+    go true y e f h = digit_inert c e
+    go false true e f h = ap is_inert (eqb-true c 46 f) ∙ point_inert
+    go false false e f h = cc

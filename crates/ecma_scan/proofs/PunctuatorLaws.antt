@@ -1,16 +1,20 @@
 -- A punctuator is the longest of the table, and is found again in front of any separator.
 use Rattle.std.proofs.Common.{◌≡◌, ℕ, zero, suc, ◌<◌, ◌≤◌, Bool, true, false, not, cond, ◌&&◌, ◌||◌, ◌==◌, List, [], ◌∷◌, ◌++◌, drop, length, Option, Some, None, refl, ap, ◌∙◌, sym, subst, arith, nat_le, eqb-true, eq-eqb}
-use Rattle.std.specs.Prelude.{slice_index_or, codes}
+use Rattle.std.specs.Prelude.{slice_index_or, codes, is_none}
 use Rattle.std.specs.List.{list_all, Contains}
 use Rattle.std.proofs.lemmas.Bool.{and_parts}
 use Rattle.std.proofs.lemmas.Bool.Decides.{nat_tests}
 use Rattle.std.proofs.lemmas.List.{take-append-drop}
 use Rattle.ecma_place.specs.Text.{Text}
-use Rattle.ecma_token.specs.declared.token.Token.{Token, BackQuote, RBrace, RParen}
+use Rattle.ecma_place.specs.Character.{is_white_space, is_line_terminator}
+use Rattle.ecma_syntax.specs.declared.operator.BinOpToken.TheVariants as bin
+use Rattle.ecma_token.specs.declared.token.Token.{Token, BackQuote, BinOp, RBrace, RParen}
+use Rattle.ecma_scan.specs.declared.gap.GapMode.{GapMode}
 use Rattle.ecma_scan.specs.Fronts.{begins_with}
+use Rattle.ecma_scan.specs.Gaps.{element}
 use Rattle.ecma_scan.specs.Locality.{separates}
 use Rattle.ecma_scan.specs.Numbers.{opens_fraction}
-use Rattle.ecma_scan.specs.Punctuators.{Punctuator, punctuators, first_of, spelling_in, angle_in, longest, alone_or, punctuator_in, found_punctuator, is_longest_first, TableIsLongestFirst, PunctuatorIsLongest, PunctuatorIsMember, NoPunctuatorIsMissed, PunctuatorTiles, PunctuatorIsLocal, IsReadAlways, ClosersAreLocal}
+use Rattle.ecma_scan.specs.Punctuators.{Punctuator, punctuators, first_of, spelling_in, angle_in, longest, alone_or, punctuator_in, found_punctuator, is_longest_first, TableIsLongestFirst, PunctuatorIsLongest, PunctuatorIsMember, NoPunctuatorIsMissed, PunctuatorTiles, PunctuatorIsLocal, IsReadAlways, ClosersAreLocal, spells, angle, PunctuatorBeginsNoGap}
 use Rattle.ecma_scan.proofs.PunctuatorLemmas.{punctuator-front, punctuator-some}
 
 pub table_is_longest_first : TableIsLongestFirst
@@ -263,3 +267,74 @@ closing_parenthesis false r = refl
 
 pub closers_are_local : ClosersAreLocal
 closers_are_local = (back_quote, closing_brace, closing_parenthesis)
+
+-- no spelling begins an element of a gap, at a separator
+
+abbrev begins_none : GapMode → Bool → Text → Punctuator → Bool
+begins_none mode flag r p = is_none (element mode flag (p.spelling ++ r))
+
+at_the_end : (mode : GapMode) (flag : Bool) → list_all (begins_none mode flag []) punctuators ≡ true
+unfolding is_white_space is_line_terminator
+at_the_end mode true = refl
+at_the_end mode false = refl
+
+at_a_space : (mode : GapMode) (flag : Bool) (cs : Text) → list_all (begins_none mode flag (32 ∷ cs)) punctuators ≡ true
+unfolding is_white_space is_line_terminator
+at_a_space mode true cs = refl
+at_a_space mode false cs = refl
+
+at_a_line_feed : (mode : GapMode) (flag : Bool) (cs : Text) → list_all (begins_none mode flag (10 ∷ cs)) punctuators ≡ true
+unfolding is_white_space is_line_terminator
+at_a_line_feed mode true cs = refl
+at_a_line_feed mode false cs = refl
+
+at_a_separator : (mode : GapMode) (flag : Bool) (r : Text) → separates r ≡ true → list_all (begins_none mode flag r) punctuators ≡ true
+at_a_separator mode flag [] free = at_the_end mode flag
+at_a_separator mode flag (c ∷ cs) free = go (c == 32) (c == 10) refl refl free
+  where
+    go : (x y : Bool) → (c == 32) ≡ x → (c == 10) ≡ y → (x || y) ≡ true → list_all (begins_none mode flag (c ∷ cs)) punctuators ≡ true
+    go true y e f h = ap (λ d. list_all (begins_none mode flag (d ∷ cs)) punctuators) (eqb-true c 32 e) ∙ at_a_space mode flag cs
+    go false true e f h = ap (λ d. list_all (begins_none mode flag (d ∷ cs)) punctuators) (eqb-true c 10 f) ∙ at_a_line_feed mode flag cs
+    go false false e f h = cc
+
+-- `<` and `>` are found among types, and are members too
+angle_passes : (test : Text → Bool) (c : ℕ) (t : Token) → list_all (λ p. test p.spelling) punctuators ≡ true → angle c ≡ Some t → test (c ∷ []) ≡ true
+angle_passes test c t all e = go (c == 60) (c == 62) refl refl e
+  where
+    less : Contains punctuators (spells (codes "<") (BinOp bin.Lt))
+    less = (25, omega arith, refl)
+
+    greater : Contains punctuators (spells (codes ">") (BinOp bin.Gt))
+    greater = (31, omega arith, refl)
+
+    go : (x y : Bool) → (c == 60) ≡ x → (c == 62) ≡ y → cond x (Some (BinOp bin.Lt)) (cond y (Some (BinOp bin.Gt)) None) ≡ Some t → test (c ∷ []) ≡ true
+    go true y f g e = ap (λ d. test (d ∷ [])) (eqb-true c 60 f) ∙ member_passes (λ p. test p.spelling) punctuators (spells (codes "<") (BinOp bin.Lt)) all less
+    go false true f g e = ap (λ d. test (d ∷ [])) (eqb-true c 62 g) ∙ member_passes (λ p. test p.spelling) punctuators (spells (codes ">") (BinOp bin.Gt)) all greater
+    go false false f g e = cc
+
+-- a test that all spellings pass is passed by what is found
+found_passes : (test : Text → Bool) (type_mode : Bool) (text : Text) (found : Punctuator) → list_all (λ p. test p.spelling) punctuators ≡ true → punctuator_in type_mode text ≡ Some found
+    → test found.spelling ≡ true
+found_passes test type_mode [] found all e = cc
+found_passes test type_mode (c ∷ cs) found all e = by_mode type_mode e
+  where
+    unless : (x : Bool) → longest x (c ∷ cs) ≡ Some found → test found.spelling ≡ true
+    unless true e = cc
+    unless false e = member_passes (λ p. test p.spelling) punctuators found all (member_found punctuators (c ∷ cs) found e).0
+
+    go : (o : Option Token) → angle c ≡ o → alone_or o c cs ≡ Some found → test found.spelling ≡ true
+    go (Some t) a e = let same : spells (c ∷ []) t ≡ found = cc in ap (λ p. test p.spelling) (sym same) ∙ angle_passes test c t all a
+    go None a e = unless (opens_fraction (c ∷ cs)) e
+
+    by_mode : (x : Bool) → punctuator_in x (c ∷ cs) ≡ Some found → test found.spelling ≡ true
+    by_mode true e = go (angle c) refl e
+    by_mode false e = unless (opens_fraction (c ∷ cs)) e
+
+from_none : {A : Type 0} (o : Option A) → is_none o ≡ true → o ≡ None
+from_none None h = refl
+from_none (Some x) h = cc
+
+pub punctuator_begins_no_gap : PunctuatorBeginsNoGap
+punctuator_begins_no_gap type_mode mode flag text r found e free =
+    from_none (element mode flag (found.spelling ++ r))
+    (found_passes (λ spelling. is_none (element mode flag (spelling ++ r))) type_mode text found (at_a_separator mode flag r free) e)

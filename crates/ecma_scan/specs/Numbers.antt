@@ -14,8 +14,10 @@ use Rattle.ecma_token.specs.declared.token.Radix.{Radix}
 use Rattle.ecma_token.specs.declared.token.Radix.TheVariants.{Binary, Octal, Decimal, Hex}
 use Rattle.ecma_token.specs.declared.token.Token.{Num, BigInt}
 use Rattle.ecma_scan.specs.declared.found.Blame.TheVariants.{Always, Strict}
+use Rattle.ecma_scan.specs.declared.gap.GapMode.{GapMode}
 use Rattle.ecma_scan.specs.Found.{Fault, Scanned, error_over, error_at, fault_behind, span_of}
 use Rattle.ecma_scan.specs.Fronts.{front, after, next_passes, next_is}
+use Rattle.ecma_scan.specs.Gaps.{element}
 use Rattle.ecma_scan.specs.Locality.{separates, IsLocal}
 
 -- Characters
@@ -374,3 +376,7 @@ NumberIsLocal = (ts1085 : Bool) → IsLocal opens_number (number ts1085) separat
 -- A whole value fits 128 bits.
 abbrev pub WholeFits : Type 0
 WholeFits = (parts : Number) (value : ℕ) → whole_value parts ≡ Some value → value < 2 ^ 128
+
+-- No number begins an element of a gap.
+abbrev pub NumberBeginsNoGap : Type 0
+NumberBeginsNoGap = (mode : GapMode) (flag : Bool) (text : Text) → opens_number text ≡ true → element mode flag text ≡ None

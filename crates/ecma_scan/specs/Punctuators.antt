@@ -7,8 +7,10 @@ use Rattle.ecma_syntax.specs.declared.operator.BinOpToken.TheVariants as bin
 use Rattle.ecma_syntax.specs.declared.operator.AssignOp.TheVariants as assign
 use Rattle.ecma_token.specs.View.{TokenView, plain_token}
 use Rattle.ecma_token.specs.declared.token.Token.{Token, Arrow, At, BackQuote, Bang, Colon, Comma, Dot, DotDotDot, Hash, LBrace, LBracket, LParen, MinusMinus, PlusPlus, QuestionMark, RBrace, RBracket, RParen, Semi, Tilde, BinOp, AssignOp}
+use Rattle.ecma_scan.specs.declared.gap.GapMode.{GapMode}
 use Rattle.ecma_scan.specs.Found.{Scanned, scanned}
 use Rattle.ecma_scan.specs.Fronts.{begins_with}
+use Rattle.ecma_scan.specs.Gaps.{element}
 use Rattle.ecma_scan.specs.Locality.{IsLocal, separates}
 use Rattle.ecma_scan.specs.Numbers.{opens_fraction}
 
@@ -181,3 +183,9 @@ IsReadAlways spelling token = (type_mode : Bool) (r : Text) → punctuator type_
 -- A back quote, `}` and `)` are read whatever follows.
 abbrev pub ClosersAreLocal : Type 0
 ClosersAreLocal = IsReadAlways (codes "`") BackQuote × IsReadAlways (codes "}") RBrace × IsReadAlways (codes ")") RParen
+
+-- At the end of the text and in front of a space or a line feed no punctuator begins an element of a gap.
+abbrev pub PunctuatorBeginsNoGap : Type 0
+PunctuatorBeginsNoGap =
+    (type_mode : Bool) (mode : GapMode) (flag : Bool) (text r : Text) (found : Punctuator) → punctuator_in type_mode text ≡ Some found → separates r ≡ true
+    → element mode flag (found.spelling ++ r) ≡ None
