@@ -1,5 +1,5 @@
 -- A regular expression is a front of the text, and is found again in front of any separator.
-use Rattle.std.proofs.Common.{◌≡◌, ℕ, Bool, true, false, cond, ◌==◌, List, [], ◌∷◌, ◌++◌, drop, length, Option, Some, None, Result, Ok, Err, refl, ap, ◌∙◌, sym, subst, arith, append_assoc, eqb-true}
+use Rattle.std.proofs.Common.{◌≡◌, ℕ, Bool, true, false, cond, ◌==◌, List, [], ◌∷◌, ◌++◌, drop, length, Option, Some, None, Result, Ok, Err, refl, ap, ◌∙◌, sym, subst, arith, append_assoc, eqb-true, ◌<◌, length-append}
 use Rattle.std.proofs.lemmas.List.{drop_at, append_cancel_left}
 use Rattle.std.proofs.lemmas.Bool.{and_parts}
 use Rattle.ecma_place.specs.Text.{Text}
@@ -11,8 +11,9 @@ use Rattle.ecma_scan.specs.Fronts.{next_passes, next_is, behind_line, in_line}
 use Rattle.ecma_scan.specs.Locality.{separates, is_accepted, has_clean_faults}
 use Rattle.ecma_scan.specs.Pieces.{pieces, spelled, remainder}
 use Rattle.ecma_scan.specs.Cutters.{IsCutter, ReadsInOrder}
+use Rattle.ecma_scan.specs.Punctuators.{punctuator}
 use Rattle.ecma_scan.specs.Words.{word_cutter, word_ending, found_name, identifier_name}
-use Rattle.ecma_scan.specs.Expressions.{Letter, Bare, Quoted, letter_text, quoted, ClassRole, ClassStop, ClassBackslash, ClassItself, class_role, class_letter_of, class_letter, class_cutter, BodyPiece, Single, Class, body_piece_text, single, class_behind, BodyRole, BodyStop, BodyBackslash, Bracket, BodyItself, body_role, body_piece_of, body_piece, body_cutter, body_pieces, no_flags, flags, regex_value, closed_expression, open_expression, expression_behind, regular_expression, BodyTiles, ExpressionIsFront, ExpressionIsLocal}
+use Rattle.ecma_scan.specs.Expressions.{Letter, Bare, Quoted, letter_text, quoted, ClassRole, ClassStop, ClassBackslash, ClassItself, class_role, class_letter_of, class_letter, class_cutter, BodyPiece, Single, Class, body_piece_text, single, class_behind, BodyRole, BodyStop, BodyBackslash, Bracket, BodyItself, body_role, body_piece_of, body_piece, body_cutter, body_pieces, no_flags, flags, regex_value, closed_expression, open_expression, expression_behind, regular_expression, BodyTiles, ExpressionIsFront, ExpressionIsLocal, FirstSlashIsLocal}
 use Rattle.ecma_scan.proofs.Fronts.{separated, front_after}
 use Rattle.ecma_scan.proofs.NumberLaws.{begins_is}
 use Rattle.ecma_scan.proofs.PieceLemmas.{FrontIf, is_cutter, pieces_none, pieces_in_order, cut, remainder_is, tiling, maximal}
@@ -316,3 +317,23 @@ expression_is_local [] behind r opens clean spells free = let (l, e) = starts_wi
 expression_is_local (c ∷ b) behind r opens clean spells free =
     let good : is_accepted (expression_behind (b ++ behind)).value ≡ true = (and_parts (is_accepted (expression_behind (b ++ behind)).value) (has_clean_faults (expression_behind (b ++ behind)).faults) clean).0 in
     behind_local b behind r good (spells ∙ ap (λ x. x ∷ b) (eqb-true c 47 opens)) free
+
+-- the slash by itself
+
+-- one character behind a slash settles which punctuator it is
+slash_again : (type_mode : Bool) (d : ℕ) (x y : Text) → punctuator type_mode (47 ∷ (d ∷ x)) ≡ punctuator type_mode (47 ∷ (d ∷ y))
+slash_again true d x y = refl
+slash_again false d x y = refl
+
+slash_before : (type_mode : Bool) (l x y : Text) → 0 < length l → punctuator type_mode (47 ∷ (l ++ x)) ≡ punctuator type_mode (47 ∷ (l ++ y))
+slash_before type_mode [] x y some = absurd (omega (arith, some))
+slash_before type_mode (d ∷ l) x y some = slash_again type_mode d (l ++ x) (l ++ y)
+
+pub first_slash_is_local : FirstSlashIsLocal
+first_slash_is_local type_mode [] behind r opens clean spells = let (l, e) = starts_with_slash (drop 1 behind) in cc
+first_slash_is_local type_mode (c ∷ b) behind r opens clean spells =
+    let slash : c ≡ 47 = eqb-true c 47 opens in
+    let good : is_accepted (expression_behind (b ++ behind)).value ≡ true = (and_parts (is_accepted (expression_behind (b ++ behind)).value) (has_clean_faults (expression_behind (b ++ behind)).faults) clean).0 in
+    let (ps, f, written, order, fine, flagged) = must_close b behind good (spells ∙ ap (λ x. x ∷ b) slash) in
+    let some : 0 < length b = omega (arith, ap length written, length-append (spelled body_cutter ps) (47 ∷ f)) in
+    rw slash (slash_before type_mode b r behind some)

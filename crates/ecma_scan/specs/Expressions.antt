@@ -10,8 +10,9 @@ use Rattle.ecma_token.specs.declared.error.SyntaxError.{UnterminatedRegExp}
 use Rattle.ecma_token.specs.declared.token.Token.{Regex}
 use Rattle.ecma_scan.specs.Found.{Scanned, scanned, error_over, error_behind, fault_behind}
 use Rattle.ecma_scan.specs.Fronts.{next_passes, next_is, begins_with, line}
-use Rattle.ecma_scan.specs.Locality.{IsLocal, separates}
+use Rattle.ecma_scan.specs.Locality.{IsLocal, is_clean, separates}
 use Rattle.ecma_scan.specs.Pieces.{Cutter, pieces, spelled, remainder, Tiled}
+use Rattle.ecma_scan.specs.Punctuators.{punctuator}
 use Rattle.ecma_scan.specs.Words.{identifier_name}
 
 -- Letters
@@ -209,3 +210,9 @@ ExpressionIsFront = (text : Text) → opens_expression text ≡ true → begins_
 -- feed.
 abbrev pub ExpressionIsLocal : Type 0
 ExpressionIsLocal = IsLocal opens_expression regular_expression separates
+
+-- And the slash of such an expression is read the same by itself, as `/` or `/=`.
+abbrev pub FirstSlashIsLocal : Type 0
+FirstSlashIsLocal =
+    (type_mode : Bool) (b behind r : Text) → opens_expression (b ++ behind) ≡ true → is_clean (regular_expression (b ++ behind)) ≡ true
+    → (regular_expression (b ++ behind)).spelling ≡ b → punctuator type_mode (b ++ r) ≡ punctuator type_mode (b ++ behind)

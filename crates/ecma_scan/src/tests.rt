@@ -157,11 +157,12 @@ fn reads_every_punctuator(rt: HostRuntime) -> Result<(), Fail> {
         TokenKind::Arrow,
         TokenKind::PlusPlus,
         TokenKind::MinusMinus,
+        TokenKind::BackQuote,
     ];
     assert_kinds(
         &rt,
         rt.alloc(),
-        "{ } ( ) [ ] ; , ~ @ # : ? . ... ! => ++ --",
+        "{ } ( ) [ ] ; , ~ @ # : ? . ... ! => ++ -- `",
         false,
         &kinds,
     )
