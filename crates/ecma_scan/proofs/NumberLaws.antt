@@ -1,18 +1,20 @@
 -- A number has the forms of its parts, is a front of the text, and is read again in front of any separator.
-use Rattle.std.proofs.Common.{◌≡◌, ℕ, ◌<◌, ◌^◌, ◌⊎◌, inl, inr, Bool, true, false, cond, ◌&&◌, ◌||◌, ◌==◌, nat_lt, [], ◌∷◌, ◌++◌, drop, length, Option, Some, None, refl, ap, ◌∙◌, sym, append_assoc, arith, eqb-true}
+use Rattle.std.proofs.Common.{◌≡◌, ℕ, ◌<◌, ◌^◌, ◌⊎◌, inl, inr, Bool, true, false, cond, ◌&&◌, ◌||◌, ◌==◌, nat_lt, [], ◌∷◌, ◌++◌, drop, length, Option, Some, None, refl, ap, ◌∙◌, sym, append_assoc, arith, eqb-true, ◌+◌, not}
 use Rattle.std.specs.Prelude.{is_some, option_map}
-use Rattle.std.specs.List.{list_any}
+use lib.Utf8.{encode}
+use Rattle.std.specs.List.{list_all, list_any}
 use Rattle.std.specs.Str.Parse.{digits_value}
 use Rattle.std.proofs.lemmas.Bool.{and_parts}
 use Rattle.std.proofs.lemmas.Bool.Decides.{nat_tests}
 use Rattle.std.proofs.lemmas.List.{drop_at}
-use Rattle.ecma_place.specs.Text.{Text}
+use Rattle.ecma_place.specs.Text.{Text, byte_len}
+use Rattle.ecma_place.proofs.MoveLemmas.{byte_len-append}
 use Rattle.ecma_token.specs.declared.token.Radix.{Radix}
 use Rattle.ecma_token.specs.declared.token.Radix.TheVariants.{Binary, Octal, Decimal, Hex}
 use Rattle.ecma_scan.specs.Fronts.{next_passes, next_is, is}
 use Rattle.ecma_scan.specs.Locality.{separates}
-use Rattle.ecma_scan.specs.Numbers.{base, digit, in_run, is_exponent_mark, is_sign, Fraction, NoFraction, Point, Exponent, NoExponent, Scaled, Prefixed, BigRun, OctalRun, DecimalRun, fraction_text, exponent_text, number_text, radix_of, prefix, run_of, behind_run, is_big, suffix_of, prefixed_number, is_octal_run, fraction, after_fraction, sign, exponent, decimal_of, decimal_number, number_behind, number_parts, fitting_value, without_separators, NumberTiles, NumberHasItsForm, NumberIsRead, WholeFits, IsRun, IsSuffix, IsFraction, IsSign, IsExponent, IsNumber}
-use Rattle.ecma_scan.proofs.Fronts.{front_all, front_run, after_run, front_after, separated, begins_behind}
+use Rattle.ecma_scan.specs.Numbers.{base, digit, in_run, is_exponent_mark, is_sign, Fraction, NoFraction, Point, Exponent, NoExponent, Scaled, Prefixed, BigRun, OctalRun, DecimalRun, fraction_text, exponent_text, number_text, radix_of, prefix, run_of, behind_run, is_big, suffix_of, prefixed_number, is_octal_run, fraction, after_fraction, sign, exponent, decimal_of, decimal_number, number_behind, number_parts, fitting_value, without_separators, NumberTiles, NumberHasItsForm, NumberIsRead, WholeFits, IsRun, IsSuffix, IsFraction, IsSign, IsExponent, IsNumber, faulty_separators, seen_behind, SeparatorIsFaulty}
+use Rattle.ecma_scan.proofs.Fronts.{front_all, front_run, after_run, front_after, separated, begins_behind, begins_before}
 
 -- the parts that are read have their forms
 
@@ -329,3 +331,71 @@ whole_fits (OctalRun run) value e = fits Octal (without_separators run) value e
 whole_fits (DecimalRun run NoFraction NoExponent) value e = fits Decimal (without_separators run) value e
 whole_fits (DecimalRun run NoFraction (Scaled mark sgn digits)) value e = cc
 whole_fits (DecimalRun run (Point digits) e') value e = cc
+
+-- separators
+
+no_digit : (radix : Radix) → digit radix 95 ≡ false
+no_digit Binary = refl
+no_digit Octal = refl
+no_digit Decimal = refl
+no_digit Hex = refl
+
+-- a character of a run is a digit where it is no separator
+digit_if : (radix : Radix) (c : ℕ) → in_run radix c ≡ true → not (c == 95) ≡ digit radix c
+digit_if radix c h = go (c == 95) refl (digit radix c) refl h
+  where
+    go : (x : Bool) → (c == 95) ≡ x → (y : Bool) → digit radix c ≡ y → (y || x) ≡ true → not x ≡ y
+    go true e y d h = sym (no_digit radix) ∙ ap (digit radix) (sym (eqb-true c 95 e)) ∙ d
+    go false e true d h = refl
+    go false e false d h = cc
+
+at_separator : (radix : Radix) (seen : Bool) (n : ℕ) (next : Text)
+    → faulty_separators radix seen n (95 ∷ next) ≡ (cond (seen && next_passes (digit radix) next) [] (n ∷ [])) ++ faulty_separators radix seen (n + 1) next
+unfolding encode
+at_separator radix true n next = go (next_passes (digit radix) next)
+  where
+    go : (x : Bool) → cond (not x) (n ∷ []) [] ++ faulty_separators radix true (n + 1) next ≡ cond x [] (n ∷ []) ++ faulty_separators radix true (n + 1) next
+    go true = refl
+    go false = refl
+at_separator radix false n next = refl
+
+or_assoc : (x y z : Bool) → ((x || y) || z) ≡ (x || (y || z))
+or_assoc true y z = refl
+or_assoc false y z = refl
+
+around : (radix : Radix) (seen : Bool) (n : ℕ) (before next : Text) → IsRun radix before
+    → faulty_separators radix seen n (before ++ (95 ∷ next))
+    ≡ faulty_separators radix seen n before
+    ++ (cond ((seen || list_any (digit radix) before) && next_passes (digit radix) next) [] ((n + byte_len before) ∷ [])
+    ++ faulty_separators radix (seen || list_any (digit radix) before) ((n + byte_len before) + 1) next)
+around radix seen n [] next h =
+    let same : (seen || false) ≡ seen = or_none seen in
+    let here : n + 0 ≡ n = omega arith in
+    at_separator radix seen n next
+    ∙ ap (λ x. cond (x && next_passes (digit radix) next) [] (n ∷ []) ++ faulty_separators radix x (n + 1) next) (sym same)
+    ∙ ap (λ m. cond ((seen || false) && next_passes (digit radix) next) [] (m ∷ []) ++ faulty_separators radix (seen || false) (m + 1) next) (sym here)
+  where
+    or_none : (x : Bool) → (x || false) ≡ x
+    or_none true = refl
+    or_none false = refl
+around radix seen n (c ∷ cs) next h =
+    let both = and_parts (in_run radix c) (list_all (in_run radix) cs) h in
+    let same : next_passes (digit radix) (cs ++ (95 ∷ next)) ≡ next_passes (digit radix) cs = begins_before (digit radix) cs (95 ∷ next) (no_digit radix) in
+    let seen_more : (seen_behind seen c || list_any (digit radix) cs) ≡ (seen || (digit radix c || list_any (digit radix) cs)) =
+    or_assoc seen (not (c == 95)) (list_any (digit radix) cs) ∙ ap (λ x. seen || (x || list_any (digit radix) cs)) (digit_if radix c both.0) in
+    let long : (n + byte_len (c ∷ [])) + byte_len cs ≡ n + byte_len (c ∷ cs) = omega (arith, byte_len-append (c ∷ []) cs) in
+    let more = around radix (seen_behind seen c) (n + byte_len (c ∷ [])) cs next both.1 in
+    let shape : Bool → ℕ → Text → Text = λ x m l.
+    l ++ (cond (x && next_passes (digit radix) next) [] (m ∷ []) ++ faulty_separators radix x (m + 1) next) in
+    let first = cond (c == 95 && not (seen && next_passes (digit radix) cs)) (n ∷ []) [] in
+    let behind = faulty_separators radix (seen_behind seen c) (n + byte_len (c ∷ [])) cs in
+    ap (λ x. cond (c == 95 && not (seen && x)) (n ∷ []) [] ++ faulty_separators radix (seen_behind seen c) (n + byte_len (c ∷ [])) (cs ++ (95 ∷ next))) same
+    ∙ ap (λ l. first ++ l) (more ∙ ap (λ x. shape x ((n + byte_len (c ∷ [])) + byte_len cs) behind) seen_more ∙ ap (λ m. shape (seen || (digit radix c || list_any (digit radix) cs)) m behind) long)
+    ∙ sym (append_assoc first behind _)
+
+pub separator_is_faulty : SeparatorIsFaulty
+separator_is_faulty radix before next h =
+    let seen = list_any (digit radix) before in
+    let same : 0 + byte_len before ≡ byte_len before = omega arith in
+    around radix false 0 before next h
+    ∙ ap (λ m. faulty_separators radix false 0 before ++ (cond (seen && next_passes (digit radix) next) [] (m ∷ []) ++ faulty_separators radix seen (m + 1) next)) same

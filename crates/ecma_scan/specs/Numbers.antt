@@ -369,6 +369,15 @@ NumberHasItsForm = (text : Text) → IsNumber (number_parts text)
 abbrev pub NumberIsRead : Type 0
 NumberIsRead = (parts : Number) (r : Text) → IsNumber parts → separates r ≡ true → number_parts (number_text parts ++ r) ≡ parts
 
+-- A separator in a run is faulty unless a digit of the run stands before it and one comes next.
+abbrev pub SeparatorIsFaulty : Type 0
+SeparatorIsFaulty =
+    (radix : Radix) (before next : Text) → IsRun radix before
+    → faulty_separators radix false 0 (before ++ (95 ∷ next))
+    ≡ faulty_separators radix false 0 before
+    ++ ((if list_any (digit radix) before && next_passes (digit radix) next then [] else byte_len before ∷ [])
+    ++ faulty_separators radix (list_any (digit radix) before) (byte_len before + 1) next)
+
 -- A number that is read cleanly is read the same at the end of the text and in front of a space or a line feed.
 abbrev pub NumberIsLocal : Type 0
 NumberIsLocal = (ts1085 : Bool) → IsLocal opens_number (number ts1085) separates
