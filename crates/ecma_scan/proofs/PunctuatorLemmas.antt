@@ -12,7 +12,8 @@ use Rattle.ecma_token.specs.View.{token_view, plain_token}
 use Rattle.ecma_syntax.specs.declared.operator.BinOpToken.TheVariants as bin
 use Rattle.ecma_token.specs.declared.token.Token.{Token, BinOp}
 use Rattle.ecma_scan.specs.Fronts.{begins_with}
-use Rattle.ecma_scan.specs.Punctuators.{Punctuator, spells, punctuators, first_of, token_in, count_behind, spelling_in, is_lone, begins_more, angle, angle_in, alone_or, punctuator_in}
+use Rattle.ecma_scan.specs.Punctuators.{Punctuator, spells, punctuators, first_of, token_in, count_behind, spelling_in, is_lone, begins_more, angle, angle_in, longest, alone_or, punctuator_in}
+use Rattle.ecma_scan.specs.Numbers.{opens_fraction}
 use Rattle.ecma_scan.specs.Found.{token_behind}
 
 pub passed-zero : (c : Cursor) → passed 0 c ≡ c
@@ -77,6 +78,7 @@ first_of-none c cs alone more =
     let a8 = neither (c == 126) _ a7.1 in
     let a9 = neither (c == 64) _ a8.1 in
     let a10 = neither (c == 35) _ a9.1 in
+    let a11 = neither (c == 58) _ a10.1 in
     let m0 = neither (c == 46) _ more in
     let m1 = neither (c == 61) _ m0.1 in
     let m2 = neither (c == 33) _ m1.1 in
@@ -90,7 +92,7 @@ first_of-none c cs alone more =
     let m10 = neither (c == 124) _ m9.1 in
     let m11 = neither (c == 38) _ m10.1 in
     let m12 = neither (c == 94) _ m11.1 in
-    simp (a0.0, a1.0, a2.0, a3.0, a4.0, a5.0, a6.0, a7.0, a8.0, a9.0, a10.0, a10.1, m0.0, m1.0, m2.0, m3.0, m4.0, m5.0, m6.0, m7.0, m8.0, m9.0, m10.0, m11.0, m12.0, m12.1)
+    simp (a0.0, a1.0, a2.0, a3.0, a4.0, a5.0, a6.0, a7.0, a8.0, a9.0, a10.0, a11.0, a11.1, m0.0, m1.0, m2.0, m3.0, m4.0, m5.0, m6.0, m7.0, m8.0, m9.0, m10.0, m11.0, m12.0, m12.1)
 
 -- Tokens of punctuators hold no error
 
@@ -102,7 +104,7 @@ AllPlain [] = ⊤
 AllPlain (p ∷ ps) = IsPlain p.token × AllPlain ps
 
 all_plain : AllPlain punctuators
-all_plain = (refl, (refl, (refl, (refl, (refl, (refl, (refl, (refl, (refl, (refl, (refl, (refl, (refl, (refl, (refl, (refl, (refl, (refl, (refl, (refl, (refl, (refl, (refl, (refl, (refl, (refl, (refl, (refl, (refl, (refl, (refl, (refl, (refl, (refl, (refl, (refl, (refl, (refl, (refl, (refl, (refl, (refl, (refl, (refl, (refl, (refl, (refl, (refl, (refl, (refl, (refl, (refl, (refl, (refl, (refl, (refl, (refl, (refl, tt))))))))))))))))))))))))))))))))))))))))))))))))))))))))))
+all_plain = (refl, (refl, (refl, (refl, (refl, (refl, (refl, (refl, (refl, (refl, (refl, (refl, (refl, (refl, (refl, (refl, (refl, (refl, (refl, (refl, (refl, (refl, (refl, (refl, (refl, (refl, (refl, (refl, (refl, (refl, (refl, (refl, (refl, (refl, (refl, (refl, (refl, (refl, (refl, (refl, (refl, (refl, (refl, (refl, (refl, (refl, (refl, (refl, (refl, (refl, (refl, (refl, (refl, (refl, (refl, (refl, (refl, (refl, (refl, tt)))))))))))))))))))))))))))))))))))))))))))))))))))))))))))
 
 plain-found : (ps : List Punctuator) (text : Text) (p : Punctuator) → AllPlain ps → first_of ps text ≡ Some p → IsPlain p.token
 plain-found [] text p all e = cc
@@ -138,9 +140,13 @@ pub punctuator-front : (type_mode : Bool) (text : Text) → take (length (spelli
 punctuator-front type_mode [] = refl
 punctuator-front type_mode (c ∷ cs) = go (angle_in type_mode c)
   where
+    unless : (x : Bool) → take (length (spelling_in (longest x (c ∷ cs)))) (c ∷ cs) ≡ spelling_in (longest x (c ∷ cs))
+    unless true = refl
+    unless false = front-found punctuators (c ∷ cs)
+
     go : (o : Option Token) → take (length (spelling_in (alone_or o c cs))) (c ∷ cs) ≡ spelling_in (alone_or o c cs)
     go (Some t) = refl
-    go None = front-found punctuators (c ∷ cs)
+    go None = unless (opens_fraction (c ∷ cs))
 
 -- and its token holds no error, so that it is seen the same at every place
 
@@ -159,14 +165,18 @@ angle-plain c t e = go (c == 60) (c == 62) e
     go false true e = let same : BinOp bin.Gt ≡ t = cc in subst IsPlain same refl
     go false false e = cc
 
+seen-longest : (n : ℕ) (x : Bool) (text : Text) → SeenEverywhere n (longest x text)
+seen-longest n true text = refl
+seen-longest n false text = seen-plain n (first_of punctuators text) (first_of-plain text)
+
 pub punctuator-seen : (n : ℕ) (type_mode : Bool) (text : Text) → SeenEverywhere n (punctuator_in type_mode text)
 punctuator-seen n type_mode [] = refl
-punctuator-seen n false (c ∷ cs) = seen-plain n (first_of punctuators (c ∷ cs)) (first_of-plain (c ∷ cs))
+punctuator-seen n false (c ∷ cs) = seen-longest n (opens_fraction (c ∷ cs)) (c ∷ cs)
 punctuator-seen n true (c ∷ cs) = go (angle c) refl
   where
     go : (o : Option Token) → angle c ≡ o → SeenEverywhere n (alone_or o c cs)
     go (Some t) e = seen-plain n (Some (spells (c ∷ []) t)) (λ p same. let token : t ≡ p.token = cc in subst IsPlain token (angle-plain c t e))
-    go None e = seen-plain n (first_of punctuators (c ∷ cs)) (first_of-plain (c ∷ cs))
+    go None e = seen-longest n (opens_fraction (c ∷ cs)) (c ∷ cs)
 
 pub first_of-none-at : (text : Text) (c : ℕ) → slice_get text 0 ≡ Some c → is_lone c ≡ false → begins_more c ≡ false → first_of punctuators text ≡ None
 first_of-none-at text c e alone more = ap (first_of punctuators) (first-cons text c e) ∙ first_of-none c (drop 1 text) alone more
@@ -189,9 +199,13 @@ pub punctuator-some : (type_mode : Bool) (text : Text) (p : Punctuator) → punc
 punctuator-some type_mode [] p e = cc
 punctuator-some type_mode (c ∷ cs) p e = go (angle_in type_mode c) e
   where
+    unless : (x : Bool) → longest x (c ∷ cs) ≡ Some p → 0 < length p.spelling
+    unless true e = cc
+    unless false e = spelled-found punctuators (c ∷ cs) p refl e
+
     go : (o : Option Token) → alone_or o c cs ≡ Some p → 0 < length p.spelling
     go (Some t) e =
         let same : spells (c ∷ []) t ≡ p = cc in
         let some : 0 < length (c ∷ []) = omega arith in
         subst (λ q. 0 < length q.spelling) same some
-    go None e = spelled-found punctuators (c ∷ cs) p refl e
+    go None e = unless (opens_fraction (c ∷ cs)) e

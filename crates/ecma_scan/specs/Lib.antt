@@ -4,10 +4,12 @@ pub mod Comments
 pub mod Cutters
 pub mod DigitRuns
 pub mod Escapes
+pub mod Expressions
 pub mod Found
 pub mod Fronts
 pub mod Gaps
 pub mod Locality
+pub mod Numbers
 pub mod Pieces
 pub mod PlainWords
 pub mod Punctuators

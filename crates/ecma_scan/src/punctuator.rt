@@ -3,6 +3,7 @@ ghost use Rattle.std.specs.Prelude.{◌≡◌, ◌∷◌, [], true, false, Some,
 ghost use Rattle.ecma_place.specs.Cursor.{rest, place, passed};
 ghost use Rattle.ecma_scan.specs.Found.{found_view, found_at, token_behind};
 ghost use Rattle.ecma_scan.specs.Punctuators as grammar;
+ghost use Rattle.ecma_scan.specs.Numbers.{opens_fraction};
 ghost use Rattle.ecma_scan.specs.Fronts.{begins_with};
 ghost use Rattle.ecma_scan.specs.Punctuators.{first_of, punctuators, token_in, spelling_in, count_behind, is_lone, begins_more, punctuator_in, angle_in, spells};
 ghost use Rattle.ecma_place.specs.Text.{Text};
@@ -300,6 +301,7 @@ fn lone_token<'a>(first: char) -> Option<Token<'a>>
         '@' => Some(Token::At),
         '#' => Some(Token::Hash),
         ':' => Some(Token::Colon),
+        '`' => Some(Token::BackQuote),
         _ => None,
     }
 }
@@ -351,6 +353,16 @@ fn angle<'a>(type_mode: bool, first: char) -> Option<Token<'a>>
     }
 }
 
+/// Whether a point and a digit stand at the cursor, with which a number begins.
+fn opens_fraction(input: &StringInput) -> bool
+    ensures { result ≡ opens_fraction (rest input.now) }
+{
+    match input.peek() {
+        Some(second) => input.cur() == Some('.') && second.is_digit(10),
+        None => false,
+    }
+}
+
 /// Moves behind the punctuator at the cursor, which begins with this character.
 fn longest<'a>(input: &mut StringInput<'a>, first: char) -> Option<Token<'a>>
     requires { slice_get (rest input.old) 0 ≡ Some first }
@@ -380,14 +392,20 @@ fn punctuator<'a>(input: &mut StringInput<'a>, type_mode: bool) -> Option<Token<
                 input.bump();
                 Some(token)
             }
-            None => longest(input, first),
+            None => {
+                if opens_fraction(input) {
+                    None
+                } else {
+                    longest(input, first)
+                }
+            }
         },
     }
 }
 
 /// Reads the punctuator at the cursor (ECMA-262 Punctuator), the longest there is, or nothing.
 ///
-/// In type mode `<` and `>` are always single. A punctuator takes no memory.
+/// In type mode `<` and `>` are always single. None begins at a point before a digit. A punctuator takes no memory.
 pub fn scan_punct<'a>(
     alloc: Global,
     input: &mut StringInput<'a>,

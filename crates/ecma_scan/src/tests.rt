@@ -157,11 +157,12 @@ fn reads_every_punctuator(rt: HostRuntime) -> Result<(), Fail> {
         TokenKind::Arrow,
         TokenKind::PlusPlus,
         TokenKind::MinusMinus,
+        TokenKind::BackQuote,
     ];
     assert_kinds(
         &rt,
         rt.alloc(),
-        "{ } ( ) [ ] ; , ~ @ # : ? . ... ! => ++ --",
+        "{ } ( ) [ ] ; , ~ @ # : ? . ... ! => ++ -- `",
         false,
         &kinds,
     )
@@ -249,7 +250,7 @@ fn reads_angles_alone_among_types(rt: HostRuntime) -> Result<(), Fail> {
 #[test]
 fn reads_no_punctuator(rt: HostRuntime) -> Result<(), Fail> {
     let alloc = rt.alloc();
-    let mut input = StringInput::new("`", BytePos(4));
+    let mut input = StringInput::new(".5", BytePos(4));
     let found = scan_punct(alloc, &mut input, false)?;
     assert!(rt; matches!(found.value, Ok(None)));
     assert_eq!(rt; found.extent, span(4, 4));
