@@ -70,7 +70,7 @@ marker_none type_mode c cs equals less greater =
     let no : (c == 61 || (((c == 60 || c == 62) && not type_mode) && next_is 32 (drop 6 cs))) ≡ false = rw (equals, less, greater) in
     cond_false (is_marker type_mode c (c ∷ cs)) (Some (Marker c (line (drop 6 cs)))) None (and_none (begins_with (replicate 7 c) (c ∷ cs)) _ no)
 
-special_none : (type_mode flag : Bool) (c : ℕ) (cs : Text) → (c == 45) ≡ false → (c == 61) ≡ false → (c == 60) ≡ false → (c == 62) ≡ false
+pub special_none : (type_mode flag : Bool) (c : ℕ) (cs : Text) → (c == 45) ≡ false → (c == 61) ≡ false → (c == 60) ≡ false → (c == 62) ≡ false
     → special_element type_mode flag (c ∷ cs) ≡ None
 special_none type_mode flag c cs dash equals less greater =
     cond_false _ _ _ (ap (λ x. (x && begins_with (codes "!--") cs) && not type_mode) less) ∙ go flag

@@ -1,19 +1,26 @@
 -- No token begins an element of a gap.
-use Rattle.std.proofs.Common.{◌≡◌, ℕ, Bool, true, false, not, cond, ◌||◌, ◌&&◌, ◌==◌, nat_lt, [], ◌∷◌, None, refl, ap, ◌∙◌, sym, eqb-true, arith}
+use Rattle.std.proofs.Common.{◌≡◌, ℕ, Bool, true, false, not, cond, ◌||◌, ◌&&◌, ◌==◌, nat_lt, [], ◌∷◌, ◌++◌, drop, Option, Some, None, refl, ap, ◌∙◌, sym, eqb-true, arith}
 use Rattle.std.proofs.lemmas.Bool.{and_parts}
 use Rattle.std.proofs.lemmas.Bool.Decides.{nat_tests}
 use Rattle.std.specs.Char.{is_ascii_alphabetic, is_ascii_alphanumeric}
 use Rattle.ecma_place.specs.Text.{Text}
+use Rattle.ecma_place.specs.Atom.{AtomView}
+use Rattle.ecma_token.specs.View.{TokenView}
 use Rattle.ecma_place.specs.Character.{is_ident_start, is_ident_part, is_white_space, is_line_terminator}
 use Rattle.ecma_place.proofs.CharacterLemmas.{is_ident_start-is_ident_part}
 use Rattle.ecma_scan.specs.declared.gap.GapMode.{GapMode}
-use Rattle.ecma_scan.specs.Fronts.{begins_with}
-use Rattle.ecma_scan.specs.Gaps.{element, is_inert}
+use Rattle.ecma_scan.specs.Expressions.{ExpressionBeginsNoGap, body_cutter, body_pieces, closed_expression, expression_behind, flags, open_expression, opens_expression, regular_expression, slashed}
+use Rattle.ecma_scan.specs.Found.{Scanned}
+use Rattle.ecma_scan.specs.Fronts.{begins_with, next_is, line}
+use Rattle.ecma_scan.specs.Gaps.{Element, LineComment, block_of, comment_body, element, is_inert, special_element}
+use Rattle.ecma_scan.specs.Locality.{is_clean}
+use Rattle.ecma_scan.specs.Pieces.{remainder, spelled}
 use Rattle.ecma_scan.specs.Shebangs.{ShebangBeginsNoGap, opens_shebang}
 use Rattle.ecma_scan.specs.Strings.{StringBeginsNoGap, opens_string}
 use Rattle.ecma_scan.specs.Words.{WordBeginsNoGap, opens_word}
 use Rattle.ecma_scan.proofs.CharacterLaws.{white-no_part}
-use Rattle.ecma_scan.proofs.GapLaws.{no_element}
+use Rattle.ecma_scan.proofs.GapForms.{cond_false}
+use Rattle.ecma_scan.proofs.GapLaws.{no_element, special_none}
 
 -- a character that isn't white space and none of the five
 inert_by : (white : Bool) (c : ℕ) → is_white_space c ≡ white → white ≡ false → (c == 47) ≡ false → (c == 60) ≡ false → (c == 45) ≡ false → (c == 61) ≡ false → (c == 62) ≡ false
@@ -83,3 +90,58 @@ pub shebang_begins_no_gap : ShebangBeginsNoGap
 shebang_begins_no_gap mode flag [] h = cc
 shebang_begins_no_gap mode flag (c ∷ cs) h =
     no_element mode flag c cs (ap is_inert (eqb-true c 35 (and_parts (c == 35) (begins_with (33 ∷ []) cs) h).0) ∙ hash_inert)
+
+-- A slash begins an element where a slash or a star follows, and none else
+
+slash_white : is_white_space 47 ≡ false
+unfolding is_white_space is_line_terminator
+slash_white = refl
+
+slash_none : (mode : GapMode) (flag : Bool) (c : ℕ) (cs : Text) → (c == 47) ≡ false → (c == 42) ≡ false → element mode flag (47 ∷ (c ∷ cs)) ≡ None
+slash_none mode flag c cs slash star =
+    cond_false _ _ _ slash_white
+    ∙ cond_false _ _ _ (ap (λ b. b && true) slash)
+    ∙ cond_false _ _ _ (ap (λ b. b && true) star)
+    ∙ special_none mode.type_mode flag 47 (c ∷ cs) refl refl refl refl
+
+abbrev after_slash : GapMode → Bool → ℕ → Text → Bool → Bool → Option Element
+after_slash mode flag c cs slash star =
+    cond (slash && true) (Some (LineComment (line cs))) (cond (star && true) (Some (block_of (comment_body cs) cs)) (special_element mode.type_mode flag (47 ∷ (c ∷ cs))))
+
+slash_some : (mode : GapMode) (flag : Bool) (c : ℕ) (cs : Text) → element mode flag (47 ∷ (c ∷ cs)) ≡ None → ((c == 47) ≡ false) × ((c == 42) ≡ false)
+slash_some mode flag c cs h = go (c == 47) (c == 42) refl refl (sym (cond_false _ _ _ slash_white) ∙ h)
+  where
+    go : (slash star : Bool) → (c == 47) ≡ slash → (c == 42) ≡ star → after_slash mode flag c cs slash star ≡ None → ((c == 47) ≡ false) × ((c == 42) ≡ false)
+    go true star e f h = cc
+    go false true e f h = cc
+    go false false e f h = (e, f)
+
+-- an expression that is read cleanly has two characters or more
+
+abbrev HasTwo : Text → Type 0
+HasTwo spelling = (c : ℕ) × (cs : Text) × (spelling ≡ 47 ∷ (c ∷ cs))
+
+slashed_two : (body more : Text) → HasTwo (slashed body ++ more)
+slashed_two [] more = (47, more, refl)
+slashed_two (c ∷ cs) more = (c, (cs ++ (47 ∷ [])) ++ more, refl)
+
+clean_two : (text : Text) → is_clean (expression_behind text) ≡ true → HasTwo (expression_behind text).spelling
+clean_two text h = go (next_is 47 (remainder body_cutter tt text)) h
+  where
+    found : Scanned AtomView
+    found = flags (drop 1 (remainder body_cutter tt text))
+
+    go : (b : Bool) → is_clean (cond b (closed_expression (spelled body_cutter (body_pieces text)) found) (open_expression text)) ≡ true
+        → HasTwo (cond b (closed_expression (spelled body_cutter (body_pieces text)) found) (open_expression text)).spelling
+    go true h = slashed_two (spelled body_cutter (body_pieces text)) found.spelling
+    go false h = cc
+
+pub expression_begins_no_gap : ExpressionBeginsNoGap
+expression_begins_no_gap mode flag b behind r opens clean spells none = go b (clean_two (drop 1 (b ++ behind)) clean) spells none
+  where
+    go : (b : Text) → HasTwo (regular_expression (b ++ behind)).spelling → (regular_expression (b ++ behind)).spelling ≡ b → element mode flag (b ++ behind) ≡ None
+        → element mode flag (b ++ r) ≡ None
+    go b two spells none =
+        let is : b ≡ 47 ∷ (two.0 ∷ two.1) = sym spells ∙ two.2 in
+        let tests = slash_some mode flag two.0 (two.1 ++ behind) (ap (λ t. element mode flag (t ++ behind)) (sym is) ∙ none) in
+        ap (λ t. element mode flag (t ++ r)) is ∙ slash_none mode flag two.0 (two.1 ++ r) tests.0 tests.1
