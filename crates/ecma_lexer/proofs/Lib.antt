@@ -1,3 +1,4 @@
+pub mod DeterminedLemmas
 pub mod EndLemmas
 pub mod EndingLemmas
 pub mod FrontLemmas

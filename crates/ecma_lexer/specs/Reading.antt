@@ -1,5 +1,5 @@
 -- One read: the gap, and then the end or the token at its place.
-use Rattle.std.specs.Prelude.{ℕ, ◌+◌, Bool, true, false, not, ◌||◌, List, [], ◌∷◌, Option, Some, None, length, map}
+use Rattle.std.specs.Prelude.{◌≡◌, ℕ, ◌+◌, Bool, true, false, not, ◌||◌, List, [], ◌∷◌, Option, Some, None, length, map}
 use Rattle.ecma_place.specs.Text.{Text, byte_len}
 use Rattle.ecma_place.specs.Cursor.{Cursor, rest, place, passed}
 use Rattle.ecma_token.specs.declared.kind.TokenKind.{TokenKind}
@@ -62,3 +62,18 @@ is_plain (Some t) = not (is_error (kind_of t.token))
 -- a read that gives no error token takes no memory
 abbrev pub is_free : Reading → Bool
 is_free r = is_plain r.found
+
+-- Laws
+
+-- the same is found, and what is left and its place are the same
+pub record IsSameReading (a b : Reading) : Type 0 where
+  pub found : a.found ≡ b.found
+  pub end_flag : a.end_flag ≡ b.end_flag
+  pub faults : a.faults ≡ b.faults
+  pub left : rest a.input ≡ rest b.input
+  pub stands : place a.input ≡ place b.input
+
+-- What a read finds depends on the mode, on what is left, and on the place of that alone.
+abbrev pub ReadingIsDetermined : Type 0
+ReadingIsDetermined =
+    (mode : Mode) (a b : Cursor) → rest a ≡ rest b → place a ≡ place b → IsSameReading (reading mode a) (reading mode b)

@@ -1,6 +1,15 @@
 //! Laws over the definitions alone.
 ghost use Rattle.ecma_lexer.specs.Ending.{ReadsOut};
+ghost use Rattle.ecma_lexer.specs.Reading.{ReadingIsDetermined};
 ghost use Rattle.ecma_lexer.specs.Tiling.{Tiles};
+
+pub mod expressions;
+pub mod gaps;
+pub mod numbers;
+pub mod punctuators;
+pub mod strings;
+pub mod templates;
+pub mod words;
 
 /// Gap, own bytes, gap, own bytes and so on, joined, are the text up to where a run stands; once the end was answered,
 /// all of the text.
@@ -11,4 +20,9 @@ pub fn kept_and_gaps_tile()
 /// Enough reads answer the end, and more of them keep the same tokens.
 pub fn reads_end()
     ensures { ReadsOut }
+{}
+
+/// What a read finds depends on the mode, on what is left, and on the place of that alone.
+pub fn reading_is_determined()
+    ensures { ReadingIsDetermined }
 {}

@@ -1,0 +1,59 @@
+-- What a read finds depends on the mode, on what is left, and on the place of that alone.
+use Rattle.std.proofs.Common.{◌≡◌, ℕ, ◌+◌, ◌||◌, Bool, List, [], ◌∷◌, length, take, drop, map, Some, refl, sym, ap, ◌∙◌}
+use Rattle.std.proofs.lemmas.List.{drop-drop}
+use Rattle.ecma_place.specs.Cursor.{Cursor, rest, place, passed}
+use Rattle.ecma_place.specs.Text.{Text, byte_len}
+use Rattle.ecma_place.proofs.MoveLemmas.{place-passed}
+use Rattle.ecma_token.specs.View.{TokenView}
+use Rattle.ecma_scan.specs.Blanks.{gap_spelling, has_line_break}
+use Rattle.ecma_scan.specs.Found.{Scanned, fault_behind, token_behind, span_of}
+use Rattle.ecma_lexer.specs.Mode.{gap_mode}
+use Rattle.ecma_lexer.specs.Reading.{IsSameReading, ReadingIsDetermined, reading, reading_behind, behind_gap, spanned_at, token_reading}
+use Rattle.ecma_lexer.specs.TokenAt.{token_at, token_of}
+use Rattle.ecma_lexer.specs.declared.mode.Mode.{Mode}
+
+-- cursors before which the same stands in the same place
+record Alike (a b : Cursor) : Type 0 where
+  left : rest a ≡ rest b
+  stands : place a ≡ place b
+
+rest-passed : (n : ℕ) (c : Cursor) → rest (passed n c) ≡ drop n (rest c)
+rest-passed n c = sym (drop-drop n c.at c.text)
+
+place-behind : (n : ℕ) (c : Cursor) → place (passed n c) ≡ place c + byte_len (take n (rest c))
+place-behind n c = place-passed c (passed n c) n refl
+
+alike_passed : (n : ℕ) (a b : Cursor) → Alike a b → Alike (passed n a) (passed n b)
+alike_passed n a b h = record {
+  left = rest-passed n a ∙ ap (drop n) h.left ∙ sym (rest-passed n b);
+  stands =
+    place-behind n a
+    ∙ ap (λ p. p + byte_len (take n (rest a))) h.stands
+    ∙ ap (λ l. place b + byte_len (take n l)) h.left
+    ∙ sym (place-behind n b);
+}
+
+same_token : (flag : Bool) (a b : Cursor) (s : Scanned TokenView) → Alike a b → IsSameReading (token_reading flag a s) (token_reading flag b s)
+same_token flag a b s h =
+    let behind = alike_passed (length s.spelling) a b h in
+    record {
+      found = ap (λ p. Some record { token = token_behind p (token_of s.value); had_line_break = flag || s.line_break; span = span_of p (p + byte_len s.spelling) }) h.stands;
+      end_flag = refl;
+      faults = ap (λ p. map (fault_behind p) s.faults) h.stands;
+      left = behind.left;
+      stands = behind.stands;
+    }
+
+same_behind : (mode : Mode) (flag : Bool) (a b : Cursor) (text : Text) → Alike a b → IsSameReading (reading_behind mode flag a text) (reading_behind mode flag b text)
+same_behind mode flag a b [] h = record { found = refl; end_flag = refl; faults = refl; left = h.left; stands = h.stands }
+same_behind mode flag a b (c ∷ cs) h = same_token flag a b (token_at mode (c ∷ cs)) h
+
+pub reading_is_determined : ReadingIsDetermined
+unfolding reading
+reading_is_determined mode a b left stands =
+    let m = gap_mode mode in
+    let n = length (gap_spelling m (rest a)) in
+    let same : length (gap_spelling m (rest b)) ≡ n = ap (λ l. length (gap_spelling m l)) (sym left) in
+    let flag : has_line_break m (rest b) ≡ has_line_break m (rest a) = ap (has_line_break m) (sym left) in
+    let behind = alike_passed n a b record { left = left; stands = stands } in
+    rw (same, flag, ← behind.left) (same_behind mode (has_line_break m (rest a)) (passed n a) (passed n b) (rest (passed n a)) behind)

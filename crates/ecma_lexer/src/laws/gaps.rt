@@ -1,0 +1,83 @@
+//! Laws of gaps, their comments, markers of bars, and shebangs.
+ghost use Rattle.ecma_scan.specs.Bars.{BarsTile};
+ghost use Rattle.ecma_scan.specs.Comments.{SemicolonFollows, CommentsLieInOrder};
+ghost use Rattle.ecma_scan.specs.Gaps.{ElementsAreRuled, GapTiles, GapIsFront, FlagIsBehind, CommentBodyIsFirst, NoElement, NothingIsTheGap, SpaceIsTheGap, LineFeedIsTheGap, GapFaultsMove};
+ghost use Rattle.ecma_scan.specs.Shebangs.{ShebangIsLocal, ShebangBeginsNoGap};
+
+/// The elements of a text are as the rules of gaps say, and are the only ones that are so.
+pub fn elements_are_ruled()
+    ensures { ElementsAreRuled }
+{}
+
+/// The elements of a gap and what follows them are the text, and no element begins what follows.
+pub fn gap_tiles()
+    ensures { GapTiles }
+{}
+
+/// In every mode the gap and what follows it are the text.
+pub fn gap_is_front()
+    ensures { GapIsFront }
+{}
+
+/// The gap's flag is the one that stands behind its last element.
+pub fn flag_is_behind()
+    ensures { FlagIsBehind }
+{}
+
+/// A block comment ends at the first `*/`: where one stands in the text the body ends no later.
+pub fn comment_body_is_first()
+    ensures { CommentBodyIsFirst }
+{}
+
+/// No element of a gap begins a text whose first character is inert.
+pub fn no_element()
+    ensures { NoElement }
+{}
+
+/// Before a text that begins no element of a gap the gap is empty.
+pub fn nothing_is_the_gap()
+    ensures { NothingIsTheGap }
+{}
+
+/// A space before a text that begins no element of a gap is the whole gap, and the flag stands as before.
+pub fn space_is_the_gap()
+    ensures { SpaceIsTheGap }
+{}
+
+/// A line feed before a text that begins no element of a gap under a standing flag is the whole gap, and the flag
+/// stands.
+pub fn line_feed_is_the_gap()
+    ensures { LineFeedIsTheGap }
+{}
+
+/// The faults of a gap are the same wherever it stands.
+pub fn gap_faults_move()
+    ensures { GapFaultsMove }
+{}
+
+/// A semicolon follows a comment where the elements behind it are white space alone and the semicolon stands behind
+/// the gap.
+pub fn semicolon_follows()
+    ensures { SemicolonFollows }
+{}
+
+/// The comments of a gap lie in it, in order.
+pub fn comments_lie_in_order()
+    ensures { CommentsLieInOrder }
+{}
+
+/// A marker of bars, the elements behind it and what follows them are the text, and no such element begins what
+/// follows.
+pub fn bars_tile()
+    ensures { BarsTile }
+{}
+
+/// A shebang is read the same in front of a line feed and at the end.
+pub fn shebang_is_local()
+    ensures { ShebangIsLocal }
+{}
+
+/// No shebang begins an element of a gap.
+pub fn shebang_begins_no_gap()
+    ensures { ShebangBeginsNoGap }
+{}
