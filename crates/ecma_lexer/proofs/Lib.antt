@@ -1,5 +1,6 @@
 pub mod EndLemmas
 pub mod EndingLemmas
+pub mod ErrorLemmas
 pub mod FrontLemmas
 pub mod ReadingLemmas
 pub mod TilingLemmas
