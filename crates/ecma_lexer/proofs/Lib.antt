@@ -1,6 +1,7 @@
 pub mod DeterminedLemmas
 pub mod EndLemmas
 pub mod EndingLemmas
+pub mod ErrorLemmas
 pub mod FrontLemmas
 pub mod ReadingLemmas
 pub mod TilingLemmas

@@ -1,4 +1,6 @@
+pub mod Disposition
 pub mod Ending
+pub mod Errors
 pub mod Mode
 pub mod Reading
 pub mod Run

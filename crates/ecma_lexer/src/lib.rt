@@ -1,6 +1,8 @@
 //! The lexer: what it reads by, the token at a place, and one read after another.
 #![tactic(auto)]
 
+pub mod error_list;
+mod errors;
 pub mod kept;
 pub mod laws;
 pub mod lexer;
@@ -13,6 +15,7 @@ mod tests;
 mod token_at;
 pub mod token_context;
 
+pub use error_list::ErrorList;
 pub use kept::Kept;
 pub use lexer::Lexer;
 pub use settings::Settings;

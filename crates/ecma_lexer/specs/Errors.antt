@@ -1,0 +1,14 @@
+-- What a lexer keeps of what is wrong, and how it is seen.
+use Rattle.std.specs.Prelude.{List, map}
+use Rattle.ecma_token.specs.View.{error_view}
+use Rattle.ecma_token.specs.declared.error.Error.{Error}
+use Rattle.ecma_lexer.specs.Disposition.{Errors}
+
+-- the errors that were recorded, and those that wait, as they are kept
+pub record ErrorsKept : Type 0 where
+  pub recorded : List Error
+  pub waiting : List Error
+
+-- the same as they are seen
+abbrev pub errors_view : ErrorsKept → Errors
+errors_view e = record { recorded = map error_view e.recorded; waiting = map error_view e.waiting }
