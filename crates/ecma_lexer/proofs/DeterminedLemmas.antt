@@ -27,10 +27,10 @@ alike_passed : (n : ℕ) (a b : Cursor) → Alike a b → Alike (passed n a) (pa
 alike_passed n a b h = record {
   left = rest-passed n a ∙ ap (drop n) h.left ∙ sym (rest-passed n b);
   stands =
-    place-behind n a
-    ∙ ap (λ p. p + byte_len (take n (rest a))) h.stands
-    ∙ ap (λ l. place b + byte_len (take n l)) h.left
-    ∙ sym (place-behind n b);
+      place-behind n a
+      ∙ ap (λ p. p + byte_len (take n (rest a))) h.stands
+      ∙ ap (λ l. place b + byte_len (take n l)) h.left
+      ∙ sym (place-behind n b);
 }
 
 same_token : (flag : Bool) (a b : Cursor) (s : Scanned TokenView) → Alike a b → IsSameReading (token_reading flag a s) (token_reading flag b s)

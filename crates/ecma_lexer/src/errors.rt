@@ -83,7 +83,12 @@ impl<'a> ErrorLists<'a> {
     /// # Errors
     ///
     /// The error itself where there is no memory for it. Nothing is then changed.
-    fn take_fault(&mut self, context: &Context, blame: Blame, error: Error<'a>) -> Result<(), Error<'a>>
+    pub fn take_fault(
+        &mut self,
+        context: &Context,
+        blame: Blame,
+        error: Error<'a>,
+    ) -> Result<(), Error<'a>>
         ensures ok { OnOk result (errors_view self.new ≡ dispose.disposed (errors_view self.old) (error_view error.entry) (dispose.disposition context.now blame)) }
         ensures err { OnErr result (self.new ≡ self.old) }
         ensures back { IfErr result (λ e. e ≡ error.entry) }

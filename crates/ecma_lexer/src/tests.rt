@@ -1,4 +1,6 @@
 //! Rows of the lexer: what texts give from place 0, as ECMAScript with every option off.
+mod error_lists;
+
 use crate::kept::Kept;
 use crate::lexer::Lexer;
 use ecma_place::{BytePos, Span, Spanned, StringInput};
