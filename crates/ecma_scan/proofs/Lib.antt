@@ -22,6 +22,7 @@ pub mod NumberLocal
 mod NumberRows
 pub mod NumberReading
 pub mod NumberRefusals
+pub mod PartFaults
 pub mod PieceLemmas
 pub mod PunctuatorLaws
 pub mod PunctuatorLemmas

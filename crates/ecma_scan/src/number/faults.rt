@@ -6,6 +6,7 @@ ghost use Rattle.ecma_scan.specs.Found.{fault_view, fault_behind};
 ghost use Rattle.ecma_token.specs.declared.token.Radix.TheVariants.{Decimal};
 ghost use Rattle.ecma_scan.specs.Fronts.{next_passes};
 ghost use Rattle.ecma_scan.specs.WrittenNumbers.{fraction_of, exponent_of};
+ghost use Rattle.ecma_scan.specs.Numbers.{DecimalRun};
 ghost use Rattle.ecma_scan.specs.Numbers as grammar;
 
 use crate::found::Blame;
@@ -180,4 +181,41 @@ fn push_exponent_faults<'a>(
             push_run_faults(alloc, faults, run, Radix::Decimal, behind)
         }
     }
+}
+
+/// How many bytes the fraction has.
+fn fraction_len(fraction: WrittenFraction) -> usize
+    requires { length (grammar.fraction_text (fraction_of fraction)) < 2 ^ 32 }
+    ensures { result ≡ length (grammar.fraction_text (fraction_of fraction.entry)) }
+{
+    match fraction {
+        WrittenFraction::Pointless => 0,
+        WrittenFraction::Pointed(run) => run.len() + 1,
+    }
+}
+
+/// Adds what is wrong with a decimal number without `n` that starts at the place.
+fn push_decimal_faults<'a>(
+    alloc: Global,
+    faults: &mut Vec<(Blame, Error<'a>)>,
+    run: &str,
+    fraction: WrittenFraction,
+    exponent: WrittenExponent,
+    start: BytePos,
+) -> Result<(), AllocError>
+    requires fits { start.0 + (length run.now + (length (grammar.fraction_text (fraction_of fraction))
+        + length (grammar.exponent_text (exponent_of exponent)))) < 2 ^ 32 }
+    requires run { grammar.IsRun Decimal run.now }
+    requires fraction { grammar.IsFraction (fraction_of fraction) }
+    requires exponent { grammar.IsExponent (exponent_of exponent) }
+    ensures { OnOk result (map fault_view faults.new.items ≡ map fault_view faults.old.items
+        ++ map (fault_behind start.0) (grammar.part_faults (DecimalRun run.now (fraction_of fraction.entry) (exponent_of exponent.entry)))) }
+{
+    push_run_faults(alloc, faults, run, Radix::Decimal, start)?;
+    push_legacy_fault(alloc, faults, run, start)?;
+    let behind = BytePos(start.0 + run.len() as u32);
+    push_fraction_faults(alloc, faults, fraction, behind)?;
+    let last = BytePos(behind.0 + fraction_len(fraction) as u32);
+    push_exponent_faults(alloc, faults, exponent, last)?;
+    Ok(())
 }
