@@ -3,6 +3,7 @@ pub mod BarsLaws
 pub mod CharacterLaws
 pub mod CommentLaws
 mod CommentRows
+pub mod DigitValues
 pub mod EscapeLaws
 mod EscapeRows
 pub mod ExpressionForms
@@ -19,10 +20,15 @@ pub mod NumberLaws
 pub mod NumberLemmas
 pub mod NumberLocal
 mod NumberRows
+pub mod NumberReading
+pub mod NumberRefusals
+pub mod PartFaults
 pub mod PieceLemmas
 pub mod PunctuatorLaws
 pub mod PunctuatorLemmas
 mod PunctuatorRows
+pub mod RunFaults
+pub mod RunReading
 pub mod SeparationLaws
 pub mod ShebangLaws
 pub mod StringLaws

@@ -17,6 +17,7 @@ pub mod Shebangs
 pub mod Strings
 pub mod Templates
 pub mod Words
+pub mod WrittenNumbers
 pub use Rattle.ecma_place.specs.Atom
 pub use Rattle.ecma_place.specs.Character
 pub use Rattle.ecma_place.specs.Cursor

@@ -6,6 +6,12 @@ ghost use Rattle.ecma_token.specs.View.{token_view};
 ghost use Rattle.ecma_scan.specs.Found.{found_view, found_at, token_behind};
 ghost use Rattle.ecma_scan.specs.DigitRuns as grammar;
 
+mod digits;
+mod faults;
+mod parts;
+mod refusals;
+mod runs;
+
 use crate::found::Found;
 use ecma_place::{Atom, Span, StringInput};
 use ecma_token::{Radix, Token};
