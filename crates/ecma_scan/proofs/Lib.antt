@@ -3,7 +3,10 @@ pub mod BarsLaws
 pub mod CharacterLaws
 pub mod CommentLaws
 mod CommentRows
+pub mod EscapeBytes
+pub mod EscapeForms
 pub mod EscapeLaws
+pub mod EscapeReading
 mod EscapeRows
 pub mod ExpressionForms
 pub mod ExpressionLaws
