@@ -4,7 +4,10 @@ pub mod CharacterLaws
 pub mod CommentLaws
 mod CommentRows
 pub mod DigitValues
+pub mod EscapeBytes
+pub mod EscapeForms
 pub mod EscapeLaws
+pub mod EscapeReading
 mod EscapeRows
 pub mod ExpressionForms
 pub mod ExpressionLaws
@@ -19,9 +22,9 @@ mod GapRows
 pub mod NumberLaws
 pub mod NumberLemmas
 pub mod NumberLocal
-mod NumberRows
 pub mod NumberReading
 pub mod NumberRefusals
+mod NumberRows
 pub mod PartFaults
 pub mod PieceLemmas
 pub mod PunctuatorLaws

@@ -3,6 +3,7 @@ pub mod Blanks
 pub mod Comments
 pub mod Cutters
 pub mod DigitRuns
+pub mod EscapeAnswers
 pub mod Escapes
 pub mod Expressions
 pub mod Found
