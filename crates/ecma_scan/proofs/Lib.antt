@@ -14,6 +14,7 @@ pub mod GapFaults
 pub mod GapForms
 pub mod GapLaws
 pub mod GapLemmas
+pub mod LineLemmas
 mod GapRows
 pub mod NumberLaws
 pub mod NumberLemmas
@@ -25,6 +26,7 @@ pub mod PunctuatorLemmas
 mod PunctuatorRows
 pub mod SeparationLaws
 pub mod ShebangLaws
+pub mod ShebangLemmas
 pub mod StringLaws
 mod StringRows
 pub mod TemplateLaws
