@@ -1,5 +1,6 @@
 pub mod Agreement
 pub mod BarsLaws
+pub mod BodyLemmas
 pub mod CharacterLaws
 pub mod CommentLaws
 mod CommentRows

@@ -1,6 +1,7 @@
 //! The readers of the lexical grammar: each reads one kind of text from a cursor on, and says what it found.
 #![tactic(auto)]
 
+mod comment;
 pub mod found;
 pub mod gap;
 mod line;
