@@ -1,5 +1,6 @@
 pub mod Agreement
 pub mod BarsLaws
+pub mod BodyLemmas
 pub mod CharacterLaws
 pub mod CommentLaws
 mod CommentRows
@@ -19,6 +20,7 @@ pub mod GapForms
 pub mod GapLaws
 pub mod GapLemmas
 mod GapRows
+pub mod LineLemmas
 pub mod NumberLaws
 pub mod NumberLemmas
 pub mod NumberLocal
@@ -34,6 +36,7 @@ pub mod RunFaults
 pub mod RunReading
 pub mod SeparationLaws
 pub mod ShebangLaws
+pub mod ShebangLemmas
 pub mod StringLaws
 mod StringRows
 pub mod TemplateLaws

@@ -1,6 +1,6 @@
 -- Gaps (ECMA-262 WhiteSpace, LineTerminator and Comment, 12.2 to 12.4; HTML-like comments, Annex B.1.1): what stands
 -- before a token. Conflict markers, and which spans faults have, are our own choice.
-use Rattle.std.specs.Prelude.{◌≡◌, ◌≤◌, ℕ, ◌+◌, Bool, true, false, not, ◌&&◌, ◌||◌, ◌==◌, List, [], ◌∷◌, ◌++◌, map, codes, replicate, length, drop, Option, Some, None, option_map, if◌then◌else◌}
+use Rattle.std.specs.Prelude.{◌≡◌, ◌≤◌, ℕ, ◌+◌, Bool, true, false, not, ◌&&◌, ◌||◌, ◌==◌, List, [], ◌∷◌, ◌++◌, map, codes, replicate, length, drop, Option, Some, None, option_map, unwrap_or, if◌then◌else◌}
 use Rattle.std.specs.List.{list_any, list_all}
 use Rattle.ecma_place.specs.Text.{Text, byte_len}
 use Rattle.ecma_place.specs.Character.{is_white_space, is_line_terminator}
@@ -46,6 +46,10 @@ element_text (Marker c line) = replicate 7 c ++ line
 abbrev pub comment_body : Text → Option Text
 comment_body [] = None
 comment_body (c ∷ cs) = if begins_with (codes "*/") (c ∷ cs) then Some [] else option_map (λ body. c ∷ body) (comment_body cs)
+
+-- up to the first `*/` or the end
+abbrev pub body_before : Text → Text
+body_before text = unwrap_or (comment_body text) text
 
 -- the comment whose `/*` stands before the text, by its body
 abbrev pub block_of : Option Text → Text → Element

@@ -41,7 +41,7 @@ pub struct Gap<'a> {
 
 #[tactic(auto, using(ecma_place::proofs::RunLemmas::runs))]
 /// Moves behind the white space at the cursor, and says whether it held a line terminator.
-fn skip_white_space(input: &mut StringInput) -> bool
+pub(crate) fn skip_white_space(input: &mut StringInput) -> bool
     ensures terminator { result ≡ list_any is_line_terminator (take_while is_white_space (rest input.old)) }
     ensures moved { input.new ≡ passed (prefix_len is_white_space (rest input.old)) input.old }
 {

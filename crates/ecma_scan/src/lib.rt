@@ -1,11 +1,15 @@
 //! The readers of the lexical grammar: each reads one kind of text from a cursor on, and says what it found.
 #![tactic(auto)]
 
+mod comment;
 mod escape;
 pub mod found;
 pub mod gap;
+mod line;
 pub mod number;
 pub mod punctuator;
+pub mod shebang;
+pub mod skip_whitespace;
 #[cfg(test)]
 mod tests;
 pub mod word;
@@ -14,4 +18,6 @@ pub use found::{Blame, Found};
 pub use gap::{Gap, GapMode, scan_gap};
 pub use number::scan_number;
 pub use punctuator::scan_punct;
+pub use shebang::scan_shebang;
+pub use skip_whitespace::SkipWhitespace;
 pub use word::scan_word;

@@ -31,7 +31,7 @@ fn eat_one(input: &mut StringInput, first: char) -> bool
 
 /// Moves behind the two characters, where the rest begins with them.
 #[tactic(auto, using(crate::proofs::PunctuatorLemmas::eating))]
-fn eat_two(input: &mut StringInput, first: char, second: char) -> bool
+pub(crate) fn eat_two(input: &mut StringInput, first: char, second: char) -> bool
     ensures value { result ≡ begins_with (first ∷ second ∷ []) (rest input.old) }
     ensures moved { input.new ≡ (if result then passed 2 input.old else input.old) }
 {

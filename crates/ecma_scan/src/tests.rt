@@ -3,6 +3,8 @@ use crate::found::Found;
 use crate::gap::{GapMode, scan_gap};
 use crate::number::scan_number;
 use crate::punctuator::scan_punct;
+use crate::shebang::scan_shebang;
+use crate::skip_whitespace::SkipWhitespace;
 use crate::word::scan_word;
 use ecma_place::{BytePos, CharExt, Span, StringInput};
 use ecma_syntax::{AssignOp, BinOpToken, Context, Keyword, Word};
@@ -255,5 +257,33 @@ fn reads_no_punctuator(rt: HostRuntime) -> Result<(), Fail> {
     assert!(rt; matches!(found.value, Ok(None)));
     assert_eq!(rt; found.extent, span(4, 4));
     assert_eq!(rt; input.cur_pos(), BytePos(4));
+    Ok(())
+}
+
+#[test]
+fn reads_shebangs(rt: HostRuntime) -> Result<(), Fail> {
+    let alloc = rt.alloc();
+    let mut input = StringInput::new("#!x\u{2028}a", BytePos(2));
+    let found = scan_shebang(alloc, &mut input)?;
+    assert_eq!(rt; found.extent, span(2, 5));
+    assert!(rt; !found.line_break);
+    let token = found.value.map_err(|_| "refused")?.ok_or("no shebang")?;
+    assert_eq!(rt; token.kind(), TokenKind::Shebang);
+    let found = scan_shebang(alloc, &mut input)?;
+    assert!(rt; matches!(found.value, Ok(None)));
+    assert_eq!(rt; input.cur_pos(), BytePos(5));
+    Ok(())
+}
+
+#[test]
+fn skips_white_space(rt: HostRuntime) -> Result<(), Fail> {
+    let mut skip = SkipWhitespace {
+        input: "a \u{a0}\nb",
+        offset: 1,
+        newline: false,
+    };
+    skip.scan();
+    assert_eq!(rt; skip.offset, 5);
+    assert!(rt; skip.newline);
     Ok(())
 }

@@ -1,0 +1,11 @@
+use Rattle.std.proofs.Common.{false, sym, ◌∙◌}
+use Rattle.ecma_scan.proofs.BodyLemmas.{body-start, body-step, body-jump}
+use Rattle.ecma_scan.proofs.comment.skip_body.Goals as goal
+
+pub chars-init : goal.chars-init
+chars-init c = body-jump false _ _ _ _ (body-start _) c.run_bytes.ensures.run c.bump_bytes.ensures
+
+pub chars-preserved : goal.chars-preserved
+chars-preserved c =
+    let step = body-step _ _ _ _ _ _ c.chars.invariant (sym c.in-Some.ensures.first) (sym c.stand.ensures ∙ c.if-stand.false) c.is_line_terminator-terminator.ensures c.bump.ensures in
+    body-jump _ _ _ _ _ step c.run_bytes-in-Some.ensures.run c.bump_bytes-in-Some.ensures
