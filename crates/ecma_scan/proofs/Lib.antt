@@ -17,6 +17,7 @@ pub mod GapLaws
 pub mod GapLemmas
 pub mod LineLemmas
 mod GapRows
+pub mod MarkerLemmas
 pub mod NumberLaws
 pub mod NumberLemmas
 pub mod NumberLocal

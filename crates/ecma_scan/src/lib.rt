@@ -5,6 +5,7 @@ mod comment;
 pub mod found;
 pub mod gap;
 mod line;
+mod marker;
 pub mod number;
 pub mod punctuator;
 pub mod shebang;
