@@ -21,6 +21,7 @@ pub mod GapLaws
 pub mod GapLemmas
 mod GapRows
 pub mod LineLemmas
+pub mod MarkerLemmas
 pub mod NumberLaws
 pub mod NumberLemmas
 pub mod NumberLocal

@@ -6,6 +6,7 @@ mod escape;
 pub mod found;
 pub mod gap;
 mod line;
+mod marker;
 pub mod number;
 pub mod punctuator;
 pub mod shebang;

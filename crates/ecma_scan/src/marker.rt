@@ -1,0 +1,20 @@
+//! Conflict markers. They are our own choice; ECMA-262 knows none.
+ghost use Rattle.std.specs.Prelude.{◌≡◌};
+ghost use Rattle.ecma_place.specs.Cursor.{rest};
+ghost use Rattle.ecma_scan.specs.Gaps.{is_marker};
+
+use ecma_place::StringInput;
+
+/// Whether a marker of the character stands at the cursor: seven times `=`, or, outside of types, seven times `<` or
+/// `>` before a space.
+#[tactic(auto, using(crate::proofs::MarkerLemmas::markers))]
+pub(crate) fn stands_marker(input: &StringInput, type_mode: bool, first: char) -> bool
+    ensures { result ≡ is_marker type_mode first (rest input.now) }
+{
+    match first {
+        '=' => input.is_str("======="),
+        '<' => !type_mode && input.is_str("<<<<<<< "),
+        '>' => !type_mode && input.is_str(">>>>>>> "),
+        _ => false,
+    }
+}
