@@ -92,7 +92,13 @@ fn push_separators<'a>(
     let mut count = 0;
     let mut left = run.as_bytes();
     'bytes: while let Some((b, behind)) = left.split_first() {
-        push_separator(alloc, faults, is_faulty(*b, seen, behind, radix), start, count)?;
+        push_separator(
+            alloc,
+            faults,
+            is_faulty(*b, seen, behind, radix),
+            start,
+            count,
+        )?;
         seen |= *b != b'_';
         count += 1;
         left = behind;
@@ -135,7 +141,13 @@ fn push_legacy_fault<'a>(
 {
     if is_legacy(run) {
         let span = Span::new(start, BytePos(start.0 + run.len() as u32));
-        push_fault(alloc, faults, Blame::Strict, span, SyntaxError::LegacyDecimal)?;
+        push_fault(
+            alloc,
+            faults,
+            Blame::Strict,
+            span,
+            SyntaxError::LegacyDecimal,
+        )?;
     }
     Ok(())
 }

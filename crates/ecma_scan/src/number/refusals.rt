@@ -62,7 +62,12 @@ fn exponent_refusal<'a>(
                 let error = Error::new(alloc, Span::new(behind, behind), kind)?;
                 return Ok(Some(error));
             }
-            digit_refusal(alloc, run, Radix::Decimal, BytePos(behind.0 + sign.len() as u32))
+            digit_refusal(
+                alloc,
+                run,
+                Radix::Decimal,
+                BytePos(behind.0 + sign.len() as u32),
+            )
         }
     }
 }
