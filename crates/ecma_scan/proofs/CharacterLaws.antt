@@ -1,11 +1,10 @@
 -- No character of white space begins or goes on with a word.
-use Rattle.std.proofs.Common.{◌≡◌, ℕ, Bool, true, false, not, cond, ◌||◌, ◌&&◌, ◌==◌, nat_lt, List, [], ◌∷◌, refl, ap, ◌∙◌, eqb-true, arith}
-use Rattle.std.specs.List.{list_all, list_any}
-use Rattle.std.specs.Char.{is_whitespace}
+use Rattle.std.proofs.Common.{◌≡◌, ℕ, Bool, true, false, not, ◌||◌, ◌==◌, List, [], ◌∷◌, refl, ap, ◌∙◌, eqb-true, arith}
+use Rattle.std.specs.List.{list_all}
 use Rattle.std.proofs.lemmas.Bool.{and_parts}
 use Rattle.std.proofs.lemmas.Bool.Decides.{nat_tests}
 use Rattle.unicode.proofs.IdentComputing.{unicode_ident}
-use Rattle.ecma_place.specs.Character.{is_ident_start, is_ident_part, is_white_space, is_line_terminator}
+use Rattle.ecma_place.specs.Character.{is_ident_part, is_white_space, is_line_terminator}
 
 -- all of it
 abbrev white : List ℕ

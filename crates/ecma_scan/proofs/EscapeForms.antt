@@ -1,22 +1,22 @@
 -- What is answered of the parts of an escape, and how long each is.
-use Rattle.std.proofs.Common.{◌≡◌, ℕ, ◌+◌, ◌-◌, ◌<◌, ◌≤◌, Bool, true, false, cond, not, ◌&&◌, ◌==◌, ◌^◌, ◌*◌, List, [], ◌∷◌, ◌++◌, length, length-append, take, drop, drop-drop, Some, None, slice_get, refl, sym, ap, ◌∙◌, arith, zero, suc, nat_lt, ◌≢◌, eq-eqb, eqb-true, Result, Ok, Err}
+use Rattle.std.proofs.Common.{◌≡◌, ℕ, ◌+◌, ◌-◌, ◌<◌, ◌≤◌, Bool, true, false, cond, not, ◌&&◌, ◌==◌, ◌^◌, ◌*◌, [], ◌∷◌, ◌++◌, length, length-append, take, drop, drop-drop, Some, None, slice_get, refl, sym, ap, ◌∙◌, arith, suc, nat_lt, ◌≢◌, eq-eqb, eqb-true, Result, Ok, Err}
 use Rattle.std.proofs.lemmas.Bool.{ne_eqb}
 use Rattle.std.proofs.lemmas.Bool.Decides.{nat_tests}
 use Rattle.std.proofs.lemmas.Int.Digits.{digits_value-lt}
-use Rattle.std.specs.Prelude.{codes, IsTrue, IsOk, ◌↔◌, nat_le}
+use Rattle.std.specs.Prelude.{codes, IsTrue, IsOk, ◌↔◌}
 use Rattle.std.specs.Char.{digit_value}
 use Rattle.std.specs.Str.Parse.{AllDigits, ParsesUnsigned, digits_value}
 use Rattle.ecma_place.specs.Character.{is_line_terminator}
 use Rattle.ecma_place.specs.Text.{Text}
-use Rattle.ecma_place.specs.Cursor.{Cursor, rest, passed, moved_to}
+use Rattle.ecma_place.specs.Cursor.{Cursor, rest, passed}
 use Rattle.ecma_place.proofs.RunLemmas.{passed-later-by}
-use Rattle.ecma_token.specs.View.{bad_escape, KindView}
+use Rattle.ecma_token.specs.View.{bad_escape}
 use Rattle.ecma_scan.specs.declared.escape.Answer.{Answer}
 use Rattle.ecma_scan.specs.declared.escape.Answer.TheVariants as answer
 use Rattle.ecma_scan.specs.declared.escape.Refusal.TheVariants as because
 use Rattle.ecma_scan.specs.Found.{error_over}
-use Rattle.ecma_scan.specs.Fronts.{next_is, next_passes, after, front}
-use Rattle.ecma_scan.specs.Escapes.{Use, Escape, Accepted, Refused, escape_spelling, is_surrogate, hex_escape, code_escape, four_escape, braced_escape, unicode_refusal, unicode_escape, out_of_range, no_brace, escape_of, escape_behind, opening, HexLetter, OctalDigit, LineEnd, Single, InWord, hex_front, is_hex_digit, is_octal_digit, octal_digits, octal_front, line_end}
+use Rattle.ecma_scan.specs.Fronts.{next_is, after}
+use Rattle.ecma_scan.specs.Escapes.{Use, Escape, Refused, escape_spelling, is_surrogate, hex_escape, code_escape, four_escape, braced_escape, unicode_refusal, unicode_escape, out_of_range, no_brace, escape_of, escape_behind, opening, HexLetter, OctalDigit, LineEnd, Single, InWord, hex_front, is_hex_digit, is_octal_digit, octal_digits, octal_front, line_end}
 use Rattle.ecma_token.specs.View.{plain}
 use Rattle.ecma_token.specs.declared.error.SyntaxError.{ExpectedUnicodeEscape, InvalidStrEscape}
 use Rattle.ecma_scan.specs.declared.escape.Use.{Use as Place}

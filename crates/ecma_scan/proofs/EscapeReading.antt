@@ -1,19 +1,16 @@
 -- Runs of digits of an escape, as a loop goes over them, and their values.
-use Rattle.std.proofs.Common.{◌≡◌, ℕ, ◌+◌, ◌-◌, ◌<◌, ◌≤◌, Bool, true, false, cond, List, [], ◌∷◌, ◌++◌, length, take, drop, drop-drop, Some, None, slice_get, refl, sym, ap, ◌∙◌, arith, zero, suc, encode_utf8_all, nat_lt, ◌==◌, ◌^◌, ◌≢◌, eqb-true, eq-eqb, Result, Ok, Err}
-use Rattle.std.specs.List.{prefix_len, take_while}
-use Rattle.std.specs.Char.{is_digit, digit_value}
-use Rattle.std.specs.Prelude.{slice_range, codes}
+use Rattle.std.proofs.Common.{◌≡◌, ℕ, ◌+◌, ◌-◌, ◌<◌, ◌≤◌, Bool, true, false, cond, [], ◌∷◌, ◌++◌, length, take, drop, drop-drop, refl, sym, ap, ◌∙◌, arith, zero, suc, encode_utf8_all, ◌==◌, ◌^◌, eqb-true}
+use Rattle.std.specs.List.{prefix_len}
+use Rattle.std.specs.Char.{digit_value}
+use Rattle.std.specs.Prelude.{slice_range}
 use Rattle.std.specs.Str.Parse.{AllDigits, IsNumeral, without_leading_plus, digits_value}
 use Rattle.std.proofs.lemmas.Str.{encode_ascii}
-use Rattle.std.proofs.lemmas.Bool.{ne_eqb}
 use Rattle.std.proofs.lemmas.Bool.Decides.{nat_tests}
 use Rattle.ecma_place.specs.Text.{Text}
 use Rattle.ecma_place.specs.Cursor.{Cursor, rest, place, passed, moved_to, index_of}
 use Rattle.ecma_place.proofs.RunLemmas.{passed-later-by, runs, text-passed, further-start, further-step, further-place-le, further-HasPlace}
 use Rattle.ecma_scan.specs.Fronts.{front, next_passes}
-use Rattle.ecma_token.specs.View.{bad_escape}
-use Rattle.ecma_scan.specs.Found.{error_over}
-use Rattle.ecma_scan.specs.Escapes.{is_hex_digit, hex_front, hex_escape, escape_spelling, Accepted, Refused}
+use Rattle.ecma_scan.specs.Escapes.{is_hex_digit, hex_front}
 use Rattle.ecma_scan.specs.EscapeAnswers.{is_digit_in, digit_front}
 use Rattle.ecma_scan.proofs.Fronts.{front-is, length-take_while}
 

@@ -1,15 +1,12 @@
 -- Runs of characters that pass a test, as fronts of their texts, and found again in front of other texts.
-use Rattle.std.proofs.Common.{◌≡◌, ℕ, ◌+◌, ◌<◌, Bool, true, false, cond, ◌||◌, ◌==◌, List, [], ◌∷◌, ◌++◌, take, drop, length, Some, None, refl, ap, ◌∙◌, sym, eqb-true, arith}
+use Rattle.std.proofs.Common.{◌≡◌, ℕ, ◌+◌, Bool, true, false, ◌||◌, ◌==◌, List, [], ◌∷◌, ◌++◌, take, drop, length, Some, None, refl, ap, ◌∙◌, sym, eqb-true, arith}
 use Rattle.std.specs.Prelude.{slice_get}
 use Rattle.std.specs.List.{list_all, take_while, prefix_len}
 use Rattle.std.proofs.lemmas.Bool.{and_parts}
 use Rattle.std.proofs.lemmas.List.{drop_at}
 use Rattle.std.proofs.lemmas.List.Folds.{length-prefix_len}
 use Rattle.std.proofs.lemmas.List.Sums.{take_while-cons}
-use Rattle.std.proofs.lemmas.Str.{len_utf8_bounds}
-use Rattle.std.specs.Char.{len_utf8}
-use Rattle.ecma_place.specs.Text.{Text, byte_len}
-use Rattle.ecma_place.proofs.MoveLemmas.{byte_len-append}
+use Rattle.ecma_place.specs.Text.{Text}
 use Rattle.ecma_scan.specs.Fronts.{front, after, next_passes, begins_with}
 use Rattle.ecma_scan.specs.Locality.{separates}
 

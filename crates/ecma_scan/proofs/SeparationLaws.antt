@@ -1,23 +1,20 @@
 -- No token begins an element of a gap.
-use Rattle.std.proofs.Common.{◌≡◌, ℕ, Bool, true, false, not, cond, ◌||◌, ◌&&◌, ◌==◌, nat_lt, [], ◌∷◌, ◌++◌, drop, Option, Some, None, refl, ap, ◌∙◌, sym, eqb-true, arith}
+use Rattle.std.proofs.Common.{◌≡◌, ℕ, Bool, true, false, cond, ◌||◌, ◌&&◌, ◌==◌, [], ◌∷◌, ◌++◌, drop, Option, Some, None, refl, ap, ◌∙◌, sym, eqb-true}
 use Rattle.std.proofs.lemmas.Bool.{and_parts}
-use Rattle.std.proofs.lemmas.Bool.Decides.{nat_tests}
-use Rattle.std.specs.Char.{is_ascii_alphabetic, is_ascii_alphanumeric}
 use Rattle.ecma_place.specs.Text.{Text}
 use Rattle.ecma_place.specs.Atom.{AtomView}
-use Rattle.ecma_token.specs.View.{TokenView}
-use Rattle.ecma_place.specs.Character.{is_ident_start, is_ident_part, is_white_space, is_line_terminator}
+use Rattle.ecma_place.specs.Character.{is_ident_start, is_white_space, is_line_terminator}
 use Rattle.ecma_place.proofs.CharacterLemmas.{is_ident_start-is_ident_part}
 use Rattle.ecma_scan.specs.declared.gap.GapMode.{GapMode}
-use Rattle.ecma_scan.specs.Expressions.{ExpressionBeginsNoGap, body_cutter, body_pieces, closed_expression, expression_behind, flags, open_expression, opens_expression, regular_expression, slashed}
+use Rattle.ecma_scan.specs.Expressions.{ExpressionBeginsNoGap, body_cutter, body_pieces, closed_expression, expression_behind, flags, open_expression, regular_expression, slashed}
 use Rattle.ecma_scan.specs.Found.{Scanned}
 use Rattle.ecma_scan.specs.Fronts.{begins_with, next_is, line}
 use Rattle.ecma_scan.specs.Gaps.{Element, LineComment, block_of, comment_body, element, is_inert, special_element}
 use Rattle.ecma_scan.specs.Locality.{is_clean}
 use Rattle.ecma_scan.specs.Pieces.{remainder, spelled}
-use Rattle.ecma_scan.specs.Shebangs.{ShebangBeginsNoGap, opens_shebang}
-use Rattle.ecma_scan.specs.Strings.{StringBeginsNoGap, opens_string}
-use Rattle.ecma_scan.specs.Words.{WordBeginsNoGap, opens_word}
+use Rattle.ecma_scan.specs.Shebangs.{ShebangBeginsNoGap}
+use Rattle.ecma_scan.specs.Strings.{StringBeginsNoGap}
+use Rattle.ecma_scan.specs.Words.{WordBeginsNoGap}
 use Rattle.ecma_scan.proofs.CharacterLaws.{white-no_part}
 use Rattle.ecma_scan.proofs.GapForms.{cond_false}
 use Rattle.ecma_scan.proofs.GapLaws.{no_element, special_none}

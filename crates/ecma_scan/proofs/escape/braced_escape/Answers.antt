@@ -1,11 +1,11 @@
-use Rattle.std.proofs.Common.{◌≡◌, ◌<◌, ◌+◌, ◌∙◌, ap, sym, refl, length}
+use Rattle.std.proofs.Common.{◌<◌, ◌+◌, ◌∙◌, ap, sym, refl, length}
 use Rattle.std.proofs.Common.{rules}
 use Rattle.std.specs.Str.Parse.{digits_value}
-use Rattle.ecma_place.specs.Cursor.{rest, passed}
+use Rattle.ecma_place.specs.Cursor.{rest}
 use Rattle.ecma_scan.specs.Fronts.{after, next_is}
 use Rattle.ecma_scan.specs.Escapes.{hex_front, is_hex_digit}
 use Rattle.ecma_scan.proofs.EscapeReading.{hex-digits}
-use Rattle.ecma_scan.proofs.EscapeForms.{braced_code, braced_open, braced_out, point-some, point-none, eaten-is, hex-rest, moved-less, passed-both}
+use Rattle.ecma_scan.proofs.EscapeForms.{braced_code, braced_open, point-some, eaten-is, hex-rest, moved-less, passed-both}
 use Rattle.ecma_scan.proofs.escape.braced_escape.Goals as goal
 
 pub code_point-requires-clause-digits : goal.code_point-requires-clause-digits

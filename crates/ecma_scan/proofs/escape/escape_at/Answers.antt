@@ -1,4 +1,4 @@
-use Rattle.std.proofs.Common.{◌≡◌, ◌≤◌, ◌+◌, length, drop, arith}
+use Rattle.std.proofs.Common.{◌≤◌, ◌+◌, length, drop, arith}
 use Rattle.ecma_place.specs.Cursor.{rest}
 use Rattle.ecma_scan.specs.Escapes.{hex_escape, escape_spelling}
 use Rattle.ecma_scan.specs.EscapeAnswers.{use_of, digit_front}

@@ -1,9 +1,9 @@
-use Rattle.std.proofs.Common.{◌≡◌, ◌<◌, ℕ, ◌∙◌, ap, sym, refl, take, length, Result, Ok, Err, arith, ◌^◌}
+use Rattle.std.proofs.Common.{◌≡◌, ◌<◌, ◌∙◌, ap, take, length, arith}
 use Rattle.std.specs.Str.Parse.{digits_value}
 use Rattle.ecma_place.specs.Cursor.{rest, passed}
 use Rattle.ecma_scan.specs.Escapes.{octal_front, octal_digits}
 use Rattle.ecma_scan.specs.EscapeAnswers.{digit_front}
-use Rattle.ecma_scan.proofs.EscapeReading.{parsed-ok, parsed-err, front-digits}
+use Rattle.ecma_scan.proofs.EscapeReading.{front-digits}
 use Rattle.ecma_scan.proofs.EscapeForms.{octal-low, octal-high, parsed_is-ok, parsed_is-value}
 use Rattle.ecma_scan.proofs.escape.octal_character.Goals.{then-first-le51, else-first-le51}
 use Rattle.ecma_scan.proofs.escape.octal_character.Goals as goal

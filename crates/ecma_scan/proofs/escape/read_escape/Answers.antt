@@ -1,7 +1,7 @@
-use Rattle.std.proofs.Common.{◌≡◌, ◌≤◌, ◌+◌, [], ◌∷◌, ◌∙◌, ap, sym, refl, length, drop, arith, slice_get, None, Some}
+use Rattle.std.proofs.Common.{◌≤◌, ◌∙◌, ap, sym, refl, length, drop, arith, slice_get}
 use Rattle.ecma_place.specs.Cursor.{rest, passed}
 use Rattle.ecma_scan.specs.Fronts.{next_is}
-use Rattle.ecma_scan.specs.Escapes.{escape, escape_behind, escape_of, opening, escape_spelling, unicode_escape}
+use Rattle.ecma_scan.specs.Escapes.{escape_behind, escape_of, opening, escape_spelling, unicode_escape}
 use Rattle.ecma_scan.specs.EscapeAnswers.{use_of}
 use Rattle.ecma_scan.specs.declared.escape.Answer.TheVariants as answer
 use Rattle.ecma_scan.specs.declared.escape.Refusal.TheVariants as because

@@ -1,5 +1,5 @@
-use Rattle.std.proofs.Common.{◌≡◌, length}
-use Rattle.ecma_place.specs.Cursor.{rest, place}
+use Rattle.std.proofs.Common.{◌≡◌}
+use Rattle.ecma_place.specs.Cursor.{place}
 use Rattle.ecma_scan.proofs.EscapeReading.{IsOnDigits}
 use Rattle.ecma_scan.proofs.escape.some_digits.Given as goal
 
