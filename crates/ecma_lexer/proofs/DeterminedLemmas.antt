@@ -1,5 +1,5 @@
 -- What a read finds depends on the mode, on what is left, and on the place of that alone.
-use Rattle.std.proofs.Common.{◌≡◌, ℕ, ◌+◌, ◌||◌, Bool, List, [], ◌∷◌, length, take, drop, map, Some, refl, sym, ap, ◌∙◌}
+use Rattle.std.proofs.Common.{◌≡◌, ℕ, ◌+◌, ◌||◌, Bool, [], ◌∷◌, length, take, drop, map, Some, refl, sym, ap, ◌∙◌}
 use Rattle.std.proofs.lemmas.List.{drop-drop}
 use Rattle.ecma_place.specs.Cursor.{Cursor, rest, place, passed}
 use Rattle.ecma_place.specs.Text.{Text, byte_len}
@@ -8,7 +8,7 @@ use Rattle.ecma_token.specs.View.{TokenView}
 use Rattle.ecma_scan.specs.Blanks.{gap_spelling, has_line_break}
 use Rattle.ecma_scan.specs.Found.{Scanned, fault_behind, token_behind, span_of}
 use Rattle.ecma_lexer.specs.Mode.{gap_mode}
-use Rattle.ecma_lexer.specs.Reading.{IsSameReading, ReadingIsDetermined, reading, reading_behind, behind_gap, spanned_at, token_reading}
+use Rattle.ecma_lexer.specs.Reading.{IsSameReading, ReadingIsDetermined, reading, reading_behind, token_reading}
 use Rattle.ecma_lexer.specs.TokenAt.{token_at, token_of}
 use Rattle.ecma_lexer.specs.declared.mode.Mode.{Mode}
 

@@ -1,5 +1,5 @@
 -- A text is read to its end by enough reads.
-use Rattle.std.proofs.Common.{◌≡◌, ◌∙◌, ℕ, zero, suc, ◌+◌, ◌-◌, ◌*◌, ◌<◌, ◌≤◌, Bool, true, false, List, [], ◌∷◌, ◌++◌, Option, Some, None, length, refl, sym, ap, subst, arith, reverse, replicate}
+use Rattle.std.proofs.Common.{◌≡◌, ◌∙◌, ℕ, zero, suc, ◌+◌, ◌-◌, ◌<◌, ◌≤◌, Bool, true, List, [], ◌∷◌, ◌++◌, Option, Some, None, length, refl, sym, ap, arith, reverse}
 use Rattle.std.specs.Prelude.{fold}
 use Rattle.std.proofs.lemmas.Grind.{reverse_onto}
 use Rattle.ecma_place.specs.Text.{Text, byte_len}
@@ -9,13 +9,11 @@ use Rattle.std.proofs.lemmas.Str.{len_utf8_bounds}
 use Rattle.ecma_token.specs.View.{SpannedView}
 use Rattle.ecma_scan.specs.Blanks.{has_line_break}
 use Rattle.ecma_lexer.specs.declared.settings.Settings.{Settings}
-use Rattle.ecma_lexer.specs.declared.step.Step.{Step}
 use Rattle.ecma_lexer.specs.declared.step.Step.TheVariants.{Read}
 use Rattle.ecma_lexer.specs.Mode.{gap_mode}
-use Rattle.ecma_lexer.specs.Reading.{Reading}
 use Rattle.ecma_lexer.specs.Session.{Session, LexerState, AtEnd, has_ended, kept_back, seen_of, seeing, state_of}
 use Rattle.ecma_lexer.specs.Run.{act_on, acted_on, given_in, mode_of, reading_of, session, start_of, state_behind}
-use Rattle.ecma_lexer.specs.Ending.{IsReadOut, ReadsOut, reads, enough, tokens_of}
+use Rattle.ecma_lexer.specs.Ending.{ReadsOut, reads, enough, tokens_of}
 use Rattle.ecma_lexer.proofs.EndLemmas.{reading-on, reading-end, reading-less}
 
 -- At the end

@@ -1,5 +1,5 @@
 -- How lists of errors are seen.
-use Rattle.std.proofs.Common.{◌≡◌, List, [], ◌∷◌, ◌++◌, map, take, length, refl}
+use Rattle.std.proofs.Common.{◌≡◌, List, [], ◌∷◌, ◌++◌, map}
 use Rattle.std.proofs.lemmas.List.{map-append}
 use Rattle.ecma_token.specs.View.{error_view}
 use Rattle.ecma_token.specs.declared.error.Error.{Error}

@@ -1,9 +1,8 @@
 -- A token is a front of the text that it is read from, and not empty.
-use Rattle.std.proofs.Common.{◌≡◌, ℕ, ◌+◌, ◌<◌, Bool, true, false, cond, List, [], ◌∷◌, length, take, Option, Some, None, refl, sym, ap, ◌∙◌, arith}
-use Rattle.std.specs.List.{take_while}
+use Rattle.std.proofs.Common.{◌≡◌, ℕ, ◌<◌, Bool, true, false, cond, [], ◌∷◌, length, take, Option, Some, None, refl, ap, ◌∙◌, arith}
 use Rattle.std.proofs.lemmas.List.Sums.{take_while-cons}
 use Rattle.ecma_place.specs.Text.{Text}
-use Rattle.ecma_place.specs.Character.{is_ident_start, is_ident_part}
+use Rattle.ecma_place.specs.Character.{is_ident_part}
 use Rattle.ecma_place.proofs.CharacterLemmas.{is_ident_start-is_ident_part}
 use Rattle.ecma_scan.specs.DigitRuns.{opens_number, is_decimal_digit}
 use Rattle.ecma_scan.specs.PlainWords.{opens_word, word_spelling}

@@ -1,14 +1,13 @@
 -- What a read finds, from what its readers found.
-use Rattle.std.proofs.Common.{◌≡◌, ℕ, Bool, true, false, List, [], ◌∷◌, ◌||◌, Option, Some, None, Result, Ok, Err, slice_get, refl, sym, ap, ◌∙◌}
+use Rattle.std.proofs.Common.{◌≡◌, ℕ, Bool, true, [], ◌∷◌, ◌||◌, Some, Result, Ok, Err, slice_get, refl, sym, ap, ◌∙◌}
 use Rattle.std.specs.Prelude.{is_ok}
 use Rattle.ecma_place.specs.Text.{Text}
 use Rattle.ecma_place.specs.Cursor.{Cursor, rest, place}
-use Rattle.ecma_place.specs.declared.place.Span.{Span}
 use Rattle.ecma_token.specs.View.{TokenView, ErrorView, SpannedView}
 use Rattle.ecma_scan.specs.Found.{Scanned, FoundView, found_at, token_behind, value_behind}
 use Rattle.ecma_scan.specs.Blanks.{has_line_break}
 use Rattle.ecma_lexer.specs.Mode.{gap_mode}
-use Rattle.ecma_lexer.specs.Reading.{Reading, reading, reading_behind, behind_gap, token_reading, spanned_at, is_free}
+use Rattle.ecma_lexer.specs.Reading.{reading, reading_behind, behind_gap, token_reading, spanned_at, is_free}
 use Rattle.ecma_lexer.specs.TokenAt.{token_at, token_of}
 use Rattle.ecma_lexer.specs.declared.mode.Mode.{Mode}
 

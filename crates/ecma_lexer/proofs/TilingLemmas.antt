@@ -1,5 +1,5 @@
 -- Kept tokens and the gaps between them tile the text.
-use Rattle.std.proofs.Common.{◌≡◌, ◌∙◌, ℕ, ◌+◌, ◌-◌, ◌≤◌, Bool, true, false, List, [], ◌∷◌, ◌++◌, Option, Some, None, take, drop, take-append-drop, length, length-drop, refl, sym, ap, subst, arith, slice_range, encode_utf8_all}
+use Rattle.std.proofs.Common.{◌≡◌, ◌∙◌, ℕ, ◌+◌, ◌-◌, ◌≤◌, true, List, [], ◌∷◌, ◌++◌, Option, Some, None, take, drop, take-append-drop, length, length-drop, refl, sym, ap, arith, encode_utf8_all}
 use Rattle.std.specs.Prelude.{fold}
 use Rattle.std.proofs.Math.Seq.{take-add, take-length}
 use Rattle.std.proofs.lemmas.List.{drop-drop}
@@ -11,9 +11,9 @@ use Rattle.ecma_lexer.specs.declared.settings.Settings.{Settings}
 use Rattle.ecma_lexer.specs.declared.step.Step.{Step}
 use Rattle.ecma_lexer.specs.declared.step.Step.TheVariants.{Read}
 use Rattle.ecma_lexer.specs.Reading.{Reading}
-use Rattle.ecma_lexer.specs.Session.{Session, Given, Plain, AtEnd, Past, has_ended, kept_back, state_of}
+use Rattle.ecma_lexer.specs.Session.{Session, has_ended, kept_back, state_of}
 use Rattle.ecma_lexer.specs.Run.{act_on, acted_on, given_in, mode_of, reading_of, session, start_of}
-use Rattle.ecma_lexer.specs.Tiling.{IsTiled, Tiles, bytes_between, joined}
+use Rattle.ecma_lexer.specs.Tiling.{Tiles, bytes_between, joined}
 use Rattle.ecma_lexer.proofs.EndLemmas.{ReadsOn, reading-on}
 
 -- tokens, the newest first, stand in order behind a place and before another

@@ -1,8 +1,8 @@
 -- The token at a place, from what the readers found.
-use Rattle.std.proofs.Common.{◌≡◌, ℕ, ◌+◌, Bool, true, false, List, [], ◌∷◌, length, take, Option, Some, None, Result, Ok, Err, slice_get, refl, sym, ap, ◌∙◌, arith}
+use Rattle.std.proofs.Common.{◌≡◌, ℕ, ◌+◌, Bool, false, List, [], ◌∷◌, length, take, Option, Some, None, Result, Ok, slice_get, refl, sym, ap, ◌∙◌, arith}
 use Rattle.std.specs.Prelude.{option_map, is_ok}
 use Rattle.ecma_place.specs.Text.{Text}
-use Rattle.ecma_place.specs.Cursor.{Cursor, rest, passed}
+use Rattle.ecma_place.specs.Cursor.{Cursor, passed}
 use Rattle.ecma_place.specs.declared.place.BytePos.{BytePos}
 use Rattle.ecma_place.specs.declared.place.Span.{Span}
 use Rattle.ecma_token.specs.View.{TokenView, ErrorView, plain_token}

@@ -6,7 +6,7 @@ use Rattle.ecma_token.specs.View.{SpannedView}
 use Rattle.ecma_lexer.specs.declared.settings.Settings.{Settings}
 use Rattle.ecma_lexer.specs.declared.step.Step.{Step}
 use Rattle.ecma_lexer.specs.declared.step.Step.TheVariants.{Read}
-use Rattle.ecma_lexer.specs.Session.{Session, has_ended, kept_back}
+use Rattle.ecma_lexer.specs.Session.{has_ended, kept_back}
 use Rattle.ecma_lexer.specs.Run.{session}
 
 abbrev pub reads : ℕ → List Step

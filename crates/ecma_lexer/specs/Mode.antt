@@ -1,5 +1,5 @@
 -- What a read goes by besides the text.
-use Rattle.std.specs.Prelude.{Bool, true, false, not, ◌&&◌, Option, Some, None}
+use Rattle.std.specs.Prelude.{Bool, true, false, not, ◌&&◌, Option, Some}
 use Rattle.ecma_syntax.specs.declared.settings.Syntax.{Syntax}
 use Rattle.ecma_syntax.specs.declared.settings.Syntax.TheVariants.{Es, Typescript}
 use Rattle.ecma_scan.specs.declared.gap.GapMode.{GapMode}

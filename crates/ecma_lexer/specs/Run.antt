@@ -1,10 +1,8 @@
 -- What a list of steps answers, and where it comes to.
-use Rattle.std.specs.Prelude.{ℕ, Bool, false, List, [], ◌∷◌, Option, Some, None, fold, is_none, option_map}
+use Rattle.std.specs.Prelude.{Bool, false, List, [], ◌∷◌, Option, Some, None, fold, is_none, option_map}
 use Rattle.ecma_place.specs.Cursor.{Cursor, place}
-use Rattle.ecma_token.specs.declared.kind.TokenKind.{TokenKind}
 use Rattle.ecma_token.specs.View.{SpannedView}
 use Rattle.ecma_syntax.specs.declared.context.Context.{Context}
-use Rattle.ecma_lexer.specs.declared.kept.Kept.{Kept}
 use Rattle.ecma_lexer.specs.declared.mode.Mode.{Mode}
 use Rattle.ecma_lexer.specs.declared.settings.Settings.{Settings}
 use Rattle.ecma_lexer.specs.declared.step.Step.{Step}

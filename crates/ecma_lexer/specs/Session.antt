@@ -1,5 +1,5 @@
 -- What steps have come to, and what is read off the answers that were given.
-use Rattle.std.specs.Prelude.{ℕ, Bool, true, false, ◌&&◌, List, [], ◌∷◌, Option, Some, None, is_none, option_map}
+use Rattle.std.specs.Prelude.{ℕ, Bool, true, false, ◌&&◌, List, [], ◌∷◌, Option, Some, None}
 use Rattle.ecma_place.specs.Cursor.{Cursor}
 use Rattle.ecma_token.specs.declared.kind.TokenKind.{TokenKind}
 use Rattle.ecma_token.specs.declared.kind.TokenKind.TheVariants.{Shebang}

@@ -1,5 +1,5 @@
 -- Kept tokens and the gaps between them tile the text.
-use Rattle.std.specs.Prelude.{ℕ, ◌+◌, ◌-◌, ◌≡◌, Bool, true, List, [], ◌∷◌, ◌++◌, drop, slice_range, encode_utf8_all}
+use Rattle.std.specs.Prelude.{ℕ, ◌-◌, ◌≡◌, true, List, [], ◌∷◌, ◌++◌, drop, slice_range, encode_utf8_all}
 use Rattle.ecma_place.specs.Cursor.{Cursor, place}
 use Rattle.ecma_place.specs.declared.place.Span.{Span}
 use Rattle.ecma_token.specs.View.{SpannedView}

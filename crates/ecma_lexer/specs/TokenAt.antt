@@ -1,5 +1,5 @@
 -- The token at a place (ECMA-262 InputElementDiv, 12): which reader reads it, by its first characters.
-use Rattle.std.specs.Prelude.{ℕ, Bool, true, false, List, [], ◌∷◌, Option, Some, None, Result, Ok, Err, is_some}
+use Rattle.std.specs.Prelude.{Bool, true, false, [], ◌∷◌, Option, Some, None, Result, Ok, Err}
 use Rattle.ecma_place.specs.Text.{Text}
 use Rattle.ecma_syntax.specs.declared.word.Word.{Word}
 use Rattle.ecma_token.specs.declared.token.Token as token

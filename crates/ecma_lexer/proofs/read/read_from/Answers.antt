@@ -1,9 +1,8 @@
 use Rattle.std.proofs.Common.{◌≡◌, Some, sym, ap, ◌∙◌, true≢false}
 use Rattle.ecma_place.specs.Cursor.{rest}
-use Rattle.ecma_token.specs.View.{token_view, TokenView, SpannedView}
+use Rattle.ecma_token.specs.View.{token_view, SpannedView}
 use Rattle.ecma_scan.specs.Found.{found_view, value_view}
 use Rattle.ecma_lexer.specs.TokenAt.{token_at, token_of}
-use Rattle.ecma_lexer.specs.Reading.{is_free}
 use Rattle.ecma_lexer.proofs.ReadingLemmas.{reading-some, spanned-found, free-ok}
 use Rattle.ecma_lexer.proofs.read.read_from.Goals as goal
 

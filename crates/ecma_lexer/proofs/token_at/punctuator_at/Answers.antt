@@ -1,11 +1,8 @@
-use Rattle.std.proofs.Common.{◌≡◌, None, Some, Ok, length, sym, ap, ◌∙◌, true≢false}
-use Rattle.ecma_place.specs.Cursor.{rest, place, passed}
+use Rattle.std.proofs.Common.{sym, ◌∙◌, true≢false}
+use Rattle.ecma_place.specs.Cursor.{rest, place}
 use Rattle.ecma_token.specs.View.{token_view}
-use Rattle.ecma_scan.specs.Found.{fault_view}
-use Rattle.ecma_scan.specs.Punctuators.{punctuator_in, found_punctuator}
-use Rattle.ecma_lexer.specs.Mode.{type_mode}
-use Rattle.ecma_lexer.specs.TokenAt.{punctuator_or_stray, stray}
-use Rattle.ecma_lexer.proofs.TokenLemmas.{view, found_optionally, punctuator-some, punctuator-none, punctuator-stayed, punctuator-moved, stray-refused}
+use Rattle.ecma_scan.specs.Punctuators.{punctuator_in}
+use Rattle.ecma_lexer.proofs.TokenLemmas.{punctuator-some, punctuator-none, punctuator-stayed, punctuator-moved, stray-refused}
 use Rattle.ecma_lexer.proofs.token_at.punctuator_at.Goals as goal
 
 pub stray_at-requires : goal.stray_at-requires
