@@ -1,14 +1,14 @@
 -- What a read finds depends on the mode, on what is left, and on the place of that alone.
-use Rattle.std.proofs.Common.{◌≡◌, ℕ, ◌+◌, ◌||◌, Bool, [], ◌∷◌, length, take, drop, map, Some, refl, sym, ap, ◌∙◌}
+use Rattle.std.proofs.Common.{◌≡◌, ℕ, ◌+◌, ◌||◌, [], ◌∷◌, ◌++◌, length, take, drop, map, Some, refl, sym, ap, ◌∙◌}
 use Rattle.std.proofs.lemmas.List.{drop-drop}
 use Rattle.ecma_place.specs.Cursor.{Cursor, rest, place, passed}
 use Rattle.ecma_place.specs.Text.{Text, byte_len}
 use Rattle.ecma_place.proofs.MoveLemmas.{place-passed}
 use Rattle.ecma_token.specs.View.{TokenView}
-use Rattle.ecma_scan.specs.Blanks.{gap_spelling, has_line_break}
+use Rattle.ecma_scan.specs.Blanks.{gap_spelling}
 use Rattle.ecma_scan.specs.Found.{Scanned, fault_behind, token_behind, span_of}
 use Rattle.ecma_lexer.specs.Mode.{gap_mode}
-use Rattle.ecma_lexer.specs.Reading.{IsSameReading, ReadingIsDetermined, reading, reading_behind, token_reading}
+use Rattle.ecma_lexer.specs.Reading.{GapView, IsSameReading, ReadingIsDetermined, gap_in, reading, reading_behind, token_reading}
 use Rattle.ecma_lexer.specs.TokenAt.{token_at, token_of}
 use Rattle.ecma_lexer.specs.declared.mode.Mode.{Mode}
 
@@ -33,20 +33,22 @@ alike_passed n a b h = record {
       ∙ sym (place-behind n b);
 }
 
-same_token : (flag : Bool) (a b : Cursor) (s : Scanned TokenView) → Alike a b → IsSameReading (token_reading flag a s) (token_reading flag b s)
-same_token flag a b s h =
+same_token : (gap : GapView) (a b : Cursor) (s : Scanned TokenView) → Alike a b → IsSameReading (token_reading gap a s) (token_reading gap b s)
+same_token gap a b s h =
     let behind = alike_passed (length s.spelling) a b h in
     record {
-      found = ap (λ p. Some record { token = token_behind p (token_of s.value); had_line_break = flag || s.line_break; span = span_of p (p + byte_len s.spelling) }) h.stands;
+      found = ap (λ p. Some record { token = token_behind p (token_of s.value); had_line_break = gap.line_break || s.line_break; span = span_of p (p + byte_len s.spelling) }) h.stands;
       end_flag = refl;
-      faults = ap (λ p. map (fault_behind p) s.faults) h.stands;
+      faults = ap (λ p. gap.faults ++ map (fault_behind p) s.faults) h.stands;
+      comments = refl;
       left = behind.left;
       stands = behind.stands;
     }
 
-same_behind : (mode : Mode) (flag : Bool) (a b : Cursor) (text : Text) → Alike a b → IsSameReading (reading_behind mode flag a text) (reading_behind mode flag b text)
-same_behind mode flag a b [] h = record { found = refl; end_flag = refl; faults = refl; left = h.left; stands = h.stands }
-same_behind mode flag a b (c ∷ cs) h = same_token flag a b (token_at mode (c ∷ cs)) h
+same_behind : (mode : Mode) (gap : GapView) (a b : Cursor) (text : Text) → Alike a b → IsSameReading (reading_behind mode gap a text) (reading_behind mode gap b text)
+same_behind mode gap a b [] h =
+    record { found = refl; end_flag = refl; faults = refl; comments = refl; left = h.left; stands = h.stands }
+same_behind mode gap a b (c ∷ cs) h = same_token gap a b (token_at mode (c ∷ cs)) h
 
 pub reading_is_determined : ReadingIsDetermined
 unfolding reading
@@ -54,6 +56,7 @@ reading_is_determined mode a b left stands =
     let m = gap_mode mode in
     let n = length (gap_spelling m (rest a)) in
     let same : length (gap_spelling m (rest b)) ≡ n = ap (λ l. length (gap_spelling m l)) (sym left) in
-    let flag : has_line_break m (rest b) ≡ has_line_break m (rest a) = ap (has_line_break m) (sym left) in
+    let gap : gap_in mode (place b) (rest b) ≡ gap_in mode (place a) (rest a) =
+    ap (λ p. gap_in mode p (rest b)) (sym stands) ∙ ap (gap_in mode (place a)) (sym left) in
     let behind = alike_passed n a b record { left = left; stands = stands } in
-    rw (same, flag, ← behind.left) (same_behind mode (has_line_break m (rest a)) (passed n a) (passed n b) (rest (passed n a)) behind)
+    rw (same, gap, ← behind.left) (same_behind mode (gap_in mode (place a) (rest a)) (passed n a) (passed n b) (rest (passed n a)) behind)

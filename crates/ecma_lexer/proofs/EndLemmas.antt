@@ -1,16 +1,18 @@
 -- Where a read comes to, and what is read at the end.
-use Rattle.std.proofs.Common.{◌≡◌, ℕ, ◌+◌, ◌-◌, ◌<◌, ◌≤◌, Bool, true, false, ◌||◌, [], ◌∷◌, length, take, drop-drop, length-drop, Option, Some, None, refl, sym, ap, ◌∙◌, arith}
+use Rattle.std.proofs.Common.{◌≡◌, ℕ, ◌+◌, ◌-◌, ◌<◌, ◌≤◌, Bool, true, false, ◌||◌, List, [], ◌∷◌, length, take, drop-drop, length-drop, Option, Some, None, refl, sym, ap, ◌∙◌, arith}
 use Rattle.std.proofs.lemmas.Option.{none-some}
 use Rattle.ecma_place.specs.Text.{Text, byte_len}
 use Rattle.ecma_place.specs.Cursor.{Cursor, rest, place, passed}
 use Rattle.ecma_place.proofs.MoveLemmas.{place-passed, place-passed-le}
+use Rattle.ecma_place.specs.declared.comment.Comment.{Comment}
 use Rattle.ecma_token.specs.View.{SpannedView}
 use Rattle.ecma_scan.specs.Pieces.{spelled}
-use Rattle.ecma_scan.specs.Blanks.{gap_spelling, has_line_break, gap_cutter, elements_if}
+use Rattle.ecma_scan.specs.Blanks.{gap_spelling, has_line_break, gap_cutter, elements_if, gap_faults_at, comments_at}
+use Rattle.ecma_scan.specs.Found.{Fault}
 use Rattle.ecma_scan.specs.declared.gap.GapMode.{GapMode}
 use Rattle.ecma_scan.proofs.PunctuatorLemmas.{passed-zero}
 use Rattle.ecma_lexer.specs.Mode.{gap_mode}
-use Rattle.ecma_lexer.specs.Reading.{Reading, reading, reading_behind, behind_gap}
+use Rattle.ecma_lexer.specs.Reading.{GapView, Reading, reading, reading_behind, behind_gap, gap_in}
 use Rattle.ecma_lexer.specs.TokenAt.{token_at}
 use Rattle.ecma_lexer.specs.declared.mode.Mode.{Mode}
 use Rattle.ecma_lexer.proofs.FrontLemmas.{token_at-front, token_at-some}
@@ -23,15 +25,15 @@ pub record ReadsOn (input : Cursor) (r : Reading) : Type 0 where
   pub further : place input ≤ place r.input
   pub ending : r.found ≡ None → rest r.input ≡ []
 
-reads-behind : (mode : Mode) (flag : Bool) (input here : Cursor) (n : ℕ) (text : Text) → here ≡ passed n input → rest here ≡ text → ReadsOn input (reading_behind mode flag here text)
-reads-behind mode flag input here n [] gap e = record {
+reads-behind : (mode : Mode) (before : GapView) (input here : Cursor) (n : ℕ) (text : Text) → here ≡ passed n input → rest here ≡ text → ReadsOn input (reading_behind mode before here text)
+reads-behind mode before input here n [] gap e = record {
   start = ap (λ c. c.start) gap;
   text = ap (λ c. c.text) gap;
   token = λ t h. absurd (none-some t h);
   further = place-passed-le input here n gap;
   ending = λ _. e;
 }
-reads-behind mode flag input here n (c ∷ cs) gap e =
+reads-behind mode before input here n (c ∷ cs) gap e =
     let s = token_at mode (c ∷ cs) in
     let front : take (length s.spelling) (rest here) ≡ s.spelling = rw e (token_at-front mode (c ∷ cs)) in
     let behind : place (passed (length s.spelling) here) ≡ place here + byte_len s.spelling =
@@ -58,7 +60,7 @@ reads-behind mode flag input here n (c ∷ cs) gap e =
 pub reading-on : (mode : Mode) (input : Cursor) → ReadsOn input (reading mode input)
 unfolding reading
 reading-on mode input =
-    reads-behind mode (has_line_break (gap_mode mode) (rest input)) input (behind_gap mode input) (length (gap_spelling (gap_mode mode) (rest input))) (rest (behind_gap mode input)) refl refl
+    reads-behind mode (gap_in mode (place input) (rest input)) input (behind_gap mode input) (length (gap_spelling (gap_mode mode) (rest input))) (rest (behind_gap mode input)) refl refl
 
 -- At the end
 
@@ -69,6 +71,12 @@ gap_spelling-end mode = go (mode.template || mode.keeps_space)
     go true = refl
     go false = refl
 
+gap_faults-end : (n : ℕ) (mode : GapMode) → gap_faults_at n mode [] ≡ []
+gap_faults-end n mode = refl
+
+comments-end : (n : ℕ) (mode : GapMode) → comments_at n mode [] ≡ []
+comments-end n mode = refl
+
 behind_gap-end : (mode : Mode) (input : Cursor) → rest input ≡ [] → behind_gap mode input ≡ input
 behind_gap-end mode input e =
     ap (λ text. passed (length (gap_spelling (gap_mode mode) text)) input) e
@@ -76,17 +84,27 @@ behind_gap-end mode input e =
     ∙ passed-zero input
 
 -- where nothing is left the end is answered, and nothing moves
-pub reading-end : (mode : Mode) (input : Cursor) → rest input ≡ [] → reading mode input ≡ record { found = None; end_flag = has_line_break (gap_mode mode) (rest input); faults = []; input = input }
+pub reading-end : (mode : Mode) (input : Cursor) → rest input ≡ [] → reading mode input ≡ record { found = None; end_flag = has_line_break (gap_mode mode) (rest input); faults = []; comments = []; input = input }
 unfolding reading
 reading-end mode input e =
+    let gap = gap_in mode (place input) (rest input) in
     let flag = has_line_break (gap_mode mode) (rest input) in
-    ap (λ here. reading_behind mode flag here (rest here)) (behind_gap-end mode input e) ∙ ap (reading_behind mode flag input) e
+    let faults = ap (gap_faults_at (place input) (gap_mode mode)) e ∙ gap_faults-end (place input) (gap_mode mode) in
+    let comments = ap (comments_at (place input) (gap_mode mode)) e ∙ comments-end (place input) (gap_mode mode) in
+    ap (λ here. reading_behind mode gap here (rest here)) (behind_gap-end mode input e)
+    ∙ ap (reading_behind mode gap input) e
+    ∙ ap (λ fs. nothing_left flag fs (gap.comments) input) faults
+    ∙ ap (λ cs. nothing_left flag [] cs input) comments
+  where
+    nothing_left : Bool → List Fault → List (Comment × Bool) → Cursor → Reading
+    nothing_left flag faults comments input =
+        record { found = None; end_flag = flag; faults = faults; comments = comments; input = input }
 
 -- a token takes away from what is left
-less-behind : (mode : Mode) (flag : Bool) (input here : Cursor) (n : ℕ) (text : Text) (t : SpannedView) → here ≡ passed n input → rest here ≡ text
-    → (reading_behind mode flag here text).found ≡ Some t → length (rest (reading_behind mode flag here text).input) < length (rest input)
-less-behind mode flag input here n [] t gap e found = absurd (none-some t found)
-less-behind mode flag input here n (c ∷ cs) t gap e found =
+less-behind : (mode : Mode) (before : GapView) (input here : Cursor) (n : ℕ) (text : Text) (t : SpannedView) → here ≡ passed n input → rest here ≡ text
+    → (reading_behind mode before here text).found ≡ Some t → length (rest (reading_behind mode before here text).input) < length (rest input)
+less-behind mode before input here n [] t gap e found = absurd (none-some t found)
+less-behind mode before input here n (c ∷ cs) t gap e found =
     let s = token_at mode (c ∷ cs) in
     let some = token_at-some mode c cs in
     let left : length (rest here) ≡ length (c ∷ cs) = ap length e in
@@ -99,4 +117,4 @@ less-behind mode flag input here n (c ∷ cs) t gap e found =
 pub reading-less : (mode : Mode) (input : Cursor) (t : SpannedView) → (reading mode input).found ≡ Some t → length (rest (reading mode input).input) < length (rest input)
 unfolding reading
 reading-less mode input t found =
-    less-behind mode (has_line_break (gap_mode mode) (rest input)) input (behind_gap mode input) (length (gap_spelling (gap_mode mode) (rest input))) (rest (behind_gap mode input)) t refl refl found
+    less-behind mode (gap_in mode (place input) (rest input)) input (behind_gap mode input) (length (gap_spelling (gap_mode mode) (rest input))) (rest (behind_gap mode input)) t refl refl found

@@ -1,6 +1,6 @@
 -- A text is read to its end by enough reads.
 use Rattle.std.proofs.Common.{◌≡◌, ◌∙◌, ℕ, zero, suc, ◌+◌, ◌-◌, ◌<◌, ◌≤◌, Bool, true, List, [], ◌∷◌, ◌++◌, Option, Some, None, length, refl, sym, ap, arith, reverse}
-use Rattle.std.specs.Prelude.{fold}
+use Rattle.std.specs.Prelude.{fold, option_map, Result, Ok, Err, IfOk, OnOk}
 use Rattle.std.proofs.lemmas.Grind.{reverse_onto}
 use Rattle.ecma_place.specs.Text.{Text, byte_len}
 use Rattle.ecma_place.specs.Cursor.{Cursor, rest}
@@ -22,7 +22,7 @@ use Rattle.ecma_lexer.proofs.EndLemmas.{reading-on, reading-end, reading-less}
 abbrev end_flag : Session → Bool
 end_flag s = has_line_break (gap_mode (mode_of (state_of s))) (rest s.input)
 
-act-end : (s : Session) → rest s.input ≡ [] → act_on s Read ≡ record s { input = s.input; past = AtEnd (end_flag s) ∷ s.past }
+act-end : (s : Session) → rest s.input ≡ [] → act_on s Read ≡ record s { past = AtEnd (end_flag s) ∷ s.past }
 act-end s e = ap (λ r. (acted_on s r).after) (reading-end (mode_of (state_of s)) s.input e)
 
 -- nothing is kept of reads there, and the end is answered
@@ -111,8 +111,8 @@ one_more (suc k) s = one_more k (act_on s Read)
 state-behind : (s : Session) → state_of (act_on s Read) ≡ state_behind (state_of s) (reading_of (state_of s))
 state-behind s = go (reading_of (state_of s)).found
   where
-    go : (found : Option SpannedView) → state_of (record s { input = (reading_of (state_of s)).input; past = given_in (reading_of (state_of s)).end_flag found ∷ s.past })
-        ≡ record (state_of s) { input = (reading_of (state_of s)).input; seen = seeing (seen_of s.past) (given_in (reading_of (state_of s)).end_flag found) }
+    go : (found : Option SpannedView) → state_of (record (act_on s Read) { past = given_in (reading_of (state_of s)).end_flag found ∷ s.past })
+        ≡ record (state_of (act_on s Read)) { seen = seeing (seen_of s.past) (given_in (reading_of (state_of s)).end_flag found) }
     go None = refl
     go (Some t) = refl
 
@@ -157,3 +157,10 @@ pub end_answered_again : (l next : LexerState) → (reading_of l).found ≡ None
 end_answered_again l next none moved =
     let there : rest next.input ≡ [] = ap (λ x. rest x.input) moved ∙ (reading-on (mode_of l) l.input).ending none in
     ap (λ r. r.found) (reading-end (mode_of next) next.input there)
+
+-- the same of a read that may have been refused
+pub end_again : {T E : Type 0} → (seen : T → SpannedView) (answer : Result (Option T) E) (l next : LexerState)
+    → IfOk answer (λ found. option_map seen found ≡ (reading_of l).found) → OnOk answer (next ≡ state_behind l (reading_of l))
+    → IfOk answer (λ found. found ≡ None → (reading_of next).found ≡ None)
+end_again seen (Ok found) l next finds moved = λ none. end_answered_again l next (sym finds ∙ ap (option_map seen) none) moved
+end_again seen (Err e) l next finds moved = tt

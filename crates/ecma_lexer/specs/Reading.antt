@@ -1,22 +1,32 @@
 -- One read: the gap, and then the end or the token at its place.
-use Rattle.std.specs.Prelude.{◌≡◌, ◌+◌, Bool, true, false, not, ◌||◌, List, [], ◌∷◌, Option, Some, None, length, map}
+use Rattle.std.specs.Prelude.{◌≡◌, ℕ, ◌+◌, Bool, true, false, not, ◌||◌, ◌&&◌, List, [], ◌∷◌, ◌++◌, Option, Some, None, length, map}
 use Rattle.ecma_place.specs.Text.{Text, byte_len}
 use Rattle.ecma_place.specs.Cursor.{Cursor, rest, place, passed}
+use Rattle.ecma_place.specs.declared.comment.Comment.{Comment}
 use Rattle.ecma_token.specs.declared.kind.TokenKind.{TokenKind}
 use Rattle.ecma_token.specs.declared.kind.TokenKind.TheVariants.{Error}
 use Rattle.ecma_token.specs.Kinds.{kind_of}
 use Rattle.ecma_token.specs.View.{TokenView, SpannedView}
 use Rattle.ecma_scan.specs.Found.{Fault, Scanned, fault_behind, token_behind, span_of}
-use Rattle.ecma_scan.specs.Blanks.{gap_spelling, has_line_break}
+use Rattle.ecma_scan.specs.Blanks.{gap_spelling, has_line_break, gap_faults_at, comments_at}
 use Rattle.ecma_lexer.specs.Mode.{gap_mode}
 use Rattle.ecma_lexer.specs.TokenAt.{token_at, token_of}
 use Rattle.ecma_lexer.specs.declared.mode.Mode.{Mode}
 
--- What a read finds: a token, or the end with the flag before it, what is wrong, in order, and where it comes to
+-- What the gap before a token tells: whether no token came before or a line terminator stands in it, what is wrong, in
+-- order, and its comments, each with whether it is for the next token
+pub record GapView : Type 0 where
+  pub line_break : Bool
+  pub faults : List Fault
+  pub comments : List (Comment × Bool)
+
+-- What a read finds: a token, or the end with the flag before it, what is wrong, in order, the comments of the gap, and
+-- where it comes to
 pub record Reading : Type 0 where
   pub found : Option SpannedView
   pub end_flag : Bool
   pub faults : List Fault
+  pub comments : List (Comment × Bool)
   pub input : Cursor
 
 -- a token that is read at a cursor, with the flag of the gap before it
@@ -28,19 +38,31 @@ spanned_at flag here s =
       span = span_of (place here) (place here + byte_len s.spelling);
     }
 
-abbrev pub token_reading : Bool → Cursor → Scanned TokenView → Reading
-token_reading flag here s =
+-- the faults of the gap stand before those of the token
+abbrev pub token_reading : GapView → Cursor → Scanned TokenView → Reading
+token_reading gap here s =
     record {
-      found = Some (spanned_at flag here s);
-      end_flag = flag;
-      faults = map (fault_behind (place here)) s.faults;
+      found = Some (spanned_at gap.line_break here s);
+      end_flag = gap.line_break;
+      faults = gap.faults ++ map (fault_behind (place here)) s.faults;
+      comments = gap.comments;
       input = passed (length s.spelling) here;
     }
 
 -- behind the gap, where this text is left
-abbrev pub reading_behind : Mode → Bool → Cursor → Text → Reading
-reading_behind mode flag here [] = record { found = None; end_flag = flag; faults = []; input = here }
-reading_behind mode flag here (c ∷ cs) = token_reading flag here (token_at mode (c ∷ cs))
+abbrev pub reading_behind : Mode → GapView → Cursor → Text → Reading
+reading_behind mode gap here [] =
+    record { found = None; end_flag = gap.line_break; faults = gap.faults; comments = gap.comments; input = here }
+reading_behind mode gap here (c ∷ cs) = token_reading gap here (token_at mode (c ∷ cs))
+
+-- what the gap tells with which a text at the place n begins
+abbrev pub gap_in : Mode → ℕ → Text → GapView
+gap_in mode n text =
+    record {
+      line_break = has_line_break (gap_mode mode) text;
+      faults = gap_faults_at n (gap_mode mode) text;
+      comments = comments_at n (gap_mode mode) text;
+    }
 
 -- the place behind the gap
 abbrev pub behind_gap : Mode → Cursor → Cursor
@@ -49,7 +71,7 @@ behind_gap mode input = passed (length (gap_spelling (gap_mode mode) (rest input
 -- what a read finds from a cursor on
 unfoldable pub reading : Mode → Cursor → Reading
 reading mode input =
-    reading_behind mode (has_line_break (gap_mode mode) (rest input)) (behind_gap mode input) (rest (behind_gap mode input))
+    reading_behind mode (gap_in mode (place input) (rest input)) (behind_gap mode input) (rest (behind_gap mode input))
 
 abbrev pub is_error : TokenKind → Bool
 is_error Error = true
@@ -59,9 +81,13 @@ abbrev pub is_plain : Option SpannedView → Bool
 is_plain None = true
 is_plain (Some t) = not (is_error (kind_of t.token))
 
--- a read that gives no error token takes no memory
+abbrev pub is_empty : {A : Type 0} → List A → Bool
+is_empty [] = true
+is_empty (item ∷ items) = false
+
+-- a read takes no memory that finds no fault, collects no comment and gives no error token
 abbrev pub is_free : Reading → Bool
-is_free r = is_plain r.found
+is_free r = is_empty r.faults && (is_empty r.comments && is_plain r.found)
 
 -- Laws
 
@@ -70,6 +96,7 @@ pub record IsSameReading (a b : Reading) : Type 0 where
   pub found : a.found ≡ b.found
   pub end_flag : a.end_flag ≡ b.end_flag
   pub faults : a.faults ≡ b.faults
+  pub comments : a.comments ≡ b.comments
   pub left : rest a.input ≡ rest b.input
   pub stands : place a.input ≡ place b.input
 

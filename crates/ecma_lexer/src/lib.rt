@@ -14,6 +14,7 @@ pub mod step;
 mod tests;
 mod token_at;
 pub mod token_context;
+pub mod tokens;
 
 pub use error_list::ErrorList;
 pub use kept::Kept;
@@ -21,3 +22,4 @@ pub use lexer::Lexer;
 pub use settings::Settings;
 pub use step::Step;
 pub use token_context::TokenContext;
+pub use tokens::Tokens;

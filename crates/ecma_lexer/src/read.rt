@@ -1,14 +1,14 @@
 //! One read: the gap, and then the end or the token at its place.
-ghost use Rattle.std.specs.Prelude.{◌≡◌, true, option_map, IfOk, IsOk, OnOk};
+ghost use Rattle.std.specs.Prelude.{◌≡◌, ◌++◌, true, map, option_map, IfOk, IsOk, OnOk};
 ghost use Rattle.ecma_token.specs.View.{spanned_view, token_view};
-ghost use Rattle.ecma_scan.specs.Found.{value_view};
+ghost use Rattle.ecma_scan.specs.Found.{fault_view, value_view};
 ghost use Rattle.ecma_lexer.specs.Reading.{reading, is_free};
 ghost use Rattle.ecma_lexer.specs.TokenAt as grammar;
 
 use crate::mode::Mode;
 use crate::token_at::token_at;
 use ecma_place::StringInput;
-use ecma_scan::{Found, scan_gap};
+use ecma_scan::{Blame, Found, scan_gap};
 use ecma_token::{Error, Token, TokenAndSpan};
 use std::alloc::{AllocError, Global};
 
@@ -19,6 +19,10 @@ pub struct Reading<'a> {
     pub found: Option<TokenAndSpan<'a>>,
     /// Whether no token came before, or a line terminator stands in the gap.
     pub end_flag: bool,
+    /// What is wrong in the gap.
+    pub gap_faults: Vec<(Blame, Error<'a>)>,
+    /// What is wrong in the token.
+    pub token_faults: Vec<(Blame, Error<'a>)>,
 }
 
 /// A refused text is a token too.
@@ -40,6 +44,7 @@ pub fn read_from<'a>(
 ) -> Result<Reading<'a>, AllocError>
     ensures found { IfOk result (λ r. option_map spanned_view r.found ≡ (reading mode.now input.old).found) }
     ensures end_flag { IfOk result (λ r. r.end_flag ≡ (reading mode.now input.old).end_flag) }
+    ensures faults { IfOk result (λ r. map fault_view r.gap_faults.items ++ map fault_view r.token_faults.items ≡ (reading mode.now input.old).faults) }
     ensures moved { OnOk result (input.new ≡ (reading mode.now input.old).input) }
     ensures free { is_free (reading mode.now input.old) ≡ true → IsOk result }
 {
@@ -49,11 +54,13 @@ pub fn read_from<'a>(
         return Ok(Reading {
             found: None,
             end_flag,
+            gap_faults: gap.faults,
+            token_faults: Vec::new(alloc),
         });
     };
     let Found {
         value,
-        faults: _,
+        faults: token_faults,
         extent,
         line_break,
     } = token_at(alloc, input, mode, c)?;
@@ -65,5 +72,7 @@ pub fn read_from<'a>(
     Ok(Reading {
         found: Some(token),
         end_flag,
+        gap_faults: gap.faults,
+        token_faults,
     })
 }

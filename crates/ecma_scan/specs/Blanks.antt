@@ -3,6 +3,8 @@ use Rattle.std.specs.Prelude.{ℕ, Bool, true, false, ◌||◌, List, [], ◌∷
 use Rattle.std.specs.List.{list_any}
 use Rattle.ecma_place.specs.Text.{Text}
 use Rattle.ecma_place.specs.Character.{is_white_space, is_line_terminator}
+use Rattle.ecma_place.specs.declared.comment.Comment.{Comment}
+use Rattle.ecma_scan.specs.Found.{Fault}
 use Rattle.ecma_scan.specs.Pieces.{Cutter, pieces, spelled}
 use Rattle.ecma_scan.specs.declared.gap.GapMode.{GapMode}
 
@@ -42,3 +44,10 @@ gap_spelling mode text = spelled (gap_cutter mode) (gap_elements mode text)
 -- whether no token came before, or a line terminator stands in the gap
 abbrev pub has_line_break : GapMode → Text → Bool
 has_line_break mode text = mode.first || list_any is_line_terminator (gap_spelling mode text)
+
+-- nothing is wrong in such a gap, and it has no comments
+abbrev pub gap_faults_at : ℕ → GapMode → Text → List Fault
+gap_faults_at n mode text = []
+
+abbrev pub comments_at : ℕ → GapMode → Text → List (Comment × Bool)
+comments_at n mode text = []

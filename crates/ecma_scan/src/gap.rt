@@ -4,6 +4,7 @@ ghost use Rattle.std.specs.List.{prefix_len, take_while, list_any};
 ghost use Rattle.ecma_place.specs.Cursor.{rest, place, passed};
 ghost use Rattle.ecma_place.specs.Character.{is_white_space, is_line_terminator};
 ghost use Rattle.ecma_scan.specs.Blanks as grammar;
+ghost use Rattle.ecma_scan.specs.Found.{fault_view};
 
 use crate::found::Blame;
 use ecma_place::character::is_white_space;
@@ -78,8 +79,8 @@ pub fn scan_gap<'a>(
     mode: &GapMode,
 ) -> Result<Gap<'a>, AllocError>
     ensures line_break { IfOk result (λ gap. gap.line_break ≡ grammar.has_line_break mode.now (rest input.old)) }
-    ensures comments { IfOk result (λ gap. gap.comments.items ≡ []) }
-    ensures faults { IfOk result (λ gap. gap.faults.items ≡ []) }
+    ensures comments { IfOk result (λ gap. gap.comments.items ≡ grammar.comments_at (place input.old) mode.now (rest input.old)) }
+    ensures faults { IfOk result (λ gap. map fault_view gap.faults.items ≡ grammar.gap_faults_at (place input.old) mode.now (rest input.old)) }
     ensures moved { OnOk result
         (input.new ≡ passed (length (grammar.gap_spelling mode.now (rest input.old))) input.old) }
     ensures free { IsOk result }

@@ -1,27 +1,50 @@
-use Rattle.std.proofs.Common.{◌≡◌, Some, sym, ap, ◌∙◌, true≢false}
-use Rattle.ecma_place.specs.Cursor.{rest}
+use Rattle.std.proofs.Common.{◌≡◌, ◌++◌, Some, map, sym, ap, ◌∙◌, true≢false}
+use Rattle.ecma_place.specs.Cursor.{rest, place}
 use Rattle.ecma_token.specs.View.{token_view, SpannedView}
-use Rattle.ecma_scan.specs.Found.{found_view, value_view}
+use Rattle.ecma_scan.specs.Found.{fault_view, found_view, value_view}
+use Rattle.ecma_scan.specs.Blanks.{gap_faults_at}
+use Rattle.ecma_lexer.specs.Reading.{gap_in}
 use Rattle.ecma_lexer.specs.TokenAt.{token_at, token_of}
-use Rattle.ecma_lexer.proofs.ReadingLemmas.{reading-some, spanned-found, free-ok}
+use Rattle.ecma_lexer.proofs.ReadingLemmas.{free-token, reading-some, spanned-found}
 use Rattle.ecma_lexer.proofs.read.read_from.Goals as goal
 
 pub returns-in_err-value-clause-free : goal.returns-in_err-value-clause-free
 returns-in_err-value-clause-free c =
+    let mode = c.args.mode.now in
     let here = c.scan_gap.new.input in
-    let reads = reading-some c.args.mode.now c.args.input.now here c.in_ok-gap.gap.line_break c.in-Some.c (rw c.gap_mode.ensures at c.in_ok-gap.ensures.moved) (rw c.gap_mode.ensures at c.in_ok-gap.ensures.line_break) (sym c.in-Some.ensures.first) in
-    λ h. absurd (true≢false (sym (c.in_err-value.ensures.free (free-ok c.in_ok-gap.gap.line_break here (token_at c.args.mode.now (rest here)) (rw reads at h)))))
+    let reads = reading-some mode c.args.input.now here c.in-Some.c (rw c.gap_mode.ensures at c.in_ok-gap.ensures.moved) (sym c.in-Some.ensures.first) in
+    λ h. absurd (true≢false (sym (c.in_err-value.ensures.free (free-token (gap_in mode (place c.args.input.now) (rest c.args.input.now)) here (token_at mode (rest here)) (rw reads at h)).ok)))
 
 pub returns-clause-found : goal.returns-clause-found
 returns-clause-found c =
+    let mode = c.args.mode.now in
     let here = c.scan_gap.new.input in
-    let reads = reading-some c.args.mode.now c.args.input.now here c.in_ok-gap.gap.line_break c.in-Some.c (rw c.gap_mode.ensures at c.in_ok-gap.ensures.moved) (rw c.gap_mode.ensures at c.in_ok-gap.ensures.line_break) (sym c.in-Some.ensures.first) in
-    let spanned = spanned-found c.in_ok-gap.gap.line_break here (token_at c.args.mode.now (rest here)) (found_view token_view c.in_ok-value.field-0) c.in_ok-value.ensures.found in
+    let reads = reading-some mode c.args.input.now here c.in-Some.c (rw c.gap_mode.ensures at c.in_ok-gap.ensures.moved) (sym c.in-Some.ensures.first) in
+    let flag = rw c.gap_mode.ensures at c.in_ok-gap.ensures.line_break in
+    let gap = gap_in mode (place c.args.input.now) (rest c.args.input.now) in
+    let spanned = spanned-found gap.line_break here (token_at mode (rest here)) (found_view token_view c.in_ok-value.field-0) c.in_ok-value.ensures.found in
     let token : token_view c.token_of.result ≡ token_of (value_view token_view c.in_ok-value.field-0.value) = c.token_of.ensures in
-    rw (token, reads) (ap (λ (t : SpannedView). Some t) spanned)
+    rw (token, flag, reads) (ap (λ (t : SpannedView). Some t) spanned)
+
+pub returns-clause-end_flag : goal.returns-clause-end_flag
+returns-clause-end_flag c =
+    let here = c.scan_gap.new.input in
+    let reads = reading-some c.args.mode.now c.args.input.now here c.in-Some.c (rw c.gap_mode.ensures at c.in_ok-gap.ensures.moved) (sym c.in-Some.ensures.first) in
+    rw reads (rw c.gap_mode.ensures at c.in_ok-gap.ensures.line_break)
+
+pub returns-clause-faults : goal.returns-clause-faults
+returns-clause-faults c =
+    let here = c.scan_gap.new.input in
+    let reads = reading-some c.args.mode.now c.args.input.now here c.in-Some.c (rw c.gap_mode.ensures at c.in_ok-gap.ensures.moved) (sym c.in-Some.ensures.first) in
+    let input = c.args.input.now in
+    let of_gap = c.in_ok-gap.ensures.faults ∙ ap (λ mode. gap_faults_at (place input) mode (rest input)) c.gap_mode.ensures in
+    let of_token = ap (λ found. found.faults) c.in_ok-value.ensures.found in
+    ap (λ faults. faults ++ map fault_view c.in_ok-value.field-0.faults.items) of_gap
+    ∙ ap (λ faults. (gap_in c.args.mode.now (place input) (rest input)).faults ++ faults) of_token
+    ∙ ap (λ r. r.faults) (sym reads)
 
 pub returns-clause-moved : goal.returns-clause-moved
 returns-clause-moved c =
     let here = c.scan_gap.new.input in
-    let reads = reading-some c.args.mode.now c.args.input.now here c.in_ok-gap.gap.line_break c.in-Some.c (rw c.gap_mode.ensures at c.in_ok-gap.ensures.moved) (rw c.gap_mode.ensures at c.in_ok-gap.ensures.line_break) (sym c.in-Some.ensures.first) in
+    let reads = reading-some c.args.mode.now c.args.input.now here c.in-Some.c (rw c.gap_mode.ensures at c.in_ok-gap.ensures.moved) (sym c.in-Some.ensures.first) in
     c.in_ok-value.ensures.moved ∙ ap (λ r. r.input) (sym reads)
