@@ -22,12 +22,16 @@ pub mod GapLemmas
 mod GapRows
 pub mod LineLemmas
 pub mod MarkerLemmas
+pub mod NumberDigits
+pub mod NumberForms
+pub mod NumberFound
 pub mod NumberLaws
 pub mod NumberLemmas
 pub mod NumberLocal
 pub mod NumberReading
 pub mod NumberRefusals
 mod NumberRows
+pub mod OctalFaults
 pub mod PartFaults
 pub mod PieceLemmas
 pub mod PunctuatorLaws

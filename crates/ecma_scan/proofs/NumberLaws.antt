@@ -334,7 +334,7 @@ whole_fits (DecimalRun run (Point digits) e') value e = cc
 
 -- separators
 
-no_digit : (radix : Radix) → digit radix 95 ≡ false
+pub no_digit : (radix : Radix) → digit radix 95 ≡ false
 no_digit Binary = refl
 no_digit Octal = refl
 no_digit Decimal = refl

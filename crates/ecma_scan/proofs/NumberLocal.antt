@@ -64,7 +64,7 @@ clean_none : (ts1085 : Bool) (n : Number) (o : Option ErrorView) → is_clean (f
 clean_none ts1085 n None h = refl
 clean_none ts1085 n (Some e) h = cc
 
-spelling_is : (ts1085 : Bool) (n : Number) (o : Option ErrorView) → (found_number ts1085 n o).spelling ≡ number_text n
+pub spelling_is : (ts1085 : Bool) (n : Number) (o : Option ErrorView) → (found_number ts1085 n o).spelling ≡ number_text n
 spelling_is ts1085 n None = refl
 spelling_is ts1085 n (Some e) = refl
 
@@ -102,7 +102,7 @@ decimal_some c cs opens = go (in_run Decimal c) refl
     go true e = rw e (some_run _ _ c (run_of Decimal cs) (behind_run Decimal cs))
     go false e = rw e (some_point c cs (is_point (digit Decimal c) (c == 95) (c == 46) (next_passes (digit Decimal) cs) e opens))
 
-parts_some : (text : Text) → opens_number text ≡ true → 0 < length (number_text (number_parts text))
+pub parts_some : (text : Text) → opens_number text ≡ true → 0 < length (number_text (number_parts text))
 parts_some [] opens = cc
 parts_some (c ∷ cs) opens = go (prefix (c ∷ cs))
   where
