@@ -4,14 +4,15 @@ use Rattle.std.proofs.lemmas.List.Sums.{take_while-cons}
 use Rattle.ecma_place.specs.Text.{Text}
 use Rattle.ecma_place.specs.Character.{is_ident_part}
 use Rattle.ecma_place.proofs.CharacterLemmas.{is_ident_start-is_ident_part}
-use Rattle.ecma_scan.specs.DigitRuns.{opens_number, is_decimal_digit}
+use Rattle.ecma_scan.specs.Numbers.{opens_number}
 use Rattle.ecma_scan.specs.PlainWords.{opens_word, word_spelling}
 use Rattle.ecma_scan.specs.Punctuators.{Punctuator, punctuator_in, spelling_in}
 use Rattle.ecma_scan.proofs.Fronts.{take_while-front}
-use Rattle.ecma_scan.proofs.NumberLemmas.{digit_run-some}
+use Rattle.ecma_scan.proofs.NumberLaws.{number_front}
+use Rattle.ecma_scan.proofs.NumberLocal.{number_some}
 use Rattle.ecma_scan.proofs.PunctuatorLemmas.{punctuator-front, punctuator-some}
 use Rattle.ecma_lexer.specs.Mode.{type_mode}
-use Rattle.ecma_lexer.specs.TokenAt.{token_at, opening_from, read_opened, punctuator_or_stray}
+use Rattle.ecma_lexer.specs.TokenAt.{token_at, ts1085, opening_from, read_opened, punctuator_or_stray}
 use Rattle.ecma_lexer.specs.declared.mode.Mode.{Mode}
 
 abbrev IsFront : Text → Text → Type 0
@@ -27,7 +28,7 @@ pub token_at-front : (mode : Mode) (text : Text) → IsFront (token_at mode text
 token_at-front mode text = go (opens_number text) (opens_word text)
   where
     go : (number word : Bool) → IsFront (read_opened (opening_from number word) mode text).spelling text
-    go true word = take_while-front is_decimal_digit text
+    go true word = number_front text
     go false true = take_while-front is_ident_part text
     go false false = other-front (punctuator_in (type_mode mode) text) text (punctuator-front (type_mode mode) text)
 
@@ -46,6 +47,6 @@ pub token_at-some : (mode : Mode) (c : ℕ) (cs : Text) → 0 < length (token_at
 token_at-some mode c cs = go (opens_number (c ∷ cs)) (opens_word (c ∷ cs)) refl refl
   where
     go : (number word : Bool) → opens_number (c ∷ cs) ≡ number → opens_word (c ∷ cs) ≡ word → 0 < length (read_opened (opening_from number word) mode (c ∷ cs)).spelling
-    go true word n w = digit_run-some (c ∷ cs) n
+    go true word n w = number_some (ts1085 mode) (c ∷ cs) n
     go false true n w = word-some (c ∷ cs) w
     go false false n w = other-some (punctuator_in (type_mode mode) (c ∷ cs)) c cs (punctuator-some (type_mode mode) (c ∷ cs))

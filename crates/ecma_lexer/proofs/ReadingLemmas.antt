@@ -1,14 +1,13 @@
 -- What a read finds, from what its readers found.
-use Rattle.std.proofs.Common.{◌≡◌, ℕ, Bool, true, List, [], ◌∷◌, ◌||◌, Some, Result, Ok, Err, slice_get, refl, sym, ap, ◌∙◌}
-use Rattle.std.specs.Prelude.{is_ok}
+use Rattle.std.proofs.Common.{◌≡◌, ℕ, Bool, true, [], ◌∷◌, ◌++◌, ◌||◌, Some, Result, Ok, Err, map, slice_get, refl, sym, ap, ◌∙◌}
 use Rattle.ecma_place.specs.Text.{Text}
 use Rattle.ecma_place.specs.Cursor.{Cursor, rest, place}
-use Rattle.ecma_place.specs.declared.comment.Comment.{Comment}
 use Rattle.ecma_token.specs.View.{TokenView, ErrorView, SpannedView}
-use Rattle.ecma_scan.specs.Found.{Fault, Scanned, FoundView, found_at, token_behind, value_behind}
-use Rattle.ecma_lexer.specs.Reading.{GapView, Reading, reading, reading_behind, behind_gap, gap_in, token_reading, spanned_at, is_free}
-use Rattle.ecma_lexer.specs.TokenAt.{token_at, token_of}
+use Rattle.ecma_scan.specs.Found.{Scanned, fault_behind, FoundView, found_at, token_behind, value_behind}
+use Rattle.ecma_lexer.specs.Reading.{GapView, reading, reading_behind, behind_gap, gap_in, token_reading, spanned_at, is_free, is_free_behind}
+use Rattle.ecma_lexer.specs.TokenAt.{token_at, token_of, opening, is_empty, is_free_at}
 use Rattle.ecma_lexer.specs.declared.mode.Mode.{Mode}
+use Rattle.ecma_lexer.proofs.TokenLemmas.{and-parts, empty-none, free-parts}
 
 reading_behind-some : (mode : Mode) (gap : GapView) (here : Cursor) (text : Text) (x : ℕ) → slice_get text 0 ≡ Some x
     → reading_behind mode gap here text ≡ token_reading gap here (token_at mode text)
@@ -35,40 +34,35 @@ spanned-found flag here s found e =
     let with_token : TokenView → SpannedView = λ t. record (spanned_at flag here s) { token = t } in
     ap spanned e ∙ ap with_token (token_of-behind (place here) s.value)
 
--- a read that takes no memory has no faults before the token, collects no comment, and its token is neither refused
--- nor has faults
-pub record IsFreeToken (gap : GapView) (s : Scanned TokenView) : Type 0 where
-  pub gap_faults : gap.faults ≡ []
-  pub token_faults : s.faults ≡ []
-  pub comments : gap.comments ≡ []
-  pub ok : is_ok s.value ≡ true
+-- a read that takes no memory has no faults before the token, collects no comment, and its token takes none
+pub record IsFree (mode : Mode) (input : Cursor) : Type 0 where
+  pub gap_faults : (gap_in mode (place input) (rest input)).faults ≡ []
+  pub comments : (gap_in mode (place input) (rest input)).comments ≡ []
+  pub token : is_free_behind mode (rest (behind_gap mode input)) ≡ true
 
-pub free-token : (gap : GapView) (here : Cursor) (s : Scanned TokenView) → is_free (token_reading gap here s) ≡ true → IsFreeToken gap s
-free-token gap here s h = go gap.faults s.faults gap.comments s.value h
-  where
-    go : (before own : List Fault) (comments : List (Comment × Bool)) (value : Result TokenView ErrorView)
-        → is_free (token_reading (record { line_break = gap.line_break; faults = before; comments = comments }) here (record s { value = value; faults = own })) ≡ true
-        → IsFreeToken (record { line_break = gap.line_break; faults = before; comments = comments }) (record s { value = value; faults = own })
-    go [] [] [] (Ok token) h = record { gap_faults = refl; token_faults = refl; comments = refl; ok = refl }
-    go [] [] [] (Err error) h = cc
-    go [] [] (c ∷ cs) value h = cc
-    go [] (f ∷ fs) comments value h = cc
-    go (f ∷ fs) own comments value h = cc
+pub free-reading : (mode : Mode) (input : Cursor) → is_free mode input ≡ true → IsFree mode input
+free-reading mode input h =
+    let gap = gap_in mode (place input) (rest input) in
+    let one = and-parts (is_empty gap.faults) _ h in
+    let two = and-parts (is_empty gap.comments) _ one.1 in
+    record { gap_faults = empty-none gap.faults one.0; comments = empty-none gap.comments two.0; token = two.1 }
 
--- the same where nothing is left
-pub free-end : (gap : GapView) (here : Cursor) (mode : Mode) → is_free (reading_behind mode gap here []) ≡ true → (gap.faults ≡ []) × (gap.comments ≡ [])
-free-end gap here mode h = go gap.faults gap.comments h
-  where
-    go : (faults : List Fault) (comments : List (Comment × Bool)) → is_free (reading_behind mode (record { line_break = gap.line_break; faults = faults; comments = comments }) here []) ≡ true
-        → (faults ≡ []) × (comments ≡ [])
-    go [] [] h = (refl, refl)
-    go [] (c ∷ cs) h = cc
-    go (f ∷ fs) comments h = cc
+-- where a character stands behind the gap, a token is read there
+pub free-token : (mode : Mode) (text : Text) (x : ℕ) → slice_get text 0 ≡ Some x → is_free_behind mode text ≡ true → is_free_at mode text ≡ true
+free-token mode [] x e h = cc
+free-token mode (c ∷ cs) x e h = h
 
--- a read that takes no memory has no faults
-pub free_faults : (r : Reading) → is_free r ≡ true → r.faults ≡ []
-free_faults r h = go r.faults h
+-- such a read has no faults
+pub free_faults : (mode : Mode) (input : Cursor) → is_free mode input ≡ true → (reading mode input).faults ≡ []
+unfolding reading
+free_faults mode input h =
+    let free = free-reading mode input h in
+    go (rest (behind_gap mode input)) free.gap_faults free.token
   where
-    go : (faults : List Fault) → is_free (record r { faults = faults }) ≡ true → faults ≡ []
-    go [] h = refl
-    go (f ∷ fs) h = cc
+    go : (text : Text) → (gap_in mode (place input) (rest input)).faults ≡ [] → is_free_behind mode text ≡ true
+        → (reading_behind mode (gap_in mode (place input) (rest input)) (behind_gap mode input) text).faults ≡ []
+    go [] none free = none
+    go (c ∷ cs) none free =
+        let s = token_at mode (c ∷ cs) in
+        ap (λ faults. faults ++ map (fault_behind (place (behind_gap mode input))) s.faults) none
+        ∙ ap (map (fault_behind (place (behind_gap mode input)))) (free-parts (opening (c ∷ cs)) s free).faults

@@ -1,15 +1,20 @@
 -- The token at a place, from what the readers found.
-use Rattle.std.proofs.Common.{◌≡◌, ℕ, ◌+◌, Bool, false, List, [], ◌∷◌, length, take, Option, Some, None, Result, Ok, slice_get, refl, sym, ap, ◌∙◌, arith}
+use Rattle.std.proofs.Common.{◌≡◌, ℕ, ◌+◌, Bool, true, false, not, ◌&&◌, List, [], ◌∷◌, length, take, Option, Some, None, Result, Ok, Err, slice_get, refl, sym, ap, ◌∙◌, arith}
 use Rattle.std.specs.Prelude.{option_map, is_ok}
+use Rattle.std.specs.List.{list_any}
 use Rattle.ecma_place.specs.Text.{Text}
 use Rattle.ecma_place.specs.Cursor.{Cursor, passed}
 use Rattle.ecma_place.specs.declared.place.BytePos.{BytePos}
 use Rattle.ecma_place.specs.declared.place.Span.{Span}
 use Rattle.ecma_token.specs.View.{TokenView, ErrorView, plain_token}
-use Rattle.ecma_scan.specs.Found.{Fault, FoundView, found_at, token_behind, span_behind, span_of}
+use Rattle.ecma_scan.specs.Found.{Fault, FoundView, Scanned, found_at, token_behind, span_behind, span_of}
 use Rattle.ecma_scan.specs.Punctuators.{Punctuator, found_punctuator}
 use Rattle.ecma_scan.proofs.PunctuatorLemmas.{passed-zero}
-use Rattle.ecma_lexer.specs.TokenAt.{punctuator_or_stray, stray}
+use Rattle.ecma_scan.specs.Locality.{is_accepted}
+use Rattle.ecma_scan.specs.Numbers.{opens_number, number, is_separator}
+use Rattle.ecma_scan.specs.PlainWords.{opens_word}
+use Rattle.ecma_lexer.specs.TokenAt.{Opening, Number, opening_from, read_opened, ts1085, is_empty, is_free_at, is_free_token, is_plain_text, punctuator_or_stray, stray}
+use Rattle.ecma_lexer.specs.declared.mode.Mode.{Mode}
 
 abbrev pub view : {A : Type 0} → Result A ErrorView → List Fault → Span → Bool → FoundView A
 view value faults extent line_break = record { value = value; faults = faults; extent = extent; line_break = line_break }
@@ -64,3 +69,44 @@ pub empty-span : (n : ℕ) (pos : BytePos) (span : Span) → pos.0 ≡ n → (le
 empty-span n pos span e s =
     let zero : n + 0 ≡ n = omega arith in
     s ∙ ap (λ k. span_of k k) (e ∙ sym zero)
+
+-- What takes no memory
+
+pub and-parts : (a b : Bool) → (a && b) ≡ true → (a ≡ true) × (b ≡ true)
+and-parts true b h = (refl, h)
+and-parts false b h = cc
+
+pub empty-none : {A : Type 0} → (items : List A) → is_empty items ≡ true → items ≡ []
+empty-none [] h = refl
+empty-none (item ∷ items) h = cc
+
+pub record IsFreeToken (opens : Opening) (s : Scanned TokenView) : Type 0 where
+  pub ok : is_ok s.value ≡ true
+  pub faults : s.faults ≡ []
+  pub text : is_plain_text opens s.spelling ≡ true
+
+pub free-parts : (opens : Opening) (s : Scanned TokenView) → is_free_token opens s ≡ true → IsFreeToken opens s
+free-parts opens s h =
+    let one = and-parts (is_ok s.value) _ h in
+    let two = and-parts (is_empty s.faults) _ one.1 in
+    record { ok = one.0; faults = empty-none s.faults two.0; text = two.1 }
+
+-- a number whose reading takes no memory
+pub free-number : (mode : Mode) (text : Text) → opens_number text ≡ true → is_free_at mode text ≡ true → IsFreeToken Number (number (ts1085 mode) text)
+free-number mode text opens h = go (opens_number text) opens h
+  where
+    go : (opened : Bool) → opened ≡ true → is_free_token (opening_from opened (opens_word text)) (read_opened (opening_from opened (opens_word text)) mode text) ≡ true
+        → IsFreeToken Number (number (ts1085 mode) text)
+    go true opens h = free-parts Number (number (ts1085 mode) text) h
+    go false opens h = cc
+
+pub no-separator : (spelling : Text) → is_plain_text Number spelling ≡ true → list_any is_separator spelling ≡ false
+no-separator spelling h = go (list_any is_separator spelling) h
+  where
+    go : (some : Bool) → not some ≡ true → some ≡ false
+    go true h = cc
+    go false h = refl
+
+pub ok-accepted : (value : Result TokenView ErrorView) → is_ok value ≡ true → is_accepted value ≡ true
+ok-accepted (Ok token) h = refl
+ok-accepted (Err error) h = cc

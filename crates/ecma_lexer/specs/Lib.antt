@@ -14,6 +14,6 @@ pub use Rattle.ecma_place.specs.Text
 pub use Rattle.ecma_token.specs.Kinds
 pub use Rattle.ecma_scan.specs.Found
 pub use Rattle.ecma_scan.specs.Blanks
-pub use Rattle.ecma_scan.specs.DigitRuns
+pub use Rattle.ecma_scan.specs.Numbers
 pub use Rattle.ecma_scan.specs.Punctuators
 pub use Rattle.ecma_scan.specs.PlainWords

@@ -1,16 +1,13 @@
 -- One read: the gap, and then the end or the token at its place.
-use Rattle.std.specs.Prelude.{◌≡◌, ℕ, ◌+◌, Bool, true, false, not, ◌||◌, ◌&&◌, List, [], ◌∷◌, ◌++◌, Option, Some, None, length, map}
+use Rattle.std.specs.Prelude.{◌≡◌, ℕ, ◌+◌, Bool, true, ◌||◌, ◌&&◌, List, [], ◌∷◌, ◌++◌, Option, Some, None, length, map}
 use Rattle.ecma_place.specs.Text.{Text, byte_len}
 use Rattle.ecma_place.specs.Cursor.{Cursor, rest, place, passed}
 use Rattle.ecma_place.specs.declared.comment.Comment.{Comment}
-use Rattle.ecma_token.specs.declared.kind.TokenKind.{TokenKind}
-use Rattle.ecma_token.specs.declared.kind.TokenKind.TheVariants.{Error}
-use Rattle.ecma_token.specs.Kinds.{kind_of}
 use Rattle.ecma_token.specs.View.{TokenView, SpannedView}
 use Rattle.ecma_scan.specs.Found.{Fault, Scanned, fault_behind, token_behind, span_of}
 use Rattle.ecma_scan.specs.Blanks.{gap_spelling, has_line_break, gap_faults_at, comments_at}
 use Rattle.ecma_lexer.specs.Mode.{gap_mode}
-use Rattle.ecma_lexer.specs.TokenAt.{token_at, token_of}
+use Rattle.ecma_lexer.specs.TokenAt.{token_at, token_of, is_empty, is_free_at}
 use Rattle.ecma_lexer.specs.declared.mode.Mode.{Mode}
 
 -- What the gap before a token tells: whether no token came before or a line terminator stands in it, what is wrong, in
@@ -73,21 +70,15 @@ unfoldable pub reading : Mode → Cursor → Reading
 reading mode input =
     reading_behind mode (gap_in mode (place input) (rest input)) (behind_gap mode input) (rest (behind_gap mode input))
 
-abbrev pub is_error : TokenKind → Bool
-is_error Error = true
-is_error _ = false
+-- a read takes no memory where nothing is wrong in the gap, no comment is collected, and the token takes none
+abbrev pub is_free_behind : Mode → Text → Bool
+is_free_behind mode [] = true
+is_free_behind mode (c ∷ cs) = is_free_at mode (c ∷ cs)
 
-abbrev pub is_plain : Option SpannedView → Bool
-is_plain None = true
-is_plain (Some t) = not (is_error (kind_of t.token))
-
-abbrev pub is_empty : {A : Type 0} → List A → Bool
-is_empty [] = true
-is_empty (item ∷ items) = false
-
--- a read takes no memory that finds no fault, collects no comment and gives no error token
-abbrev pub is_free : Reading → Bool
-is_free r = is_empty r.faults && (is_empty r.comments && is_plain r.found)
+abbrev pub is_free : Mode → Cursor → Bool
+is_free mode input =
+    is_empty (gap_in mode (place input) (rest input)).faults
+    && (is_empty (gap_in mode (place input) (rest input)).comments && is_free_behind mode (rest (behind_gap mode input)))
 
 -- Laws
 

@@ -1,15 +1,16 @@
 -- The token at a place (ECMA-262 InputElementDiv, 12): which reader reads it, by its first characters.
-use Rattle.std.specs.Prelude.{Bool, true, false, [], ◌∷◌, Option, Some, None, Result, Ok, Err}
+use Rattle.std.specs.Prelude.{Bool, true, false, not, ◌&&◌, List, [], ◌∷◌, Option, Some, None, Result, Ok, Err, is_ok}
+use Rattle.std.specs.List.{list_any}
 use Rattle.ecma_place.specs.Text.{Text}
 use Rattle.ecma_syntax.specs.declared.word.Word.{Word}
 use Rattle.ecma_token.specs.declared.token.Token as token
 use Rattle.ecma_token.specs.declared.error.SyntaxError.{UnexpectedChar}
 use Rattle.ecma_token.specs.View.{TokenView, ErrorView, plain, plain_token, error_token}
 use Rattle.ecma_scan.specs.Found.{Scanned, error_at}
-use Rattle.ecma_scan.specs.DigitRuns as numbers
+use Rattle.ecma_scan.specs.Numbers as numbers
 use Rattle.ecma_scan.specs.PlainWords as words
 use Rattle.ecma_scan.specs.Punctuators as punctuators
-use Rattle.ecma_lexer.specs.Mode.{type_mode}
+use Rattle.ecma_lexer.specs.Mode.{type_mode, is_typescript, is_since_es5}
 use Rattle.ecma_lexer.specs.declared.mode.Mode.{Mode}
 
 abbrev word_value : Result Word ErrorView → Result TokenView ErrorView
@@ -48,9 +49,9 @@ opening_from false false = Other
 abbrev pub opening : Text → Opening
 opening text = opening_from (numbers.opens_number text) (words.opens_word text)
 
--- legacy octals are told of as TypeScript does; has no effect yet
+-- legacy octals are told of as TypeScript does, for targets from the fifth edition on
 abbrev pub ts1085 : Mode → Bool
-ts1085 mode = false
+ts1085 mode = is_typescript mode.settings.syntax && is_since_es5 mode.settings.target
 
 abbrev pub read_opened : Opening → Mode → Text → Scanned TokenView
 read_opened Number mode text = numbers.number (ts1085 mode) text
@@ -60,6 +61,23 @@ read_opened Other mode text = other_token mode text
 -- the token at a text that isn't empty
 abbrev pub token_at : Mode → Text → Scanned TokenView
 token_at mode text = read_opened (opening text) mode text
+
+-- nothing in the text of a token asks for memory: no separator in a number
+abbrev pub is_plain_text : Opening → Text → Bool
+is_plain_text Number spelling = not (list_any numbers.is_separator spelling)
+is_plain_text Word' spelling = true
+is_plain_text Other spelling = true
+
+abbrev pub is_empty : {A : Type 0} → List A → Bool
+is_empty [] = true
+is_empty (item ∷ items) = false
+
+-- what is read takes no memory where nothing is wrong with it and its text asks for none
+abbrev pub is_free_token : Opening → Scanned TokenView → Bool
+is_free_token opens s = is_ok s.value && (is_empty s.faults && is_plain_text opens s.spelling)
+
+abbrev pub is_free_at : Mode → Text → Bool
+is_free_at mode text = is_free_token (opening text) (token_at mode text)
 
 -- a refused text is a token too
 abbrev pub token_of : Result TokenView ErrorView → TokenView

@@ -124,7 +124,7 @@ impl<'a> Lexer<'a> {
         ensures answer { IfOk result (λ answer. option_map spanned_view answer ≡ (reading_of (lexer_state self.old)).found) }
         ensures after { OnOk result (lexer_state self.new ≡ state_behind (lexer_state self.old) (reading_of (lexer_state self.old))) }
         ensures kept { OnErr result (self.new.errors ≡ self.old.errors) }
-        ensures free { is_free (reading_of (lexer_state self.old)) ≡ true → IsOk result }
+        ensures free { is_free (mode_of (lexer_state self.old)) self.old.input ≡ true → IsOk result }
     {
         let mode = self.mode();
         let Reading {
@@ -141,8 +141,8 @@ impl<'a> Lexer<'a> {
 
     /// The next token, or nothing at the end.
     ///
-    /// What is wrong besides is recorded, waits or is dropped, as the context says. A read that gives no error token,
-    /// finds nothing wrong and collects no comment takes no memory.
+    /// What is wrong besides is recorded, waits or is dropped, as the context says. A read that finds
+    /// nothing wrong and collects no comment takes no memory, unless the token's value differs from its spelling.
     ///
     /// # Errors
     ///
@@ -159,7 +159,7 @@ impl<'a> Lexer<'a> {
         ensures refused { self.old.refused ≡ true → (result ≡ Err alloc_error) × (self.new ≡ self.old) }
         ensures refusal { OnErr result (self.new.refused ≡ true) }
         ensures kept { OnErr result (self.new.errors ≡ self.old.errors) }
-        ensures free { self.old.refused ≡ false → is_free (reading_of (lexer_state self.old)) ≡ true → IsOk result }
+        ensures free { self.old.refused ≡ false → is_free (mode_of (lexer_state self.old)) self.old.input ≡ true → IsOk result }
     {
         if self.refused {
             return Err(AllocError);

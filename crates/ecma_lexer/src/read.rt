@@ -46,7 +46,7 @@ pub fn read_from<'a>(
     ensures end_flag { IfOk result (λ r. r.end_flag ≡ (reading mode.now input.old).end_flag) }
     ensures faults { IfOk result (λ r. map fault_view r.gap_faults.items ++ map fault_view r.token_faults.items ≡ (reading mode.now input.old).faults) }
     ensures moved { OnOk result (input.new ≡ (reading mode.now input.old).input) }
-    ensures free { is_free (reading mode.now input.old) ≡ true → IsOk result }
+    ensures free { is_free mode.now input.old ≡ true → IsOk result }
 {
     let gap = scan_gap(alloc, input, &mode.gap_mode())?;
     let end_flag = gap.line_break;

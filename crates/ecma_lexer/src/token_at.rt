@@ -3,6 +3,7 @@ ghost use Rattle.std.specs.Prelude.{◌≡◌, true, Some, length, slice_get, is
 ghost use Rattle.ecma_place.specs.Cursor.{rest, place, passed};
 ghost use Rattle.ecma_token.specs.View.{token_view};
 ghost use Rattle.ecma_scan.specs.Found.{found_view, found_at, token_behind};
+ghost use Rattle.ecma_scan.specs.Numbers.{opens_number};
 ghost use Rattle.ecma_scan.specs.PlainWords.{opens_word};
 ghost use Rattle.ecma_lexer.specs.TokenAt as grammar;
 
@@ -104,6 +105,14 @@ fn punctuator_at<'a>(
     }
 }
 
+/// Whether a number stands at the cursor, which stands before the character `c`.
+fn stands_number(input: &StringInput, c: char) -> bool
+    requires { slice_get (rest input.now) 0 ≡ Some c }
+    ensures { result ≡ opens_number (rest input.now) }
+{
+    c.is_digit(10) || c == '.' && matches!(input.peek(), Some('0'..='9'))
+}
+
 /// The token at the cursor, which stands before the character `c`.
 pub fn token_at<'a>(
     alloc: Global,
@@ -116,10 +125,10 @@ pub fn token_at<'a>(
         found_at token_behind (place input.old) (grammar.token_at mode.now (rest input.old))) }
     ensures moved { OnOk result
         (input.new ≡ passed (length (grammar.token_at mode.now (rest input.old)).spelling) input.old) }
-    ensures free { is_ok (grammar.token_at mode.now (rest input.old)).value ≡ true → IsOk result }
+    ensures free { grammar.is_free_at mode.now (rest input.old) ≡ true → IsOk result }
 {
-    if c.is_digit(10) {
-        scan_number(alloc, input, false)
+    if stands_number(input, c) {
+        scan_number(alloc, input, mode.ts1085())
     } else if c.is_ident_start() {
         word_at(alloc, input, mode)
     } else {

@@ -3,17 +3,20 @@ use Rattle.ecma_place.specs.Cursor.{rest, place}
 use Rattle.ecma_token.specs.View.{token_view, SpannedView}
 use Rattle.ecma_scan.specs.Found.{fault_view, found_view, value_view}
 use Rattle.ecma_scan.specs.Blanks.{gap_faults_at}
-use Rattle.ecma_lexer.specs.Reading.{gap_in}
+use Rattle.ecma_lexer.specs.Reading.{behind_gap, gap_in}
 use Rattle.ecma_lexer.specs.TokenAt.{token_at, token_of}
-use Rattle.ecma_lexer.proofs.ReadingLemmas.{free-token, reading-some, spanned-found}
+use Rattle.ecma_lexer.proofs.ReadingLemmas.{free-reading, free-token, reading-some, spanned-found}
 use Rattle.ecma_lexer.proofs.read.read_from.Goals as goal
 
 pub returns-in_err-value-clause-free : goal.returns-in_err-value-clause-free
 returns-in_err-value-clause-free c =
     let mode = c.args.mode.now in
     let here = c.scan_gap.new.input in
-    let reads = reading-some mode c.args.input.now here c.in-Some.c (rw c.gap_mode.ensures at c.in_ok-gap.ensures.moved) (sym c.in-Some.ensures.first) in
-    λ h. absurd (true≢false (sym (c.in_err-value.ensures.free (free-token (gap_in mode (place c.args.input.now) (rest c.args.input.now)) here (token_at mode (rest here)) (rw reads at h)).ok)))
+    let gap : here ≡ behind_gap mode c.args.input.now = rw c.gap_mode.ensures at c.in_ok-gap.ensures.moved in
+    λ h.
+        let free = free-reading mode c.args.input.now h in
+        let token = rw (← gap) at free.token in
+        absurd (true≢false (sym (c.in_err-value.ensures.free (free-token mode (rest here) c.in-Some.c (sym c.in-Some.ensures.first) token))))
 
 pub returns-clause-found : goal.returns-clause-found
 returns-clause-found c =
