@@ -1,10 +1,12 @@
 pub mod Agreement
+pub mod AttachmentLemmas
 pub mod BarsLaws
 pub mod BodyLemmas
 pub mod CharacterLaws
 pub mod CommentLaws
 mod CommentRows
 pub mod DigitValues
+pub mod ElementLemmas
 pub mod EscapeBytes
 pub mod EscapeForms
 pub mod EscapeLaws
@@ -18,7 +20,6 @@ pub mod Fronts
 pub mod GapFaults
 pub mod GapForms
 pub mod GapLaws
-pub mod GapLemmas
 mod GapRows
 pub mod LineLemmas
 pub mod MarkerLemmas
@@ -33,14 +34,17 @@ pub mod PieceLemmas
 pub mod PunctuatorLaws
 pub mod PunctuatorLemmas
 mod PunctuatorRows
+pub mod ReadingLemmas
 pub mod RunFaults
 pub mod RunReading
 pub mod SeparationLaws
 pub mod ShebangLaws
 pub mod ShebangLemmas
+pub mod SignLemmas
 pub mod StringLaws
 mod StringRows
 pub mod TemplateLaws
 mod TemplateRows
+pub mod WhiteLemmas
 pub mod WordLaws
 mod WordRows
