@@ -30,4 +30,3 @@ first-is x (c ∷ cs) false e = go (c == x) refl
 
 pub semicolon-seen : (old now : Cursor) (b : Bool) → now ≡ passed (prefix_len is_white_space (rest old)) old → (IsTrue b ↔ (slice_get (rest now) 0 ≡ Some 59)) → b ≡ semicolon_follows (rest old)
 semicolon-seen old now b moved e = first-is 59 (rest now) b e ∙ ap (next_is 59) (after-white old now moved)
-

@@ -185,8 +185,7 @@ marker-line c k behind there new space e t n = go (c == 62) refl e
     go : (x : Bool) → (c == 62) ≡ x → k ≡ cond x 1 0 → (new ≡ passed (length (line (rest behind))) behind) × (line (rest there) ≡ cond x (drop 1 (line (rest behind))) (line (rest behind)))
     go true h one =
         let line_is = space-line (rest behind) (space (eqb-true c 62 h)) in
-        let rest_is : rest there ≡ drop 1 (rest behind) = text ∙ ap (λ n. drop n (rest behind)) one in
-        (
+        let rest_is : rest there ≡ drop 1 (rest behind) = text ∙ ap (λ n. drop n (rest behind)) one in (
           moved (let same = ap (λ t. length (line t)) (sym rest_is) in omega (arith, ap length line_is, same, one)),
           ap line rest_is ∙ ap (drop 1) (sym line_is),
         )
@@ -384,5 +383,3 @@ closed-free mode r n text None d some h = cc
 pub open-free : (mode : GapMode) (r : ReadingView) (n : ℕ) (text : Text) (o : Option Text) (d : Text) → is_some o ≡ false → AddsNothing mode n text r (block_of o d) → ⊥
 open-free mode r n text (Some body) d none h = cc
 open-free mode r n text None d none h = let no = h.1 in cc
-
-pub ruleset specials = (rest-behind)

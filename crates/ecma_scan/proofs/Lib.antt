@@ -23,6 +23,7 @@ pub mod GapLaws
 mod GapRows
 pub mod LineLemmas
 pub mod MarkerLemmas
+pub mod NextElements
 pub mod NumberLaws
 pub mod NumberLemmas
 pub mod NumberLocal

@@ -1,5 +1,5 @@
 //! The elements of a gap, one at a time.
-ghost use Rattle.std.specs.Prelude.{◌≡◌, ◌≤◌, ◌<◌, ◌+◌, ◌==◌, if◌then◌else◌, true, false, drop, length, replicate, is_some, IfOk, IsOk, OnOk, encode_utf8_all, codes};
+ghost use Rattle.std.specs.Prelude.{◌≡◌, ◌≤◌, ◌<◌, ◌+◌, ◌==◌, ◌&&◌, not, if◌then◌else◌, true, false, drop, length, replicate, is_some, IfOk, IsOk, OnOk, encode_utf8_all, codes};
 ghost use Rattle.ecma_place.specs.Atom.{borrowed_atom};
 ghost use Rattle.ecma_place.specs.Character.{is_white_space, is_line_terminator};
 ghost use Rattle.ecma_place.specs.Cursor.{rest, place, passed};
@@ -268,6 +268,13 @@ fn read_conflict<'a>(
     }
 }
 
+/// Whether an HTML-like comment that begins with `<!--` stands at the cursor; among types none does.
+pub(crate) fn stands_html_opening(input: &StringInput, type_mode: bool) -> bool
+    ensures { result ≡ (begins_with (codes "<!--") (rest input.now) && not type_mode) }
+{
+    !type_mode && input.is_str("<!--")
+}
+
 /// Reads the HTML-like comment or the conflict marker at the cursor, if one stands there. `-->` and markers do so only
 /// where no token came before, or a line terminator was read.
 fn read_special<'a>(
@@ -285,7 +292,7 @@ fn read_special<'a>(
     ensures free { NextAddsNothing mode.now (place input.old) (rest input.old) (reading_view reading.old)
         (special_element mode.now.type_mode (reading_view reading.old).flag (rest input.old)) → IsOk result }
 {
-    if !mode.type_mode && input.is_str("<!--") {
+    if stands_html_opening(input, mode.type_mode) {
         read_html_opening(alloc, input, mode, reading)?;
         Ok(true)
     } else if !reading.line_break {

@@ -7,7 +7,7 @@ ghost use Rattle.ecma_scan.specs.Gaps as grammar;
 ghost use Rattle.ecma_scan.specs.Pieces.{spelled};
 ghost use Rattle.ecma_scan.specs.Readings.{gap_view, found_with, nothing_read, IsEmpty};
 
-use crate::element::read_element;
+use crate::element::{read_element, stands_html_opening};
 use crate::found::Blame;
 use crate::marker::stands_conflict;
 use crate::reading::Reading;
@@ -45,11 +45,11 @@ pub struct Gap<'a> {
 }
 
 /// Whether an HTML-like comment or a conflict marker stands at the cursor. `flag` says whether `-->` and markers may.
-#[tactic(auto, using(crate::proofs::ElementLemmas::specials))]
+
 fn stands_special(input: &StringInput, type_mode: bool, flag: bool) -> bool
     ensures { result ≡ is_some (grammar.special_element type_mode flag (rest input.now)) }
 {
-    (!type_mode && input.is_str("<!--"))
+    stands_html_opening(input, type_mode)
         || (flag && (input.is_str("-->") || stands_conflict(input, type_mode)))
 }
 

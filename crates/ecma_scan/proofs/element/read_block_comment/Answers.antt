@@ -37,18 +37,18 @@ returns-clause-reading c =
     let r = reading_view c.args.reading.now in
     let body = c.read_body-terminator.ensures in
     elim c.if-is_str.branch [
-      then-is_str+in_ok-add_comment w ↦
-        let some = is_ended _ _ _ true body.moved c.is_str.ensures w.if-is_str.true in
-        let is = block-closed c.args.input.now _ _ _ c.requires c.pass.ensures body.moved some w.pass-then-is_str.ensures in
-        closed-said c.args.mode.now r (reading_view c.if-is_str.reading) _ c.args.input.now c.pass.new.input _ _ _ _ _ some is c.cur_pos-start.ensures w.cur_pos.ensures body.text body.terminator
-        (ap reading_view w.reading-is ∙ (rw (w.from.ensures, w.new-span.ensures) at w.in_ok-add_comment.ensures.reading)) refl
-        ∙ ap (λ d. with_element c.args.mode.now (place c.args.input.now) (rest c.args.input.now) (block_of (comment_body d) d) r) (rest-behind _ _ 2 c.pass.ensures)
-    | else-is_str+in_ok-add_fault w ↦
-        let none = is_ended _ _ _ false body.moved c.is_str.ensures w.if-is_str.false in
-        let is = block-open c.args.input.now _ _ c.requires c.pass.ensures body.moved none in
-        open-said c.args.mode.now r (reading_view c.if-is_str.reading) _ c.args.input.now c.pass.new.input _ _ _ _ none is c.cur_pos-start.ensures w.cur_pos-else-is_str.ensures body.terminator
-        (ap reading_view w.reading-is ∙ (rw w.new-span-else-is_str.ensures at w.in_ok-add_fault.ensures)) refl
-        ∙ ap (λ d. with_element c.args.mode.now (place c.args.input.now) (rest c.args.input.now) (block_of (comment_body d) d) r) (rest-behind _ _ 2 c.pass.ensures)
+      | then-is_str+in_ok-add_comment w ↦
+          let some = is_ended _ _ _ true body.moved c.is_str.ensures w.if-is_str.true in
+          let is = block-closed c.args.input.now _ _ _ c.requires c.pass.ensures body.moved some w.pass-then-is_str.ensures in
+          closed-said c.args.mode.now r (reading_view c.if-is_str.reading) _ c.args.input.now c.pass.new.input _ _ _ _ _ some is c.cur_pos-start.ensures w.cur_pos.ensures body.text body.terminator
+          (ap reading_view w.reading-is ∙ (rw (w.from.ensures, w.new-span.ensures) at w.in_ok-add_comment.ensures.reading)) refl
+          ∙ ap (λ d. with_element c.args.mode.now (place c.args.input.now) (rest c.args.input.now) (block_of (comment_body d) d) r) (rest-behind _ _ 2 c.pass.ensures)
+      | else-is_str+in_ok-add_fault w ↦
+          let none = is_ended _ _ _ false body.moved c.is_str.ensures w.if-is_str.false in
+          let is = block-open c.args.input.now _ _ c.requires c.pass.ensures body.moved none in
+          open-said c.args.mode.now r (reading_view c.if-is_str.reading) _ c.args.input.now c.pass.new.input _ _ _ _ none is c.cur_pos-start.ensures w.cur_pos-else-is_str.ensures body.terminator
+          (ap reading_view w.reading-is ∙ (rw w.new-span-else-is_str.ensures at w.in_ok-add_fault.ensures)) refl
+          ∙ ap (λ d. with_element c.args.mode.now (place c.args.input.now) (rest c.args.input.now) (block_of (comment_body d) d) r) (rest-behind _ _ 2 c.pass.ensures)
     ]
 
 pub returns-clause-moved : goal.returns-clause-moved
@@ -57,10 +57,10 @@ returns-clause-moved c =
     let there : rest c.pass.new.input ≡ drop 2 (rest c.args.input.now) = rest-behind _ _ 2 c.pass.ensures in
     let far = ap (λ d. passed (length (element_text (block_of (comment_body d) d))) c.args.input.now) there in
     elim c.if-is_str.branch [
-      then-is_str+in_ok-add_comment w ↦
-        let some = is_ended _ _ _ true body.moved c.is_str.ensures w.if-is_str.true in
-        w.input-is ∙ (block-closed c.args.input.now _ _ _ c.requires c.pass.ensures body.moved some w.pass-then-is_str.ensures).moved ∙ far
-    | else-is_str+in_ok-add_fault w ↦
-        let none = is_ended _ _ _ false body.moved c.is_str.ensures w.if-is_str.false in
-        w.input-is ∙ (block-open c.args.input.now _ _ c.requires c.pass.ensures body.moved none).moved ∙ far
+      | then-is_str+in_ok-add_comment w ↦
+          let some = is_ended _ _ _ true body.moved c.is_str.ensures w.if-is_str.true in
+          w.input-is ∙ (block-closed c.args.input.now _ _ _ c.requires c.pass.ensures body.moved some w.pass-then-is_str.ensures).moved ∙ far
+      | else-is_str+in_ok-add_fault w ↦
+          let none = is_ended _ _ _ false body.moved c.is_str.ensures w.if-is_str.false in
+          w.input-is ∙ (block-open c.args.input.now _ _ c.requires c.pass.ensures body.moved none).moved ∙ far
     ]
