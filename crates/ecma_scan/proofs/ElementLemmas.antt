@@ -298,7 +298,7 @@ closed-view mode r n text (Some body) d h =
     ap (λ fs. let view : ReadingView = record { flag = flag_behind r.flag e; pending = r.pending; comments = r.comments ++ element_comments mode r.flag n text e; faults = fs } in view) (append-nil r.faults)
 closed-view mode r n text None d h = cc
 
-none-collected : {A : Type 0} (b : Bool) → collected {A = A} b [] ≡ []
+pub none-collected : {A : Type 0} (b : Bool) → collected {A = A} b [] ≡ []
 none-collected true = refl
 none-collected false = refl
 

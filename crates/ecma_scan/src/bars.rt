@@ -24,7 +24,6 @@ pub struct Bars<'a> {
 }
 
 /// Reads the comments and the white space at the cursor, as many as there are.
-#[tactic(auto, using(crate::proofs::ReadingLemmas::readings))]
 fn read_comments<'a>(
     alloc: Global,
     input: &mut StringInput<'a>,

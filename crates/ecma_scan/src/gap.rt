@@ -62,7 +62,6 @@ fn may_stand(input: &StringInput, mode: &GapMode) -> bool
 }
 
 /// Reads the elements at the cursor, as many as there are.
-#[tactic(auto, using(crate::proofs::ReadingLemmas::readings))]
 fn read_elements<'a>(
     alloc: Global,
     input: &mut StringInput<'a>,
