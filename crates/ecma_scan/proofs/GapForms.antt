@@ -38,7 +38,7 @@ line_again : (text rest : Text) → IsLine text rest → line (text ++ rest) ≡
 line_again text rest is = front_run in_line text rest is.0 is.1
 
 -- a spelling and a line, at a text that begins with the spelling
-spelled_line : (needle text : Text) → begins_with needle text ≡ true
+pub spelled_line : (needle text : Text) → begins_with needle text ≡ true
     → ((needle ++ line (drop (length needle) text)) ++ behind_line (drop (length needle) text) ≡ text)
 spelled_line needle text e = rw append_assoc (ap (λ l. needle ++ l) (line_front (drop (length needle) text)) ∙ begins_with-front needle text e)
 
@@ -161,7 +161,7 @@ abbrev pub RuledIf : Bool → Bool → Option Element → Text → Type 0
 RuledIf type_mode flag None text = ⊤
 RuledIf type_mode flag (Some e) text = (rest : Text) × (element_text e ++ rest ≡ text) × IsElement type_mode flag e rest
 
-block_ruled : (type_mode flag : Bool) (text : Text) → begins_with (codes "/*") text ≡ true → RuledIf type_mode flag (Some (block_of (comment_body (drop 2 text)) (drop 2 text))) text
+pub block_ruled : (type_mode flag : Bool) (text : Text) → begins_with (codes "/*") text ≡ true → RuledIf type_mode flag (Some (block_of (comment_body (drop 2 text)) (drop 2 text))) text
 block_ruled type_mode flag text e = go (comment_body (drop 2 text)) refl (body_front (drop 2 text))
   where
     whole : codes "/*" ++ drop 2 text ≡ text

@@ -1,27 +1,25 @@
 pub mod Agreement
+pub mod AttachmentLemmas
 pub mod BarsLaws
 pub mod BodyLemmas
 pub mod CharacterLaws
 pub mod CommentLaws
-mod CommentRows
 pub mod DigitValues
+pub mod ElementLemmas
 pub mod EscapeBytes
 pub mod EscapeForms
 pub mod EscapeLaws
 pub mod EscapeReading
-mod EscapeRows
 pub mod ExpressionForms
 pub mod ExpressionLaws
 pub mod ExpressionReading
-mod ExpressionRows
 pub mod Fronts
 pub mod GapFaults
 pub mod GapForms
 pub mod GapLaws
-pub mod GapLemmas
-mod GapRows
 pub mod LineLemmas
 pub mod MarkerLemmas
+pub mod NextElements
 pub mod NumberDigits
 pub mod NumberForms
 pub mod NumberFound
@@ -30,21 +28,28 @@ pub mod NumberLemmas
 pub mod NumberLocal
 pub mod NumberReading
 pub mod NumberRefusals
-mod NumberRows
 pub mod OctalFaults
 pub mod PartFaults
 pub mod PieceLemmas
 pub mod PunctuatorLaws
 pub mod PunctuatorLemmas
-mod PunctuatorRows
+pub mod ReadingLemmas
 pub mod RunFaults
 pub mod RunReading
 pub mod SeparationLaws
 pub mod ShebangLaws
 pub mod ShebangLemmas
+pub mod SignLemmas
 pub mod StringLaws
-mod StringRows
 pub mod TemplateLaws
-mod TemplateRows
+pub mod WhiteLemmas
 pub mod WordLaws
+mod CommentRows
+mod EscapeRows
+mod ExpressionRows
+mod GapRows
+mod NumberRows
+mod PunctuatorRows
+mod StringRows
+mod TemplateRows
 mod WordRows

@@ -14,6 +14,7 @@ pub mod Numbers
 pub mod Pieces
 pub mod PlainWords
 pub mod Punctuators
+pub mod Readings
 pub mod Shebangs
 pub mod Strings
 pub mod Templates

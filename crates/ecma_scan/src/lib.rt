@@ -1,7 +1,10 @@
 //! The readers of the lexical grammar: each reads one kind of text from a cursor on, and says what it found.
 #![tactic(auto)]
 
+mod attachment;
+pub mod bars;
 mod comment;
+mod element;
 mod escape;
 pub mod found;
 pub mod gap;
@@ -9,12 +12,15 @@ mod line;
 mod marker;
 pub mod number;
 pub mod punctuator;
+mod reading;
 pub mod shebang;
 pub mod skip_whitespace;
 #[cfg(test)]
 mod tests;
+mod white_space;
 pub mod word;
 
+pub use bars::Bars;
 pub use found::{Blame, Found};
 pub use gap::{Gap, GapMode, scan_gap};
 pub use number::scan_number;
