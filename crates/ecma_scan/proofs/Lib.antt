@@ -10,6 +10,7 @@ pub mod EscapeForms
 pub mod EscapeLaws
 pub mod EscapeReading
 mod EscapeRows
+pub mod EscapeSpans
 pub mod ExpressionForms
 pub mod ExpressionLaws
 pub mod ExpressionReading

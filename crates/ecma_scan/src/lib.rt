@@ -15,6 +15,7 @@ pub mod skip_whitespace;
 mod tests;
 pub mod word;
 
+pub use escape::scan_escape;
 pub use found::{Blame, Found};
 pub use gap::{Gap, GapMode, scan_gap};
 pub use number::scan_number;
