@@ -31,6 +31,8 @@ pub mod NumberRefusals
 mod NumberRows
 pub mod PartFaults
 pub mod PieceLemmas
+pub mod PieceReading
+pub mod PlainRuns
 pub mod PunctuatorLaws
 pub mod PunctuatorLemmas
 mod PunctuatorRows
@@ -40,6 +42,7 @@ pub mod SeparationLaws
 pub mod ShebangLaws
 pub mod ShebangLemmas
 pub mod StringLaws
+pub mod StringReading
 mod StringRows
 pub mod TemplateLaws
 mod TemplateRows

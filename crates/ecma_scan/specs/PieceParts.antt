@@ -1,11 +1,13 @@
 -- What the pieces of a string or a word from a cursor on stand for, what is said of them, and where they end.
-use Rattle.std.specs.Prelude.{ℕ, List, ◌++◌, length, Result, Ok, Err, encode_utf8_all}
+use Rattle.std.specs.Prelude.{ℕ, Bool, true, false, List, [], ◌∷◌, ◌++◌, length, Result, Ok, Err, encode_utf8_all}
 use Rattle.ecma_place.specs.Atom.{AtomView}
 use Rattle.ecma_place.specs.Cursor.{Cursor, rest, place, passed}
 use Rattle.ecma_place.specs.declared.run.Quote.{Quote}
 use Rattle.ecma_place.specs.Run.{quote_byte}
-use Rattle.ecma_token.specs.View.{ErrorView}
-use Rattle.ecma_scan.specs.Found.{Fault, error_behind}
+use Rattle.ecma_token.specs.View.{ErrorView, plain}
+use Rattle.ecma_token.specs.declared.error.SyntaxError.{UnterminatedStrLit}
+use Rattle.ecma_scan.specs.declared.found.Blame.TheVariants.{Always}
+use Rattle.ecma_scan.specs.Found.{Fault, error_behind, span_of}
 use Rattle.ecma_scan.specs.Pieces.{Cutter, pieces, spelled}
 use Rattle.ecma_scan.specs.Strings.{Piece, value_of, faults_of, atom_of, string_cutter, Ending, Closed, Unclosed, BadEscape, ending}
 
@@ -50,3 +52,8 @@ atom_from quote c = unless_refused (ending_from quote c) (end_from (quoted quote
 -- where reading goes on behind them
 abbrev pub behind_pieces : Quote → Cursor → Cursor
 behind_pieces quote c = behind_refused (ending_from quote c) (end_from (quoted quote) tt c)
+
+-- a string from the place `start` to the place `end` that is not closed
+abbrev pub closing_faults : Bool → ℕ → ℕ → List Fault
+closing_faults true start end = []
+closing_faults false start end = record { blame = Always; error = record { kind = plain UnterminatedStrLit; span = span_of start end } } ∷ []

@@ -346,6 +346,13 @@ fn refusal_kind<'a>(refusal: Refusal) -> SyntaxError<'a>
     }
 }
 
+/// Whether a backslash stands at the cursor.
+pub(crate) fn at_escape(input: &StringInput) -> bool
+    ensures { result ≡ opens_escape (rest input.now) }
+{
+    input.is_byte(b'\\')
+}
+
 /// Where the error of a refused escape lies; the escape reaches from `start` to `end`.
 fn refusal_span(refusal: Refusal, within: Use, start: BytePos, end: BytePos) -> Span
     requires order { start.0 ≤ end.0 }
