@@ -41,6 +41,7 @@ pub mod RunReading
 pub mod SeparationLaws
 pub mod ShebangLaws
 pub mod ShebangLemmas
+pub mod StringFound
 pub mod StringLaws
 pub mod StringReading
 mod StringRows

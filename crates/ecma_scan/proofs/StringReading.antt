@@ -25,7 +25,6 @@ use Rattle.ecma_scan.proofs.EscapeForms.{rest-behind}
 use Rattle.ecma_scan.proofs.PieceLemmas.{pieces_none, pieces_more}
 use Rattle.ecma_scan.proofs.PieceReading.{IsOnPieces, IsPlain, on-start, on-stop, on-step, on-plain, plain-from, plain-escaped, later, rest-less}
 
-
 -- what a character of the class does, and one that is not
 
 plain-role : (quote : Mark) (c : ℕ) → is_in_class (class.Plain quote) c ≡ true → role (quote_byte quote) c ≡ Itself
@@ -250,7 +249,7 @@ whole-text : (quote : Mark) (old one : Cursor) (run : List ℕ) (was : List Faul
 whole-text quote old one run was moved r =
     let on = on-run quote old one run was moved r in (
       ap (λ end. unless_refused (ending (quote_byte quote) (rest end)) end (run ++ values_from (quoted quote) tt one)) on.end
-      ∙ ap (λ l. unless_refused (ending_from quote old) (end_from (quoted quote) tt old) l) on.values,
+          ∙ ap (λ l. unless_refused (ending_from quote old) (end_from (quoted quote) tt old) l) on.values,
       on.faults,
       ap (λ end. behind_refused (ending (quote_byte quote) (rest end)) end) on.end,
     )

@@ -14,21 +14,21 @@ returns-in-Some-clause-value c =
     let opens = sym c.at_escape.ensures ∙ c.pieces-test.true in
     let refusal = sym (ap (option_map error_view) c.in-Some.is) ∙ c.in_ok-error.ensures.refusal in
     (text-refused c.args.quote c.args.input.now c.pieces.input c.push_escape.new.input c.args.before.now (string_bytes c.pieces.text) (map fault_view c.args.faults.now.items) (map fault_view c.pieces.faults.items) _ _
-        c.pieces.invariant.on opens refusal c.in_ok-error.ensures.moved c.in_ok-error.ensures.faults).value
+    c.pieces.invariant.on opens refusal c.in_ok-error.ensures.moved c.in_ok-error.ensures.faults).value
 
 pub returns-in-Some-clause-faults : goal.returns-in-Some-clause-faults
 returns-in-Some-clause-faults c =
     let opens = sym c.at_escape.ensures ∙ c.pieces-test.true in
     let refusal = sym (ap (option_map error_view) c.in-Some.is) ∙ c.in_ok-error.ensures.refusal in
     (text-refused c.args.quote c.args.input.now c.pieces.input c.push_escape.new.input c.args.before.now (string_bytes c.pieces.text) (map fault_view c.args.faults.now.items) (map fault_view c.pieces.faults.items) _ _
-        c.pieces.invariant.on opens refusal c.in_ok-error.ensures.moved c.in_ok-error.ensures.faults).faults
+    c.pieces.invariant.on opens refusal c.in_ok-error.ensures.moved c.in_ok-error.ensures.faults).faults
 
 pub returns-in-Some-clause-moved : goal.returns-in-Some-clause-moved
 returns-in-Some-clause-moved c =
     let opens = sym c.at_escape.ensures ∙ c.pieces-test.true in
     let refusal = sym (ap (option_map error_view) c.in-Some.is) ∙ c.in_ok-error.ensures.refusal in
     (text-refused c.args.quote c.args.input.now c.pieces.input c.push_escape.new.input c.args.before.now (string_bytes c.pieces.text) (map fault_view c.args.faults.now.items) (map fault_view c.pieces.faults.items) _ _
-        c.pieces.invariant.on opens refusal c.in_ok-error.ensures.moved c.in_ok-error.ensures.faults).moved
+    c.pieces.invariant.on opens refusal c.in_ok-error.ensures.moved c.in_ok-error.ensures.faults).moved
 
 pub pieces-smaller : goal.pieces-smaller
 pieces-smaller c =
