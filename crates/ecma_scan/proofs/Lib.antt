@@ -10,6 +10,7 @@ pub mod EscapeBytes
 pub mod EscapeForms
 pub mod EscapeLaws
 pub mod EscapeReading
+pub mod EscapeSpans
 pub mod ExpressionForms
 pub mod ExpressionLaws
 pub mod ExpressionReading
@@ -31,6 +32,8 @@ pub mod NumberRefusals
 pub mod OctalFaults
 pub mod PartFaults
 pub mod PieceLemmas
+pub mod PieceReading
+pub mod PlainRuns
 pub mod PunctuatorLaws
 pub mod PunctuatorLemmas
 pub mod ReadingLemmas
@@ -40,10 +43,14 @@ pub mod SeparationLaws
 pub mod ShebangLaws
 pub mod ShebangLemmas
 pub mod SignLemmas
+pub mod StringFound
 pub mod StringLaws
+pub mod StringReading
 pub mod TemplateLaws
 pub mod WhiteLemmas
 pub mod WordLaws
+mod EscapeRows
+mod StringRows
 mod CommentRows
 mod EscapeRows
 mod ExpressionRows

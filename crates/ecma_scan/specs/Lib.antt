@@ -4,6 +4,7 @@ pub mod Comments
 pub mod Cutters
 pub mod DigitRuns
 pub mod EscapeAnswers
+pub mod EscapeParts
 pub mod Escapes
 pub mod Expressions
 pub mod Found
@@ -11,6 +12,7 @@ pub mod Fronts
 pub mod Gaps
 pub mod Locality
 pub mod Numbers
+pub mod PieceParts
 pub mod Pieces
 pub mod PlainWords
 pub mod Punctuators

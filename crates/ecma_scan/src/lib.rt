@@ -15,16 +15,19 @@ pub mod punctuator;
 mod reading;
 pub mod shebang;
 pub mod skip_whitespace;
+pub mod string;
 #[cfg(test)]
 mod tests;
 mod white_space;
 pub mod word;
 
 pub use bars::Bars;
+pub use escape::scan_escape;
 pub use found::{Blame, Found};
 pub use gap::{Gap, GapMode, scan_gap};
 pub use number::scan_number;
 pub use punctuator::scan_punct;
 pub use shebang::scan_shebang;
 pub use skip_whitespace::SkipWhitespace;
+pub use string::scan_string;
 pub use word::scan_word;
