@@ -44,7 +44,9 @@ pub mod ShebangLaws
 pub mod ShebangLemmas
 pub mod StringLaws
 mod StringRows
+pub mod TemplateFound
 pub mod TemplateLaws
+pub mod TemplatePieces
 mod TemplateRows
 pub mod WordLaws
 mod WordRows

@@ -11,6 +11,7 @@ pub mod number;
 pub mod punctuator;
 pub mod shebang;
 pub mod skip_whitespace;
+pub mod template;
 #[cfg(test)]
 mod tests;
 pub mod word;
@@ -21,4 +22,5 @@ pub use number::scan_number;
 pub use punctuator::scan_punct;
 pub use shebang::scan_shebang;
 pub use skip_whitespace::SkipWhitespace;
+pub use template::scan_template;
 pub use word::scan_word;
