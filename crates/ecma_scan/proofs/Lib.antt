@@ -46,9 +46,13 @@ pub mod SignLemmas
 pub mod StringFound
 pub mod StringLaws
 pub mod StringReading
+pub mod TemplateFound
 pub mod TemplateLaws
+pub mod TemplatePieces
 pub mod WhiteLemmas
 pub mod WordLaws
+mod StringRows
+mod TemplateRows
 mod EscapeRows
 mod StringRows
 mod CommentRows

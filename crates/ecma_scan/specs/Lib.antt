@@ -22,6 +22,7 @@ pub mod Strings
 pub mod Templates
 pub mod Words
 pub mod WrittenNumbers
+pub mod WrittenTemplates
 pub use Rattle.ecma_place.specs.Atom
 pub use Rattle.ecma_place.specs.Character
 pub use Rattle.ecma_place.specs.Cursor

@@ -16,6 +16,7 @@ mod reading;
 pub mod shebang;
 pub mod skip_whitespace;
 pub mod string;
+pub mod template;
 #[cfg(test)]
 mod tests;
 mod white_space;
@@ -30,4 +31,5 @@ pub use punctuator::scan_punct;
 pub use shebang::scan_shebang;
 pub use skip_whitespace::SkipWhitespace;
 pub use string::scan_string;
+pub use template::scan_template;
 pub use word::scan_word;
