@@ -5,7 +5,7 @@ use Rattle.ecma_place.specs.Cursor.{Cursor, rest, place, passed}
 use Rattle.ecma_place.specs.Text.{Text, byte_len}
 use Rattle.ecma_place.proofs.MoveLemmas.{place-passed}
 use Rattle.ecma_token.specs.View.{TokenView}
-use Rattle.ecma_scan.specs.Blanks.{gap_spelling}
+use Rattle.ecma_scan.specs.Gaps.{gap_spelling}
 use Rattle.ecma_scan.specs.Found.{Scanned, fault_behind, token_behind, span_of}
 use Rattle.ecma_lexer.specs.Mode.{gap_mode}
 use Rattle.ecma_lexer.specs.Reading.{GapView, IsSameReading, ReadingIsDetermined, gap_in, reading, reading_behind, token_reading}

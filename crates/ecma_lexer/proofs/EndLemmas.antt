@@ -7,7 +7,8 @@ use Rattle.ecma_place.proofs.MoveLemmas.{place-passed, place-passed-le}
 use Rattle.ecma_place.specs.declared.comment.Comment.{Comment}
 use Rattle.ecma_token.specs.View.{SpannedView}
 use Rattle.ecma_scan.specs.Pieces.{spelled}
-use Rattle.ecma_scan.specs.Blanks.{gap_spelling, has_line_break, gap_cutter, elements_if, gap_faults_at, comments_at}
+use Rattle.ecma_scan.specs.Comments.{collected, comments_at, comments_of}
+use Rattle.ecma_scan.specs.Gaps.{elements_under, faults_of, gap, gap_cutter, gap_faults_at, gap_spelling, has_line_break}
 use Rattle.ecma_scan.specs.Found.{Fault}
 use Rattle.ecma_scan.specs.declared.gap.GapMode.{GapMode}
 use Rattle.ecma_scan.proofs.PunctuatorLemmas.{passed-zero}
@@ -64,18 +65,28 @@ reading-on mode input =
 
 -- At the end
 
-gap_spelling-end : (mode : GapMode) → gap_spelling mode [] ≡ []
-gap_spelling-end mode = go (mode.template || mode.keeps_space)
+-- before nothing there is no gap
+gap-end : (mode : GapMode) → gap mode [] ≡ []
+gap-end mode = go mode.template mode.keeps_space mode.first
   where
-    go : (b : Bool) → spelled (gap_cutter mode) (elements_if b mode []) ≡ []
-    go true = refl
-    go false = refl
+    go : (template keeps_space flag : Bool) → elements_under template keeps_space (record mode { first = flag }) [] ≡ []
+    go true keeps_space flag = refl
+    go false true true = refl
+    go false true false = refl
+    go false false flag = refl
+
+gap_spelling-end : (mode : GapMode) → gap_spelling mode [] ≡ []
+gap_spelling-end mode = ap (spelled (gap_cutter mode)) (gap-end mode)
 
 gap_faults-end : (n : ℕ) (mode : GapMode) → gap_faults_at n mode [] ≡ []
-gap_faults-end n mode = refl
+gap_faults-end n mode = ap (faults_of None n) (gap-end mode)
 
 comments-end : (n : ℕ) (mode : GapMode) → comments_at n mode [] ≡ []
-comments-end n mode = refl
+comments-end n mode = ap (λ es. collected mode.collect (comments_of mode.prev mode.first n es [])) (gap-end mode) ∙ go mode.collect
+  where
+    go : (collect : Bool) → collected {A = Comment × Bool} collect [] ≡ []
+    go true = refl
+    go false = refl
 
 behind_gap-end : (mode : Mode) (input : Cursor) → rest input ≡ [] → behind_gap mode input ≡ input
 behind_gap-end mode input e =

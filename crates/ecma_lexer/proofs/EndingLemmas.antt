@@ -7,7 +7,7 @@ use Rattle.ecma_place.specs.Cursor.{Cursor, rest}
 use Rattle.ecma_place.proofs.CursorLemmas.{byte_len-cons}
 use Rattle.std.proofs.lemmas.Str.{len_utf8_bounds}
 use Rattle.ecma_token.specs.View.{SpannedView}
-use Rattle.ecma_scan.specs.Blanks.{has_line_break}
+use Rattle.ecma_scan.specs.Gaps.{has_line_break}
 use Rattle.ecma_lexer.specs.declared.settings.Settings.{Settings}
 use Rattle.ecma_lexer.specs.declared.step.Step.TheVariants.{Read}
 use Rattle.ecma_lexer.specs.Mode.{gap_mode}

@@ -6,14 +6,15 @@ use Rattle.ecma_place.specs.Text.{Text}
 use Rattle.ecma_place.specs.Cursor.{Cursor, passed}
 use Rattle.ecma_place.specs.declared.place.BytePos.{BytePos}
 use Rattle.ecma_place.specs.declared.place.Span.{Span}
-use Rattle.ecma_token.specs.View.{TokenView, ErrorView, plain_token}
+use Rattle.ecma_token.specs.View.{TokenView, ErrorView, owns_nothing, plain_token}
 use Rattle.ecma_scan.specs.Found.{Fault, FoundView, Scanned, found_at, token_behind, span_behind, span_of}
 use Rattle.ecma_scan.specs.Punctuators.{Punctuator, found_punctuator}
 use Rattle.ecma_scan.proofs.PunctuatorLemmas.{passed-zero}
 use Rattle.ecma_scan.specs.Locality.{is_accepted}
 use Rattle.ecma_scan.specs.Numbers.{opens_number, number, is_separator}
 use Rattle.ecma_scan.specs.PlainWords.{opens_word}
-use Rattle.ecma_lexer.specs.TokenAt.{Opening, Number, opening_from, read_opened, ts1085, is_empty, is_free_at, is_free_token, is_plain_text, punctuator_or_stray, stray}
+use Rattle.ecma_scan.specs.Strings.{opens_string, string_literal}
+use Rattle.ecma_lexer.specs.TokenAt.{Opening, Number, String', opening_from, read_opened, ts1085, is_empty, is_free_at, is_borrowed, is_free_token, asks_for_none, punctuator_or_stray, stray}
 use Rattle.ecma_lexer.specs.declared.mode.Mode.{Mode}
 
 abbrev pub view : {A : Type 0} → Result A ErrorView → List Fault → Span → Bool → FoundView A
@@ -83,29 +84,47 @@ empty-none (item ∷ items) h = cc
 pub record IsFreeToken (opens : Opening) (s : Scanned TokenView) : Type 0 where
   pub ok : is_ok s.value ≡ true
   pub faults : s.faults ≡ []
-  pub text : is_plain_text opens s.spelling ≡ true
+  pub none : asks_for_none opens s ≡ true
 
 pub free-parts : (opens : Opening) (s : Scanned TokenView) → is_free_token opens s ≡ true → IsFreeToken opens s
 free-parts opens s h =
     let one = and-parts (is_ok s.value) _ h in
     let two = and-parts (is_empty s.faults) _ one.1 in
-    record { ok = one.0; faults = empty-none s.faults two.0; text = two.1 }
+    record { ok = one.0; faults = empty-none s.faults two.0; none = two.1 }
 
 -- a number whose reading takes no memory
 pub free-number : (mode : Mode) (text : Text) → opens_number text ≡ true → is_free_at mode text ≡ true → IsFreeToken Number (number (ts1085 mode) text)
-free-number mode text opens h = go (opens_number text) opens h
+free-number mode text opens h = go (opens_number text) (opens_string text) (opens_word text) opens h
   where
-    go : (opened : Bool) → opened ≡ true → is_free_token (opening_from opened (opens_word text)) (read_opened (opening_from opened (opens_word text)) mode text) ≡ true
+    go : (number' string word : Bool) → number' ≡ true → is_free_token (opening_from number' string word) (read_opened (opening_from number' string word) mode text) ≡ true
         → IsFreeToken Number (number (ts1085 mode) text)
-    go true opens h = free-parts Number (number (ts1085 mode) text) h
-    go false opens h = cc
+    go true string word opens h = free-parts Number (number (ts1085 mode) text) h
+    go false string word opens h = cc
 
-pub no-separator : (spelling : Text) → is_plain_text Number spelling ≡ true → list_any is_separator spelling ≡ false
-no-separator spelling h = go (list_any is_separator spelling) h
+-- a string, and what is no number, string or word
+pub free-string : (mode : Mode) (text : Text) → opens_number text ≡ false → opens_string text ≡ true → is_free_at mode text ≡ true → IsFreeToken String' (string_literal text)
+free-string mode text no_number opens h = go (opens_number text) (opens_string text) (opens_word text) no_number opens h
   where
-    go : (some : Bool) → not some ≡ true → some ≡ false
-    go true h = cc
-    go false h = refl
+    go : (number' string word : Bool) → number' ≡ false → string ≡ true → is_free_token (opening_from number' string word) (read_opened (opening_from number' string word) mode text) ≡ true
+        → IsFreeToken String' (string_literal text)
+    go true string word no_number opens h = cc
+    go false false word no_number opens h = cc
+    go false true word no_number opens h = free-parts String' (string_literal text) h
+
+pub no-separator : (s : Scanned TokenView) → asks_for_none Number s ≡ true → list_any is_separator s.spelling ≡ false
+no-separator s h = not-true (list_any is_separator s.spelling) h
+  where
+    not-true : (b : Bool) → not b ≡ true → b ≡ false
+    not-true true h = cc
+    not-true false h = refl
+
+-- a string that asks for none is a token whose texts are slices
+pub borrowed-token : (s : Scanned TokenView) → asks_for_none String' s ≡ true → (token : TokenView) × (s.value ≡ Ok token) × (owns_nothing token ≡ true)
+borrowed-token s h = go s.value refl h
+  where
+    go : (value : Result TokenView ErrorView) → s.value ≡ value → is_borrowed value ≡ true → (token : TokenView) × (s.value ≡ Ok token) × (owns_nothing token ≡ true)
+    go (Ok token) e h = (token, e, h)
+    go (Err error) e h = cc
 
 pub ok-accepted : (value : Result TokenView ErrorView) → is_ok value ≡ true → is_accepted value ≡ true
 ok-accepted (Ok token) h = refl

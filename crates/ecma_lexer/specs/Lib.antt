@@ -13,7 +13,9 @@ pub use Rattle.ecma_place.specs.Cursor
 pub use Rattle.ecma_place.specs.Text
 pub use Rattle.ecma_token.specs.Kinds
 pub use Rattle.ecma_scan.specs.Found
-pub use Rattle.ecma_scan.specs.Blanks
+pub use Rattle.ecma_scan.specs.Comments
+pub use Rattle.ecma_scan.specs.Gaps
+pub use Rattle.ecma_scan.specs.Strings
 pub use Rattle.ecma_scan.specs.Numbers
 pub use Rattle.ecma_scan.specs.Punctuators
 pub use Rattle.ecma_scan.specs.PlainWords

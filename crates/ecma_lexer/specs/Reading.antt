@@ -5,7 +5,8 @@ use Rattle.ecma_place.specs.Cursor.{Cursor, rest, place, passed}
 use Rattle.ecma_place.specs.declared.comment.Comment.{Comment}
 use Rattle.ecma_token.specs.View.{TokenView, SpannedView}
 use Rattle.ecma_scan.specs.Found.{Fault, Scanned, fault_behind, token_behind, span_of}
-use Rattle.ecma_scan.specs.Blanks.{gap_spelling, has_line_break, gap_faults_at, comments_at}
+use Rattle.ecma_scan.specs.Comments.{comments_at}
+use Rattle.ecma_scan.specs.Gaps.{gap_spelling, has_line_break, gap_faults_at}
 use Rattle.ecma_lexer.specs.Mode.{gap_mode}
 use Rattle.ecma_lexer.specs.TokenAt.{token_at, token_of, is_empty, is_free_at}
 use Rattle.ecma_lexer.specs.declared.mode.Mode.{Mode}

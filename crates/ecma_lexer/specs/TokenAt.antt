@@ -5,11 +5,12 @@ use Rattle.ecma_place.specs.Text.{Text}
 use Rattle.ecma_syntax.specs.declared.word.Word.{Word}
 use Rattle.ecma_token.specs.declared.token.Token as token
 use Rattle.ecma_token.specs.declared.error.SyntaxError.{UnexpectedChar}
-use Rattle.ecma_token.specs.View.{TokenView, ErrorView, plain, plain_token, error_token}
+use Rattle.ecma_token.specs.View.{TokenView, ErrorView, plain, plain_token, error_token, owns_nothing}
 use Rattle.ecma_scan.specs.Found.{Scanned, error_at}
 use Rattle.ecma_scan.specs.Numbers as numbers
 use Rattle.ecma_scan.specs.PlainWords as words
 use Rattle.ecma_scan.specs.Punctuators as punctuators
+use Rattle.ecma_scan.specs.Strings as strings
 use Rattle.ecma_lexer.specs.Mode.{type_mode, is_typescript, is_since_es5}
 use Rattle.ecma_lexer.specs.declared.mode.Mode.{Mode}
 
@@ -38,16 +39,18 @@ other_token mode text = punctuator_or_stray (punctuators.punctuator_in (type_mod
 -- what the first characters of a text open
 pub data Opening : Type 0 where
   Number : Opening
+  String' : Opening
   Word' : Opening
   Other : Opening
 
-abbrev pub opening_from : Bool → Bool → Opening
-opening_from true word = Number
-opening_from false true = Word'
-opening_from false false = Other
+abbrev pub opening_from : Bool → Bool → Bool → Opening
+opening_from true string word = Number
+opening_from false true word = String'
+opening_from false false true = Word'
+opening_from false false false = Other
 
 abbrev pub opening : Text → Opening
-opening text = opening_from (numbers.opens_number text) (words.opens_word text)
+opening text = opening_from (numbers.opens_number text) (strings.opens_string text) (words.opens_word text)
 
 -- legacy octals are told of as TypeScript does, for targets from the fifth edition on
 abbrev pub ts1085 : Mode → Bool
@@ -55,6 +58,7 @@ ts1085 mode = is_typescript mode.settings.syntax && is_since_es5 mode.settings.t
 
 abbrev pub read_opened : Opening → Mode → Text → Scanned TokenView
 read_opened Number mode text = numbers.number (ts1085 mode) text
+read_opened String' mode text = strings.string_literal text
 read_opened Word' mode text = word_token mode text
 read_opened Other mode text = other_token mode text
 
@@ -62,19 +66,25 @@ read_opened Other mode text = other_token mode text
 abbrev pub token_at : Mode → Text → Scanned TokenView
 token_at mode text = read_opened (opening text) mode text
 
--- nothing in the text of a token asks for memory: no separator in a number
-abbrev pub is_plain_text : Opening → Text → Bool
-is_plain_text Number spelling = not (list_any numbers.is_separator spelling)
-is_plain_text Word' spelling = true
-is_plain_text Other spelling = true
+-- all texts of the token are slices
+abbrev pub is_borrowed : Result TokenView ErrorView → Bool
+is_borrowed (Ok token) = owns_nothing token
+is_borrowed (Err error) = false
+
+-- nothing in a token asks for memory: no separator in a number, no escape in a string
+abbrev pub asks_for_none : Opening → Scanned TokenView → Bool
+asks_for_none Number s = not (list_any numbers.is_separator s.spelling)
+asks_for_none String' s = is_borrowed s.value
+asks_for_none Word' s = true
+asks_for_none Other s = true
 
 abbrev pub is_empty : {A : Type 0} → List A → Bool
 is_empty [] = true
 is_empty (item ∷ items) = false
 
--- what is read takes no memory where nothing is wrong with it and its text asks for none
+-- what is read takes no memory where nothing is wrong with it and it asks for none
 abbrev pub is_free_token : Opening → Scanned TokenView → Bool
-is_free_token opens s = is_ok s.value && (is_empty s.faults && is_plain_text opens s.spelling)
+is_free_token opens s = is_ok s.value && (is_empty s.faults && asks_for_none opens s)
 
 abbrev pub is_free_at : Mode → Text → Bool
 is_free_at mode text = is_free_token (opening text) (token_at mode text)

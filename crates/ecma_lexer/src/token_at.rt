@@ -9,7 +9,7 @@ ghost use Rattle.ecma_lexer.specs.TokenAt as grammar;
 
 use crate::mode::Mode;
 use ecma_place::{CharExt, Span, StringInput};
-use ecma_scan::{Found, scan_number, scan_punct, scan_word};
+use ecma_scan::{Found, scan_number, scan_punct, scan_string, scan_word};
 use ecma_token::{Error, SyntaxError, Token};
 use std::alloc::{AllocError, Global};
 
@@ -129,6 +129,8 @@ pub fn token_at<'a>(
 {
     if stands_number(input, c) {
         scan_number(alloc, input, mode.ts1085())
+    } else if c == '"' || c == '\'' {
+        scan_string(alloc, input)
     } else if c.is_ident_start() {
         word_at(alloc, input, mode)
     } else {

@@ -4,20 +4,24 @@ pub mod BarsLaws
 pub mod BodyLemmas
 pub mod CharacterLaws
 pub mod CommentLaws
+mod CommentRows
 pub mod DigitValues
 pub mod ElementLemmas
 pub mod EscapeBytes
 pub mod EscapeForms
 pub mod EscapeLaws
 pub mod EscapeReading
+mod EscapeRows
 pub mod EscapeSpans
 pub mod ExpressionForms
 pub mod ExpressionLaws
 pub mod ExpressionReading
+mod ExpressionRows
 pub mod Fronts
 pub mod GapFaults
 pub mod GapForms
 pub mod GapLaws
+mod GapRows
 pub mod LineLemmas
 pub mod MarkerLemmas
 pub mod NextElements
@@ -29,6 +33,7 @@ pub mod NumberLemmas
 pub mod NumberLocal
 pub mod NumberReading
 pub mod NumberRefusals
+mod NumberRows
 pub mod OctalFaults
 pub mod PartFaults
 pub mod PieceLemmas
@@ -36,6 +41,7 @@ pub mod PieceReading
 pub mod PlainRuns
 pub mod PunctuatorLaws
 pub mod PunctuatorLemmas
+mod PunctuatorRows
 pub mod ReadingLemmas
 pub mod RunFaults
 pub mod RunReading
@@ -46,21 +52,11 @@ pub mod SignLemmas
 pub mod StringFound
 pub mod StringLaws
 pub mod StringReading
+mod StringRows
 pub mod TemplateFound
 pub mod TemplateLaws
 pub mod TemplatePieces
+mod TemplateRows
 pub mod WhiteLemmas
 pub mod WordLaws
-mod StringRows
-mod TemplateRows
-mod EscapeRows
-mod StringRows
-mod CommentRows
-mod EscapeRows
-mod ExpressionRows
-mod GapRows
-mod NumberRows
-mod PunctuatorRows
-mod StringRows
-mod TemplateRows
 mod WordRows

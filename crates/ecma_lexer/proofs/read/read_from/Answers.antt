@@ -2,7 +2,7 @@ use Rattle.std.proofs.Common.{◌≡◌, ◌++◌, Some, map, sym, ap, ◌∙◌
 use Rattle.ecma_place.specs.Cursor.{rest, place}
 use Rattle.ecma_token.specs.View.{token_view, SpannedView}
 use Rattle.ecma_scan.specs.Found.{fault_view, found_view, value_view}
-use Rattle.ecma_scan.specs.Blanks.{gap_faults_at}
+use Rattle.ecma_scan.specs.Gaps.{gap_faults_at}
 use Rattle.ecma_lexer.specs.Reading.{behind_gap, gap_in}
 use Rattle.ecma_lexer.specs.TokenAt.{token_at, token_of}
 use Rattle.ecma_lexer.proofs.ReadingLemmas.{free-reading, free-token, reading-some, spanned-found}
