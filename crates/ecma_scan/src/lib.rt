@@ -20,7 +20,7 @@ mod tests;
 mod white_space;
 pub mod word;
 
-pub use bars::Bars;
+pub use bars::{Bars, scan_bars};
 pub use found::{Blame, Found};
 pub use gap::{Gap, GapMode, scan_gap};
 pub use number::scan_number;

@@ -1,4 +1,6 @@
 //! Each reader once on its happy path, and every punctuator.
+mod gaps;
+
 use crate::found::Found;
 use crate::gap::{GapMode, scan_gap};
 use crate::number::scan_number;

@@ -10,7 +10,7 @@ read_bars-requires c = bars-stand (rest c.args.input.now) _ _ c.is_str.ensures c
 pub returns-in_err-read_bars-clause-free : goal.returns-in_err-read_bars-clause-free
 returns-in_err-read_bars-clause-free c =
     λ h. let no : true ≡ false = sym (bars-stand (rest c.args.input.now) _ _ c.is_str.ensures c.if-is_str.true) ∙ h in
-        cc
+    cc
 
 pub returns-in_ok-read_bars-clause-found : goal.returns-in_ok-read_bars-clause-found
 returns-in_ok-read_bars-clause-found c =
