@@ -1,6 +1,7 @@
 pub mod Agreement
 pub mod AttachmentLemmas
 pub mod BarsLaws
+pub mod BarsLemmas
 pub mod BodyLemmas
 pub mod CharacterLaws
 pub mod CommentLaws

@@ -60,7 +60,7 @@ collected-append false xs ys = refl
 view : Bool → List (Comment × Bool) → List Fault → GapView
 view flag comments faults = record { line_break = flag; comments = comments; faults = faults }
 
-found-step : (mode : GapMode) (n : ℕ) (text : Text) (e : Element) (es : List Element) (r : ReadingView)
+pub found-step : (mode : GapMode) (n : ℕ) (text : Text) (e : Element) (es : List Element) (r : ReadingView)
     → found_with mode (end_of n e) (behind_element e text) es (with_element mode n text e r) ≡ found_with mode n text (e ∷ es) r
 unfolding view
 found-step mode n text e es r =

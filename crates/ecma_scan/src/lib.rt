@@ -23,6 +23,7 @@ mod white_space;
 pub mod word;
 
 pub use bars::Bars;
+pub use bars::{Bars, scan_bars};
 pub use escape::scan_escape;
 pub use found::{Blame, Found};
 pub use gap::{Gap, GapMode, scan_gap};

@@ -18,8 +18,8 @@ returns-in_err-more-clause-free c =
     white-passed (gap_cutter mode) (λ flag. flag) (gap-reads mode) mode _ _ was _ c.skip_white_space.ensures.moved c.skip_white_space.ensures.terminator
     ∙ c.elements.invariant.same ∙ whole-is (gap_cutter mode) (λ flag. flag) mode c.args.input.now (nothing_read mode.first) in
     λ h. let none = whole-empty (gap_cutter mode) (λ flag. flag) (gap-reads mode) mode _ white (subst (λ (w : Whole). IsEmpty w.found) (sym same) h) in
-        let no = rw c.in_err-more.was at (c.read_element.ensures.free none) in
-        cc
+    let no = rw c.in_err-more.was at (c.read_element.ensures.free none) in
+    cc
 
 pub elements-smaller : goal.elements-smaller
 elements-smaller c =
