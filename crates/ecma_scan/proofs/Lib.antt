@@ -23,6 +23,7 @@ pub mod GapLemmas
 mod GapRows
 pub mod LineLemmas
 pub mod MarkerLemmas
+pub mod NameReading
 pub mod NumberLaws
 pub mod NumberLemmas
 pub mod NumberLocal
