@@ -25,6 +25,7 @@ pub mod GapLaws
 mod GapRows
 pub mod LineLemmas
 pub mod MarkerLemmas
+pub mod NameReading
 pub mod NextElements
 pub mod NumberDigits
 pub mod NumberForms

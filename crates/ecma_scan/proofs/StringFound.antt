@@ -32,7 +32,7 @@ use Rattle.ecma_scan.proofs.StringReading.{is_bad, stays}
 
 -- Errors and faults from another place on
 
-error-shifted : (m n k : ℕ) (e : ErrorView) → m + n ≡ k → error_behind m (error_behind n e) ≡ error_behind k e
+pub error-shifted : (m n k : ℕ) (e : ErrorView) → m + n ≡ k → error_behind m (error_behind n e) ≡ error_behind k e
 error-shifted m n k e sum =
     let low : m + (n + e.span.lo.0) ≡ k + e.span.lo.0 = omega arith in
     let high : m + (n + e.span.hi.0) ≡ k + e.span.hi.0 = omega arith in

@@ -11,6 +11,7 @@ pub mod Found
 pub mod Fronts
 pub mod Gaps
 pub mod Locality
+pub mod NameParts
 pub mod Numbers
 pub mod PieceParts
 pub mod Pieces

@@ -10,6 +10,7 @@ pub mod found;
 pub mod gap;
 mod line;
 mod marker;
+pub(crate) mod name;
 pub mod number;
 pub mod punctuator;
 mod reading;
