@@ -1,6 +1,7 @@
 //! Each reader once on its happy path, and every punctuator.
 
 mod numbers;
+mod templates;
 
 use crate::found::Found;
 use crate::gap::{GapMode, scan_gap};
