@@ -38,33 +38,6 @@ pub mark_on : (text : Text) → ends_template text ≡ true → is_at_end (templ
 mark_on [] h = cc
 mark_on (c ∷ cs) h = goes_on (c ∷ cs) c refl
 
--- behind template text, a mark is read where one stands, and text where none does
-
-pub mark-read : (text : Text) → ends_template text ≡ true → template_text true text ≡ mark_of (template_end text)
-mark-read text h =
-    ap (λ ps. template_of true ps (template_end (drop (length (spelled template_cutter ps)) text))) (pieces_none template_cutter tt text (mark_stops text h))
-
-pub text-read : (text : Text) → ends_template text ≡ false → template_text true text ≡ template_text false text
-text-read text h = go (pieces template_cutter tt text) refl
-  where
-    ended : (e : TemplateEnd) → (is_at_end e ≡ false → ⊥) → mark_of e ≡ text_of [] e
-    ended AtEnd ends = refl
-    ended AtBackQuote ends = absurd (ends refl)
-    ended AtDollarBrace ends = absurd (ends refl)
-
-    go : (ps : List TemplatePiece) → pieces template_cutter tt text ≡ ps
-        → template_of true ps (template_end (drop (length (spelled template_cutter ps)) text)) ≡ template_of false ps (template_end (drop (length (spelled template_cutter ps)) text))
-    go (piece ∷ more) e = refl
-    go [] e = ended (template_end text) (λ on. let ends : ends_template text ≡ true = none_ends text (none_piece text e) on in cc)
-      where
-        none_piece : (text : Text) → pieces template_cutter tt text ≡ [] → template_piece text ≡ None
-        none_piece [] e = refl
-        none_piece (c ∷ cs) e = at (template_piece (c ∷ cs)) refl
-          where
-            at : (o : Option TemplatePiece) → template_piece (c ∷ cs) ≡ o → o ≡ None
-            at None f = refl
-            at (Some piece) f = let h = rw f at e in cc
-
 -- the token of text
 
 pub verbatim-atom : (ps : List TemplatePiece) → list_all is_verbatim ps ≡ true → borrowed_atom (encode_utf8_all (raw_text ps)) ≡ cooked_atom ps
@@ -119,14 +92,3 @@ mark-found n AtBackQuote token extent on t s =
 mark-found n AtDollarBrace token extent on t s =
     let same : token ≡ plain_token DollarLBrace = cc in
     rw (same, s) refl
-
--- a mark lies where it is found, whatever the template
-pub marks_alike : (opened n : ℕ) (end : TemplateEnd) → is_at_end end ≡ false → found_at token_behind n (mark_of end) ≡ template_found opened n (mark_of end)
-marks_alike opened n AtEnd on = cc
-marks_alike opened n AtBackQuote on = refl
-marks_alike opened n AtDollarBrace on = refl
-
-pub text-spelling : (ps : List TemplatePiece) (end : TemplateEnd) → (text_of ps end).spelling ≡ raw_text ps
-text-spelling ps AtEnd = refl
-text-spelling ps AtBackQuote = refl
-text-spelling ps AtDollarBrace = refl

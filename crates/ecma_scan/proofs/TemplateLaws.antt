@@ -174,7 +174,7 @@ must_end true [] AtEnd text clean = absurd text
 must_end true (piece ∷ more) AtEnd text clean = cc
 
 -- where no piece is read, and the text goes on, it ends the template
-pub none_ends : (text : Text) → template_piece text ≡ None → is_at_end (template_end text) ≡ false → ends_template text ≡ true
+none_ends : (text : Text) → template_piece text ≡ None → is_at_end (template_end text) ≡ false → ends_template text ≡ true
 none_ends [] h more = cc
 none_ends (c ∷ cs) h more = go (c == 96 || (c == 36 && next_is 123 cs)) (c == 92) (is_line_terminator c) h
   where

@@ -83,11 +83,6 @@ behind_same piece old now is =
     ap (λ ps. length (spelled template_cutter ps)) is.all ∙ length-append (piece_text piece) (spelled template_cutter (pieces_at now)) in
     sym (passed-later-by old _ _ _ size ∙ ap (passed (length (spelled template_cutter (pieces_at now)))) (sym is.moved))
 
-pub behind_none : (c : Cursor) → pieces_at c ≡ [] → behind_at c ≡ c
-behind_none c e =
-    let same : c.at + 0 ≡ c.at = omega arith in
-    ap (λ ps. passed (length (spelled template_cutter ps)) c) e ∙ ap (λ (n : ℕ). let moved : Cursor = record { start = c.start; text = c.text; at = n } in moved) same
-
 -- a piece from its place to the next
 
 pub piece_end : (piece : TemplatePiece) (old now : Cursor) → IsPiece piece old now → place now ≡ place old + byte_len (piece_text piece)
@@ -151,22 +146,6 @@ last_behind m ps =
     ap (λ (i : ℕ). last_refusal i None ps) same ∙ last_shifted m 0 None ps
 
 -- why a piece is refused
-
-pub refusal_kind-is : (r : Refusal) (n : ℕ) → (refusal_error InTemplate r n).kind ≡ refusal_kind r
-refusal_kind-is because.TwoDigits n = refl
-refusal_kind-is because.FourDigits n = refl
-refusal_kind-is because.NoDigits n = refl
-refusal_kind-is because.OutOfRange n = refl
-refusal_kind-is because.NoBrace n = refl
-refusal_kind-is because.NoCodePoint n = refl
-refusal_kind-is because.AtEnd n = refl
-refusal_kind-is because.Octal n = refl
-
-pub refused-view : (r : Refusal) (span : Span) (start n : ℕ) → span ≡ span_behind start (refusal_error InTemplate r n).span
-    → refused_at (r, span) ≡ error_behind start (refusal_error InTemplate r n)
-refused-view r span start n e =
-    let error : KindView → Span → ErrorView = λ (k : KindView) (s : Span). record { kind = k; span = s } in
-    ap (λ (k : KindView). error k span) (sym (refusal_kind-is r n)) ∙ ap (λ (s : Span). error (refusal_error InTemplate r n).kind s) e
 
 pub refused-size : (text spelling : Text) (error : ErrorView) → template_piece text ≡ Some (Escaped (Refused spelling error)) → byte_len spelling ≡ length spelling
 refused-size [] spelling error e = cc

@@ -2,6 +2,7 @@
 
 mod gaps;
 mod numbers;
+mod templates;
 
 use crate::found::Found;
 use crate::gap::{GapMode, scan_gap};
