@@ -10,7 +10,7 @@ pub mod found;
 pub mod gap;
 mod line;
 mod marker;
-pub(crate) mod name;
+mod name;
 pub mod number;
 pub mod punctuator;
 mod reading;
@@ -23,7 +23,6 @@ mod tests;
 mod white_space;
 pub mod word;
 
-pub use bars::Bars;
 pub use bars::{Bars, scan_bars};
 pub use escape::scan_escape;
 pub use found::{Blame, Found};
