@@ -1,5 +1,5 @@
 -- A marker of bars, as its reader goes over it.
-use Rattle.std.proofs.Common.{◌≡◌, ℕ, ◌+◌, ◌&&◌, Bool, true, false, List, [], ◌∷◌, ◌++◌, map, length, drop, Option, Some, None, refl, sym, ap, ◌∙◌, arith, replicate, codes, ◌==◌, length-append}
+use Rattle.std.proofs.Common.{◌≡◌, ℕ, ◌+◌, Bool, true, false, List, [], ◌∷◌, ◌++◌, map, length, drop, Option, Some, None, refl, sym, ap, ◌∙◌, arith, replicate, codes, ◌==◌, length-append}
 use Rattle.std.specs.Prelude.{cond, nat_eq, option_map}
 use Rattle.std.specs.List.{starts_with}
 use Rattle.std.specs.Str.{chars}
@@ -15,8 +15,7 @@ use Rattle.ecma_token.specs.declared.error.Error.{Error}
 use Rattle.ecma_token.specs.declared.error.SyntaxError.{TS1185}
 use Rattle.ecma_token.specs.declared.kind.TokenKind.{TokenKind}
 use Rattle.ecma_scan.specs.declared.gap.GapMode.{GapMode}
-use Rattle.ecma_scan.specs.Bars as grammar
-use Rattle.ecma_scan.specs.Bars.{common_cutter, bars_elements, bars_spelling, bars_error, bars_faults, bars_at, behind_bars_line, behind_signs, found_bars, opens_bars}
+use Rattle.ecma_scan.specs.Bars.{common_cutter, bars_elements, bars_spelling, bars_error, bars_faults, bars_at, behind_bars_line, found_bars, opens_bars}
 use Rattle.ecma_scan.specs.Comments.{behind_element, collected, comment_of, comments_of, paired}
 use Rattle.ecma_scan.specs.Found.{Fault, error_behind, fault_behind, span_of}
 use Rattle.ecma_scan.specs.Fronts.{begins_with, behind_line, line}

@@ -1,5 +1,5 @@
 -- Conflict markers, by the texts that their reader looks for.
-use Rattle.std.proofs.Common.{◌≡◌, ℕ, Bool, true, false, ◌&&◌, ◌==◌, [], ◌∷◌, ◌++◌, drop, length, refl, sym, ap, ◌∙◌, nat_eq, codes, arith}
+use Rattle.std.proofs.Common.{◌≡◌, ℕ, Bool, true, false, ◌&&◌, ◌==◌, [], ◌∷◌, ◌++◌, drop, length, refl, sym, ◌∙◌, nat_eq, codes}
 use Rattle.std.specs.List.{starts_with}
 use Rattle.std.specs.Str.{chars}
 use Rattle.ecma_place.specs.Text.{Text}

@@ -1,22 +1,22 @@
 -- The elements of a gap, one after the other.
-use Rattle.std.proofs.Common.{◌≡◌, ℕ, ◌+◌, ◌-◌, ◌≤◌, ◌<◌, cond, Bool, true, false, ◌||◌, List, [], ◌∷◌, ◌++◌, map, length, take, drop, Option, Some, None, refl, sym, ap, ◌∙◌, arith, zero, suc, subst, drop-drop, length-append, length-drop, append_assoc, append-nil}
+use Rattle.std.proofs.Common.{◌≡◌, ℕ, ◌+◌, ◌≤◌, cond, Bool, true, false, ◌||◌, List, [], ◌∷◌, ◌++◌, length, take, drop, Option, Some, None, refl, sym, ap, ◌∙◌, arith, zero, suc, subst, length-append, length-drop, append_assoc, append-nil}
 use Rattle.std.specs.Prelude.{is_some, Result, Ok, Err, IfOk}
 use Rattle.std.specs.List.{list_any, prefix_len, take_while}
 use Rattle.std.proofs.lemmas.List.Folds.{list_any-append}
-use Rattle.ecma_place.specs.Text.{Text, byte_len}
+use Rattle.ecma_place.specs.Text.{Text}
 use Rattle.ecma_place.specs.Character.{is_white_space, is_line_terminator}
 use Rattle.ecma_place.specs.Cursor.{Cursor, rest, place, passed}
 use Rattle.ecma_place.specs.declared.comment.Comment.{Comment}
 use Rattle.ecma_place.proofs.RunLemmas.{passed-later-by}
 use Rattle.ecma_scan.specs.declared.gap.GapMode.{GapMode}
-use Rattle.ecma_scan.specs.Bars.{common_cutter, common_element}
+use Rattle.ecma_scan.specs.Bars.{common_cutter}
 use Rattle.ecma_scan.specs.Comments.{comments_of, collected, paired, behind_element, comment_of}
 use Rattle.ecma_scan.specs.Cutters.{IsCutter}
 use Rattle.ecma_scan.specs.Found.{Fault}
 use Rattle.ecma_scan.specs.Fronts.{after, next_passes}
-use Rattle.ecma_scan.specs.Gaps.{Element, Blank, element, element_faults, element_text, end_of, flag_behind, faults_of, gap_cutter, is_common, pending_behind, pending_fault}
+use Rattle.ecma_scan.specs.Gaps.{Element, Blank, element_faults, element_text, end_of, flag_behind, faults_of, gap_cutter, is_common, pending_behind, pending_fault}
 use Rattle.ecma_scan.specs.Pieces.{Cutter, pieces, spelled}
-use Rattle.ecma_scan.specs.Readings.{ReadingView, GapView, found_with, with_element, with_flag, with_next, next_text, element_comments, faults_with, NextAddsNothing, IsEmpty}
+use Rattle.ecma_scan.specs.Readings.{ReadingView, GapView, found_with, with_element, with_flag, with_next, next_text, element_comments, NextAddsNothing, IsEmpty}
 use Rattle.ecma_scan.proofs.AttachmentLemmas.{after-white}
 use Rattle.ecma_scan.proofs.BarsLaws.{common_is_cutter}
 use Rattle.ecma_scan.proofs.ElementLemmas.{none-collected}

@@ -1,5 +1,5 @@
 -- Signs in ASCII, as texts that readers look for and pass.
-use Rattle.std.proofs.Common.{◌≡◌, ℕ, ◌+◌, ◌≤◌, ◌<◌, Bool, true, false, ◌&&◌, ◌==◌, [], ◌∷◌, ◌++◌, take, drop, length, nat_lt, refl, sym, ap, ◌∙◌, nat_eq, codes, arith, zero, suc, drop-drop, length-append, eqb-true, encode_utf8_all}
+use Rattle.std.proofs.Common.{◌≡◌, ℕ, ◌+◌, ◌≤◌, ◌<◌, Bool, true, ◌&&◌, ◌==◌, [], ◌∷◌, ◌++◌, take, drop, length, nat_lt, refl, sym, ap, ◌∙◌, nat_eq, codes, arith, zero, suc, drop-drop, length-append, eqb-true, encode_utf8_all}
 use Rattle.std.specs.List.{starts_with, list_all}
 use Rattle.std.specs.Str.{chars}
 use Rattle.std.proofs.lemmas.Bool.{and_parts}

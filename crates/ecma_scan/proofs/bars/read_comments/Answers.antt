@@ -1,5 +1,5 @@
-use Rattle.std.proofs.Common.{◌≡◌, ◌||◌, ◌+◌, ◌++◌, ℕ, arith, ap, sym, ◌∙◌, length}
-use Rattle.ecma_place.specs.Cursor.{rest, place, passed}
+use Rattle.std.proofs.Common.{◌||◌, ◌++◌, ℕ, ap, sym, ◌∙◌, length}
+use Rattle.ecma_place.specs.Cursor.{rest, passed}
 use Rattle.ecma_scan.specs.Bars.{common_cutter}
 use Rattle.ecma_scan.specs.Gaps.{pending_fault}
 use Rattle.ecma_scan.specs.Pieces.{pieces}

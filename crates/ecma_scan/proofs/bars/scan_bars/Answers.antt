@@ -1,6 +1,5 @@
 use Rattle.std.proofs.Common.{◌≡◌, true, false, sym, ◌∙◌}
 use Rattle.ecma_place.specs.Cursor.{rest, place}
-use Rattle.ecma_scan.specs.Readings.{bars_view}
 use Rattle.ecma_scan.proofs.BarsLemmas.{bars-stand, bars-there, bars-absent, bars-passed, bars-kept}
 use Rattle.ecma_scan.proofs.bars.scan_bars.Goals as goal
 

@@ -1,4 +1,4 @@
-use Rattle.std.proofs.Common.{◌≡◌, Bool, true, false, Some, None, sym, ap, ◌∙◌, nat_eq, codes, drop}
+use Rattle.std.proofs.Common.{◌≡◌, Bool, sym, ap, ◌∙◌, nat_eq, codes}
 use Rattle.std.specs.Prelude.{is_some}
 use Rattle.std.specs.List.{starts_with}
 use Rattle.std.specs.Str.{chars}

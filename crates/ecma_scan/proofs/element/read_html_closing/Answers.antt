@@ -1,4 +1,4 @@
-use Rattle.std.proofs.Common.{arith, codes, ◌∙◌}
+use Rattle.std.proofs.Common.{arith, codes}
 use Rattle.ecma_place.proofs.MoveLemmas.{place-passed-le}
 use Rattle.ecma_scan.specs.Readings.{reading_view}
 use Rattle.ecma_scan.proofs.ElementLemmas.{when-ok, html-closing-said, line-moved, always-ok}

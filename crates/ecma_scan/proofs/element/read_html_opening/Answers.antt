@@ -1,4 +1,4 @@
-use Rattle.std.proofs.Common.{arith, codes, refl, ap, drop, length, length-drop}
+use Rattle.std.proofs.Common.{arith, codes, refl, ap, length, length-drop}
 use Rattle.ecma_place.specs.Cursor.{rest}
 use Rattle.ecma_place.proofs.MoveLemmas.{place-passed-le}
 use Rattle.ecma_scan.specs.Readings.{reading_view}

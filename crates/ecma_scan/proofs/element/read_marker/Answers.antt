@@ -1,5 +1,5 @@
-use Rattle.std.proofs.Common.{◌≡◌, ◌+◌, ◌≤◌, ◌-◌, ℕ, arith, ap, drop, replicate, sym, ◌∙◌}
-use Rattle.ecma_place.specs.Cursor.{Cursor, rest, passed, place}
+use Rattle.std.proofs.Common.{◌≡◌, ◌-◌, ℕ, arith, ap, replicate, ◌∙◌}
+use Rattle.ecma_place.specs.Cursor.{Cursor, passed, place}
 use Rattle.ecma_place.proofs.MoveLemmas.{place-passed-le}
 use Rattle.ecma_scan.specs.Comments.{marker_margin}
 use Rattle.ecma_scan.specs.Found.{span_of}

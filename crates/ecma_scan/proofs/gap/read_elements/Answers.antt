@@ -1,5 +1,4 @@
-use Rattle.std.proofs.Common.{◌≡◌, ◌||◌, ◌+◌, ◌++◌, ℕ, arith, ap, sym, ◌∙◌, subst}
-use Rattle.ecma_place.specs.Cursor.{rest, place}
+use Rattle.std.proofs.Common.{◌||◌, ◌++◌, ℕ, arith, ap, sym, ◌∙◌, subst}
 use Rattle.ecma_scan.specs.Gaps.{gap_cutter, pending_fault}
 use Rattle.ecma_scan.specs.Readings.{reading_view, gap_view, with_flag, nothing_read, IsEmpty}
 use Rattle.ecma_scan.proofs.ElementLemmas.{always-ok}
