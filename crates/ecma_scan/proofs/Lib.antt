@@ -49,4 +49,5 @@ mod StringRows
 pub mod TemplateLaws
 mod TemplateRows
 pub mod WordLaws
+pub mod WordReading
 mod WordRows
