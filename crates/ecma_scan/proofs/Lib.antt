@@ -61,4 +61,5 @@ pub mod TemplatePieces
 mod TemplateRows
 pub mod WhiteLemmas
 pub mod WordLaws
+pub mod WordReading
 mod WordRows

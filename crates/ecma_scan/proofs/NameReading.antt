@@ -1,5 +1,5 @@
 -- A name, as its reader finds it piece by piece.
-use Rattle.std.proofs.Common.{◌≡◌, ℕ, ◌+◌, ◌≤◌, ◌<◌, Bool, true, false, cond, ◌==◌, List, [], ◌∷◌, ◌++◌, length, length-append, map, take, take_at, drop, refl, sym, ap, subst, ◌∙◌, arith, zero, suc, append-nil, one-add, eqb-true, inl, inr, ◌⊎◌, ◌≢◌, encode_utf8_all, Option, Some, None, Result, Ok, Err}
+use Rattle.std.proofs.Common.{◌≡◌, ℕ, ◌+◌, ◌<◌, Bool, true, false, cond, ◌==◌, List, [], ◌∷◌, ◌++◌, length, length-append, map, take, take_at, drop, refl, sym, ap, subst, ◌∙◌, arith, zero, suc, append-nil, one-add, inl, inr, ◌⊎◌, ◌≢◌, encode_utf8_all, Some, None, Result, Ok, Err}
 use Rattle.std.specs.Prelude.{option_map}
 use Rattle.std.specs.List.{prefix_len, list_any}
 use Rattle.std.proofs.lemmas.List.Folds.{length-prefix_len}
@@ -16,11 +16,11 @@ use Rattle.ecma_scan.specs.declared.escape.Answer.TheVariants as answer
 use Rattle.ecma_scan.specs.declared.found.Blame.TheVariants.{Always}
 use Rattle.ecma_scan.specs.Found.{Fault, FoundView, error_behind, fault_behind, value_behind, placeless, found_at, span_of}
 use Rattle.ecma_scan.specs.Pieces.{pieces, spelled}
-use Rattle.ecma_scan.specs.Escapes.{Escape, Accepted, Refused, InWord, escape, escape_spelling, escape_behind}
+use Rattle.ecma_scan.specs.Escapes.{Escape, Accepted, Refused, InWord, escape, escape_spelling}
 use Rattle.ecma_scan.specs.EscapeAnswers.{opens_escape, answered}
-use Rattle.ecma_scan.specs.EscapeParts.{escape_value, escape_faults, escape_refusal}
+use Rattle.ecma_scan.specs.EscapeParts.{escape_value, escape_refusal}
 use Rattle.ecma_scan.specs.Strings.{Piece, Plain, Escaped, is_escaped, value_of, atom_of, faults_of}
-use Rattle.ecma_scan.specs.Words.{WordRole, Part, Backslash, Stop, word_role, may_stand, named_piece, word_piece_of, word_piece, word_cutter, WordEnding, Ended, BadEscape, bad_escape_ending, word_ending_of, word_ending, found_name, identifier_name}
+use Rattle.ecma_scan.specs.Words.{Part, Backslash, Stop, word_role, may_stand, named_piece, word_piece_of, word_piece, word_cutter, WordEnding, Ended, BadEscape, bad_escape_ending, word_ending_of, word_ending, found_name, identifier_name}
 use Rattle.ecma_scan.specs.PieceParts.{values_from, faults_from, end_from}
 use Rattle.ecma_scan.specs.NameParts.{faults_in, is_named, named_faults, unless_refused, behind_refused, ending_from, text_from, name_from, behind_pieces}
 use Rattle.ecma_scan.proofs.EscapeBytes.{IsNamed, word_named}
@@ -279,7 +279,7 @@ whole-text : (old one : Cursor) (run : List ℕ) (was : List Fault) → one ≡ 
 whole-text old one run was moved r =
     let on = on-run old one run was moved r in (
       ap (λ end. unless_refused (word_ending (rest end)) end (run ++ values_from word_cutter (is_first_behind old) one)) on.end
-      ∙ ap (λ l. unless_refused (ending_from true old) (end_from word_cutter true old) l) on.values,
+          ∙ ap (λ l. unless_refused (ending_from true old) (end_from word_cutter true old) l) on.values,
       on.faults,
       ap (λ end. behind_refused (word_ending (rest end)) end) on.end,
     )
@@ -395,7 +395,7 @@ name-take text =
     let front = name_front text in
     ap (take (length s)) (sym front.1) ∙ take_at s front.0 (length s) refl
 
-no-break : (old : Cursor) → (identifier_name (rest old)).line_break ≡ false
+pub no-break : (old : Cursor) → (identifier_name (rest old)).line_break ≡ false
 no-break old = ap (λ x. x.line_break) (name-is old) ∙ go (ending_from true old)
   where
     go : (e : WordEnding) → (found_name (pieces word_cutter true (rest old)) e).line_break ≡ false

@@ -1,6 +1,6 @@
 -- The pieces of a string or a word, as a loop goes over them: what was found, with what is found from the cursor on, is
 -- what is found from the start.
-use Rattle.std.proofs.Common.{◌≡◌, ℕ, ◌+◌, ◌≤◌, ◌<◌, Bool, true, false, cond, List, [], ◌∷◌, ◌++◌, length, map, take, drop, drop-drop, length-drop, take_at, refl, sym, ap, ◌∙◌, arith, zero, suc, append_assoc, append-nil, length-append, encode_utf8_all, Option, Some, None}
+use Rattle.std.proofs.Common.{◌≡◌, ℕ, ◌+◌, ◌≤◌, ◌<◌, Bool, true, false, List, [], ◌∷◌, ◌++◌, length, map, take, drop, length-drop, take_at, refl, sym, ap, ◌∙◌, arith, zero, suc, append_assoc, append-nil, length-append, encode_utf8_all, Option, Some, None}
 use Rattle.std.specs.List.{prefix_len, list_any}
 use Rattle.std.proofs.lemmas.Str.{encodes-append}
 use Rattle.std.proofs.lemmas.List.Folds.{length-prefix_len}

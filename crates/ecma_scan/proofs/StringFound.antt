@@ -1,5 +1,5 @@
 -- A string, by its pieces and its end, as its reader finds it at a place.
-use Rattle.std.proofs.Common.{◌≡◌, ℕ, ◌+◌, ◌≤◌, Bool, true, false, cond, ◌&&◌, ◌==◌, List, [], ◌∷◌, ◌++◌, length, map, take, drop, take_at, refl, sym, ap, subst, ◌∙◌, arith, append_assoc, append-nil, length-append, encode_utf8_all, Some, Result, Ok, Err, slice_get, slice_range}
+use Rattle.std.proofs.Common.{◌≡◌, ℕ, ◌+◌, ◌≤◌, Bool, true, false, cond, ◌==◌, List, [], ◌∷◌, ◌++◌, length, map, take, take_at, refl, sym, ap, subst, ◌∙◌, arith, append_assoc, append-nil, length-append, encode_utf8_all, Some, Result, Ok, Err, slice_get, slice_range}
 use Rattle.std.proofs.lemmas.Bool.{and_parts}
 use Rattle.std.proofs.lemmas.List.{map-append}
 use Rattle.std.proofs.lemmas.Str.{encode_ascii}
@@ -11,7 +11,7 @@ use Rattle.ecma_place.specs.Run.{quote_byte}
 use Rattle.ecma_place.specs.declared.place.Span.{Span}
 use Rattle.ecma_place.specs.declared.run.Quote.{Quote as Mark}
 use Rattle.ecma_place.specs.declared.run.Quote.TheVariants.{Single, Double}
-use Rattle.ecma_place.proofs.MoveLemmas.{place-passed, byte_len-append}
+use Rattle.ecma_place.proofs.MoveLemmas.{place-passed}
 use Rattle.ecma_place.proofs.RunLemmas.{passed-later-by, text-passed}
 use Rattle.ecma_token.specs.View.{ErrorView, TokenView, plain_token, plain, owns_nothing}
 use Rattle.ecma_token.specs.declared.token.Token.{Str}
@@ -26,7 +26,6 @@ use Rattle.ecma_scan.specs.PieceParts.{faults_from, end_from, quoted, unless_ref
 use Rattle.ecma_scan.proofs.PartFaults.{all_shifted}
 use Rattle.ecma_scan.proofs.PieceLemmas.{tiling}
 use Rattle.ecma_scan.proofs.EscapeForms.{rest-behind, first-cons}
-use Rattle.ecma_scan.proofs.EscapeLaws.{IsFrontOf}
 use Rattle.ecma_scan.proofs.StringLaws.{string_is_cutter, string_front}
 use Rattle.ecma_scan.proofs.StringReading.{is_bad, stays}
 

@@ -1,8 +1,8 @@
 -- A string, as its reader finds it piece by piece.
-use Rattle.std.proofs.Common.{◌≡◌, ℕ, ◌+◌, ◌≤◌, ◌<◌, Bool, true, false, cond, not, ◌||◌, ◌==◌, List, [], ◌∷◌, ◌++◌, length, map, take, drop, take_at, refl, sym, ap, subst, ◌∙◌, arith, suc, append_assoc, append-nil, length-append, one-add, eqb-true, eq-eqb, inl, inr, ◌⊎◌, encode_utf8_all, Option, Some, None, Result, Ok, Err, slice_get}
+use Rattle.std.proofs.Common.{◌≡◌, ℕ, ◌<◌, Bool, true, false, cond, not, ◌||◌, ◌==◌, List, [], ◌∷◌, ◌++◌, length, map, take, drop, refl, sym, ap, subst, ◌∙◌, arith, append-nil, one-add, inl, inr, ◌⊎◌, encode_utf8_all, Some, None, Result, Ok, Err}
 use Rattle.std.specs.Prelude.{option_map}
 use Rattle.std.specs.List.{prefix_len, list_any}
-use Rattle.ecma_place.specs.Text.{Text, byte_len}
+use Rattle.ecma_place.specs.Text.{Text}
 use Rattle.ecma_place.specs.Atom.{AtomView, owned_atom, borrowed_atom}
 use Rattle.ecma_place.specs.Character.{is_line_break}
 use Rattle.ecma_place.specs.Cursor.{Cursor, rest, place, passed}
@@ -12,7 +12,6 @@ use Rattle.ecma_place.specs.declared.run.Quote.TheVariants.{Single, Double}
 use Rattle.ecma_place.specs.declared.run.ByteClass.TheVariants as class
 use Rattle.ecma_token.specs.View.{ErrorView}
 use Rattle.ecma_scan.specs.Found.{Fault, error_behind, fault_behind}
-use Rattle.ecma_scan.specs.Fronts.{next_is}
 use Rattle.ecma_scan.specs.Pieces.{pieces}
 use Rattle.ecma_scan.specs.Escapes.{Escape, Accepted, Refused, InString, escape, escape_spelling}
 use Rattle.ecma_scan.specs.EscapeAnswers.{opens_escape}
@@ -23,7 +22,7 @@ use Rattle.ecma_scan.proofs.EscapeLaws.{begins_is, escape_some}
 use Rattle.ecma_scan.proofs.StringLaws.{string_is_cutter}
 use Rattle.ecma_scan.proofs.EscapeForms.{rest-behind}
 use Rattle.ecma_scan.proofs.PieceLemmas.{pieces_none, pieces_more}
-use Rattle.ecma_scan.proofs.PieceReading.{IsOnPieces, IsPlain, on-start, on-stop, on-step, on-plain, plain-from, plain-escaped, later, rest-less}
+use Rattle.ecma_scan.proofs.PieceReading.{IsOnPieces, IsPlain, on-start, on-stop, on-step, on-plain, plain-from, plain-escaped, rest-less}
 
 -- what a character of the class does, and one that is not
 

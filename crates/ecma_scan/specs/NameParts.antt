@@ -1,18 +1,23 @@
 -- What the pieces of a word from a cursor on stand for, and where reading goes on behind them.
-use Rattle.std.specs.Prelude.{ℕ, Bool, true, false, List, [], ◌∷◌, ◌++◌, length, Option, Some, None, Result, Ok, Err}
+use Rattle.std.specs.Prelude.{ℕ, Bool, true, false, List, [], ◌∷◌, ◌++◌, length, Option, Some, None, Result, Ok, Err, if◌then◌else◌}
 use Rattle.std.specs.Cow.{cow_str_bytes}
 use Rattle.std.specs.declared.borrow.CowStr.{CowStr}
 use Rattle.ecma_place.specs.Atom.{AtomView, is_borrowed_of}
 use Rattle.ecma_place.specs.Cursor.{Cursor, rest, place, passed}
+use Rattle.ecma_place.specs.declared.place.Span.{Span}
+use Rattle.ecma_syntax.specs.Reserved.{is_reserved}
+use Rattle.ecma_syntax.specs.Word.{word_of}
+use Rattle.ecma_syntax.specs.declared.context.Context.{Context}
+use Rattle.ecma_syntax.specs.declared.word.Word.{Word}
 use Rattle.ecma_token.specs.View.{ErrorView, plain}
-use Rattle.ecma_token.specs.declared.error.SyntaxError.{InvalidIdentChar}
+use Rattle.ecma_token.specs.declared.error.SyntaxError.{InvalidIdentChar, EscapeInReservedWord}
 use Rattle.ecma_scan.specs.declared.escape.Answer.{Answer}
 use Rattle.ecma_scan.specs.declared.escape.Answer.TheVariants as answer
 use Rattle.ecma_scan.specs.declared.found.Blame.TheVariants.{Always}
 use Rattle.ecma_scan.specs.Found.{Fault, error_behind, span_of}
 use Rattle.ecma_scan.specs.Pieces.{pieces}
 use Rattle.ecma_scan.specs.Strings.{Piece, piece_faults, atom_of}
-use Rattle.ecma_scan.specs.Words.{word_cutter, may_stand, WordEnding, Ended, BadEscape, word_ending}
+use Rattle.ecma_scan.specs.Words.{word_cutter, may_stand, owned_word, WordEnding, Ended, BadEscape, word_ending}
 use Rattle.ecma_scan.specs.PieceParts.{values_from, end_from}
 
 -- what is said of a piece, if there is one
@@ -62,3 +67,15 @@ behind_pieces is_first c = behind_refused (ending_from is_first c) (end_from wor
 -- a text that is borrowed or owned, as an atom
 abbrev pub cow_atom : {Z : Type 0} → CowStr Z → AtomView
 cow_atom text = record { bytes = cow_str_bytes text; is_borrowed = is_borrowed_of text }
+
+-- the word with this text that is written with an escape over this span
+abbrev pub escaped_word_at : Context → Span → AtomView → Result Word ErrorView
+escaped_word_at context span text =
+    if is_reserved context (word_of text.bytes)
+    then Err (record { kind = plain (EscapeInReservedWord text); span = span })
+    else Ok (owned_word (word_of text.bytes))
+
+-- the word of a name over this span
+abbrev pub word_at : Context → Span → Result AtomView ErrorView → Result Word ErrorView
+word_at context span (Err error) = Err error
+word_at context span (Ok text) = if text.is_borrowed then Ok (word_of text.bytes) else escaped_word_at context span text

@@ -1,9 +1,9 @@
-use Rattle.std.proofs.Common.{◌≡◌, ◌<◌, ◌++◌, ap, sym, ◌∙◌, refl, length, map, Ok, Err}
+use Rattle.std.proofs.Common.{◌++◌, ap, sym, ◌∙◌, map}
 use Rattle.std.specs.Prelude.{string_bytes, option_map}
 use Rattle.ecma_place.specs.Character.{is_ident_part}
 use Rattle.ecma_token.specs.View.{error_view}
 use Rattle.ecma_scan.specs.Found.{fault_view}
-use Rattle.ecma_scan.proofs.NameReading.{IsText, name-turn, turn-less, run-stops, text-ended, text-refused}
+use Rattle.ecma_scan.proofs.NameReading.{name-turn, turn-less, run-stops, text-ended, text-refused}
 use Rattle.ecma_scan.proofs.name.escaped_name.Goals as goal
 
 pub returns-in-Some : goal.returns-in-Some
@@ -11,7 +11,7 @@ returns-in-Some c =
     let opens = sym c.at_escape.ensures ∙ c.pieces-test.true in
     let refusal = sym (ap (option_map error_view) c.in-Some.is) ∙ c.in_ok-error.ensures.refusal in
     let all = text-refused c.args.is_first c.pieces.at_first c.args.input.now c.pieces.input c.push_name_escape.new.input c.args.before.now (string_bytes c.pieces.text) (map fault_view c.args.faults.now.items) (map fault_view c.pieces.faults.items) _ _
-        c.pieces.invariant.on opens refusal c.in_ok-error.ensures.moved c.in_ok-error.ensures.faults in
+    c.pieces.invariant.on opens refusal c.in_ok-error.ensures.moved c.in_ok-error.ensures.faults in
     record { value = all.value; faults = all.faults; moved = all.moved }
 
 pub pieces-smaller : goal.pieces-smaller

@@ -1,6 +1,6 @@
-use Rattle.std.proofs.Common.{◌≡◌, ◌+◌, ◌≤◌, ◌++◌, ap, sym, ◌∙◌, arith, map}
+use Rattle.std.proofs.Common.{◌++◌, ap, sym, ◌∙◌, arith, map}
 use Rattle.std.specs.Prelude.{option_map}
-use Rattle.ecma_place.specs.Cursor.{rest, place}
+use Rattle.ecma_place.specs.Cursor.{place}
 use Rattle.ecma_place.proofs.MoveLemmas.{place-passed-le}
 use Rattle.ecma_place.proofs.RunLemmas.{further-start, further-step, further-HasPlace}
 use Rattle.ecma_scan.specs.declared.escape.Use.TheVariants as place_of
@@ -52,8 +52,8 @@ returns c =
     let spelling = c.slice.ensures ∙ escape-text InWord _ _ _ _ _ read c.cur_pos-start.ensures c.cur_pos-end.ensures in
     let was = map fault_view c.args.faults.now.items in
     let said = c.in_ok-push_name_fault.ensures
-        ∙ ap (λ b. was ++ named_faults b c.new.result.lo.0 c.new.result.hi.0) c.is_named.ensures
-        ∙ ap (λ s. was ++ named_faults (is_named c.args.is_first c.read_escape-answer.result) s.lo.0 s.hi.0) c.new.ensures in
+    ∙ ap (λ b. was ++ named_faults b c.new.result.lo.0 c.new.result.hi.0) c.is_named.ensures
+    ∙ ap (λ s. was ++ named_faults (is_named c.args.is_first c.read_escape-answer.result) s.lo.0 s.hi.0) c.new.ensures in
     record {
       refusal = sym (ap (option_map (error_behind (place c.args.input.now))) (not-refused InWord _ c.read_escape-answer.result _ c.read_escape-answer.ensures.answer c.in_default.not-Refused));
       text = value-behind InWord _ _ _ _ _ _ read spelling c.in_ok-push_value.ensures.text;

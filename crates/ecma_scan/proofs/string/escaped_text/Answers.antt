@@ -1,12 +1,10 @@
-use Rattle.std.proofs.Common.{◌≡◌, ◌<◌, ◌++◌, ap, sym, ◌∙◌, refl, length, map, Ok, Err}
+use Rattle.std.proofs.Common.{◌++◌, ap, sym, ◌∙◌, map}
 use Rattle.std.specs.Prelude.{string_bytes, option_map}
-use Rattle.std.specs.List.{prefix_len}
-use Rattle.ecma_place.specs.Cursor.{rest}
 use Rattle.ecma_place.specs.Run.{is_in_class}
 use Rattle.ecma_place.specs.declared.run.ByteClass.TheVariants.{Plain}
 use Rattle.ecma_token.specs.View.{error_view}
 use Rattle.ecma_scan.specs.Found.{fault_view}
-use Rattle.ecma_scan.proofs.StringReading.{IsText, string-turn, turn-less, run-stops, text-ended, text-refused}
+use Rattle.ecma_scan.proofs.StringReading.{string-turn, turn-less, run-stops, text-ended, text-refused}
 use Rattle.ecma_scan.proofs.string.escaped_text.Goals as goal
 
 pub returns-in-Some-clause-value : goal.returns-in-Some-clause-value

@@ -1,9 +1,8 @@
-use Rattle.std.proofs.Common.{◌≡◌, ◌≤◌, ap, arith, map}
-use Rattle.ecma_place.specs.Cursor.{place}
+use Rattle.std.proofs.Common.{ap, arith, map}
 use Rattle.ecma_place.proofs.MoveLemmas.{place-passed-le}
 use Rattle.ecma_token.specs.View.{token_view}
 use Rattle.ecma_scan.specs.Found.{fault_view, value_view}
-use Rattle.ecma_scan.proofs.StringFound.{IsScanned, literal-found}
+use Rattle.ecma_scan.proofs.StringFound.{literal-found}
 use Rattle.ecma_scan.proofs.string.scan_string.Goals as goal
 
 pub new-requires : goal.new-requires

@@ -1,12 +1,10 @@
-use Rattle.std.proofs.Common.{◌≡◌, ◌≤◌, ◌++◌, ap, sym, ◌∙◌, refl, arith, length, map, true, false, Ok, Err, encode_utf8_all}
-use Rattle.ecma_place.specs.Cursor.{rest, place}
+use Rattle.std.proofs.Common.{ap, sym, ◌∙◌, arith, map, Ok}
 use Rattle.ecma_place.specs.Atom.{borrowed_atom}
 use Rattle.ecma_place.proofs.MoveLemmas.{place-passed-le}
 use Rattle.ecma_token.specs.View.{error_view, plain_token}
 use Rattle.ecma_token.specs.declared.token.Token.{Str}
 use Rattle.ecma_scan.specs.Found.{fault_view, value_view}
-use Rattle.ecma_scan.specs.Strings.{string_literal}
-use Rattle.ecma_scan.proofs.StringFound.{IsScanned, literal-refused, literal-accepted, accepted-order, literal-raw, free-value, free-close}
+use Rattle.ecma_scan.proofs.StringFound.{literal-refused, literal-accepted, accepted-order, literal-raw, free-value, free-close}
 use Rattle.ecma_scan.proofs.string.string_token.Goals as goal
 
 pub returns-in_err-error-clause-free : goal.returns-in_err-error-clause-free

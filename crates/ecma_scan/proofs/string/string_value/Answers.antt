@@ -1,10 +1,10 @@
-use Rattle.std.proofs.Common.{◌≡◌, ◌++◌, ap, sym, ◌∙◌, refl, map, true, false, Ok, Err}
+use Rattle.std.proofs.Common.{◌≡◌, ap, sym, ◌∙◌, map, true, false, Ok}
 use Rattle.std.specs.Prelude.{string_bytes}
 use Rattle.ecma_token.specs.View.{error_view}
 use Rattle.ecma_scan.specs.EscapeAnswers.{opens_escape}
 use Rattle.ecma_place.specs.Cursor.{rest}
 use Rattle.ecma_scan.specs.Found.{fault_view, value_view}
-use Rattle.ecma_scan.proofs.StringReading.{IsValue, plain-value, escaped-value, bad-value, not-borrowed}
+use Rattle.ecma_scan.proofs.StringReading.{plain-value, escaped-value, bad-value, not-borrowed}
 use Rattle.ecma_scan.proofs.string.string_value.Goals as goal
 
 pub returns-then-not-at_escape-clause-value : goal.returns-then-not-at_escape-clause-value
