@@ -11,11 +11,12 @@ pub mod View
 pub use Rattle.ecma_place.specs.Atom
 pub use Rattle.ecma_place.specs.Cursor
 pub use Rattle.ecma_place.specs.Text
-pub use Rattle.ecma_token.specs.Kinds
-pub use Rattle.ecma_scan.specs.Found
+pub use Rattle.ecma_scan.specs.Bars
 pub use Rattle.ecma_scan.specs.Comments
+pub use Rattle.ecma_scan.specs.Found
 pub use Rattle.ecma_scan.specs.Gaps
-pub use Rattle.ecma_scan.specs.Strings
 pub use Rattle.ecma_scan.specs.Numbers
 pub use Rattle.ecma_scan.specs.Punctuators
-pub use Rattle.ecma_scan.specs.PlainWords
+pub use Rattle.ecma_scan.specs.Strings
+pub use Rattle.ecma_scan.specs.Words
+pub use Rattle.ecma_token.specs.Kinds

@@ -8,7 +8,7 @@ use Rattle.ecma_scan.specs.Found.{Fault, Scanned, fault_behind, token_behind, sp
 use Rattle.ecma_scan.specs.Comments.{comments_at}
 use Rattle.ecma_scan.specs.Gaps.{gap_spelling, has_line_break, gap_faults_at}
 use Rattle.ecma_lexer.specs.Mode.{gap_mode}
-use Rattle.ecma_lexer.specs.TokenAt.{token_at, token_of, is_empty, is_free_at}
+use Rattle.ecma_lexer.specs.TokenAt.{token_at, token_comments, token_of, is_empty, is_free_at}
 use Rattle.ecma_lexer.specs.declared.mode.Mode.{Mode}
 
 -- What the gap before a token tells: whether no token came before or a line terminator stands in it, what is wrong, in
@@ -36,22 +36,26 @@ spanned_at flag here s =
       span = span_of (place here) (place here + byte_len s.spelling);
     }
 
--- the faults of the gap stand before those of the token
-abbrev pub token_reading : GapView → Cursor → Scanned TokenView → Reading
-token_reading gap here s =
+-- the faults and comments of the gap stand before those of the token
+abbrev pub token_reading : GapView → Cursor → Scanned TokenView → List (Comment × Bool) → Reading
+token_reading gap here s comments =
     record {
       found = Some (spanned_at gap.line_break here s);
       end_flag = gap.line_break;
       faults = gap.faults ++ map (fault_behind (place here)) s.faults;
-      comments = gap.comments;
+      comments = gap.comments ++ comments;
       input = passed (length s.spelling) here;
     }
+
+abbrev pub reading_token : Mode → GapView → Cursor → Text → Reading
+reading_token mode gap here text =
+    token_reading gap here (token_at mode gap.line_break text) (token_comments mode gap.line_break (place here) text)
 
 -- behind the gap, where this text is left
 abbrev pub reading_behind : Mode → GapView → Cursor → Text → Reading
 reading_behind mode gap here [] =
     record { found = None; end_flag = gap.line_break; faults = gap.faults; comments = gap.comments; input = here }
-reading_behind mode gap here (c ∷ cs) = token_reading gap here (token_at mode (c ∷ cs))
+reading_behind mode gap here (c ∷ cs) = reading_token mode gap here (c ∷ cs)
 
 -- what the gap tells with which a text at the place n begins
 abbrev pub gap_in : Mode → ℕ → Text → GapView
@@ -72,14 +76,15 @@ reading mode input =
     reading_behind mode (gap_in mode (place input) (rest input)) (behind_gap mode input) (rest (behind_gap mode input))
 
 -- a read takes no memory where nothing is wrong in the gap, no comment is collected, and the token takes none
-abbrev pub is_free_behind : Mode → Text → Bool
-is_free_behind mode [] = true
-is_free_behind mode (c ∷ cs) = is_free_at mode (c ∷ cs)
+abbrev pub is_free_behind : Mode → Bool → Text → Bool
+is_free_behind mode flag [] = true
+is_free_behind mode flag (c ∷ cs) = is_free_at mode flag (c ∷ cs)
 
 abbrev pub is_free : Mode → Cursor → Bool
 is_free mode input =
     is_empty (gap_in mode (place input) (rest input)).faults
-    && (is_empty (gap_in mode (place input) (rest input)).comments && is_free_behind mode (rest (behind_gap mode input)))
+    && (is_empty (gap_in mode (place input) (rest input)).comments
+    && is_free_behind mode (has_line_break (gap_mode mode) (rest input)) (rest (behind_gap mode input)))
 
 -- Laws
 

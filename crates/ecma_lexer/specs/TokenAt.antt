@@ -1,17 +1,20 @@
 -- The token at a place (ECMA-262 InputElementDiv, 12): which reader reads it, by its first characters.
-use Rattle.std.specs.Prelude.{Bool, true, false, not, ◌&&◌, List, [], ◌∷◌, Option, Some, None, Result, Ok, Err, is_ok}
+use Rattle.std.specs.Prelude.{ℕ, Bool, true, false, not, ◌&&◌, List, [], ◌∷◌, Option, Some, None, Result, Ok, Err, is_ok}
 use Rattle.std.specs.List.{list_any}
+use Rattle.ecma_place.specs.Atom.{AtomView}
 use Rattle.ecma_place.specs.Text.{Text}
+use Rattle.ecma_place.specs.declared.comment.Comment.{Comment}
 use Rattle.ecma_syntax.specs.declared.word.Word.{Word}
 use Rattle.ecma_token.specs.declared.token.Token as token
 use Rattle.ecma_token.specs.declared.error.SyntaxError.{UnexpectedChar}
 use Rattle.ecma_token.specs.View.{TokenView, ErrorView, plain, plain_token, error_token, owns_nothing}
+use Rattle.ecma_scan.specs.Bars as bars
 use Rattle.ecma_scan.specs.Found.{Scanned, error_at}
 use Rattle.ecma_scan.specs.Numbers as numbers
-use Rattle.ecma_scan.specs.PlainWords as words
+use Rattle.ecma_scan.specs.Words as words
 use Rattle.ecma_scan.specs.Punctuators as punctuators
 use Rattle.ecma_scan.specs.Strings as strings
-use Rattle.ecma_lexer.specs.Mode.{type_mode, is_typescript, is_since_es5}
+use Rattle.ecma_lexer.specs.Mode.{gap_mode, type_mode, is_typescript, is_since_es5}
 use Rattle.ecma_lexer.specs.declared.mode.Mode.{Mode}
 
 abbrev word_value : Result Word ErrorView → Result TokenView ErrorView
@@ -41,16 +44,21 @@ pub data Opening : Type 0 where
   Number : Opening
   String' : Opening
   Word' : Opening
+  -- a marker of bars, which is our own choice
+  Bars' : Opening
   Other : Opening
 
-abbrev pub opening_from : Bool → Bool → Bool → Opening
-opening_from true string word = Number
-opening_from false true word = String'
-opening_from false false true = Word'
-opening_from false false false = Other
+abbrev pub opening_from : Bool → Bool → Bool → Bool → Opening
+opening_from true string word bars = Number
+opening_from false true word bars = String'
+opening_from false false true bars = Word'
+opening_from false false false true = Bars'
+opening_from false false false false = Other
 
-abbrev pub opening : Text → Opening
-opening text = opening_from (numbers.opens_number text) (strings.opens_string text) (words.opens_word text)
+-- bars open a marker only where the flag stands
+abbrev pub opening : Bool → Text → Opening
+opening flag text =
+    opening_from (numbers.opens_number text) (strings.opens_string text) (words.opens_word text) (flag && bars.opens_bars text)
 
 -- legacy octals are told of as TypeScript does, for targets from the fifth edition on
 abbrev pub ts1085 : Mode → Bool
@@ -60,34 +68,48 @@ abbrev pub read_opened : Opening → Mode → Text → Scanned TokenView
 read_opened Number mode text = numbers.number (ts1085 mode) text
 read_opened String' mode text = strings.string_literal text
 read_opened Word' mode text = word_token mode text
+read_opened Bars' mode text = bars.bars_token text
 read_opened Other mode text = other_token mode text
 
--- the token at a text that isn't empty
-abbrev pub token_at : Mode → Text → Scanned TokenView
-token_at mode text = read_opened (opening text) mode text
+-- the token at a text that isn't empty, where the flag of the gap before stands or not
+abbrev pub token_at : Mode → Bool → Text → Scanned TokenView
+token_at mode flag text = read_opened (opening flag text) mode text
+
+-- the comments of a token: a marker of bars holds some
+abbrev pub comments_in : Opening → Mode → ℕ → Text → List (Comment × Bool)
+comments_in Bars' mode n text = bars.bars_comments_at n (gap_mode mode) text
+comments_in _ mode n text = []
+
+abbrev pub token_comments : Mode → Bool → ℕ → Text → List (Comment × Bool)
+token_comments mode flag n text = comments_in (opening flag text) mode n text
 
 -- all texts of the token are slices
 abbrev pub is_borrowed : Result TokenView ErrorView → Bool
 is_borrowed (Ok token) = owns_nothing token
 is_borrowed (Err error) = false
 
--- nothing in a token asks for memory: no separator in a number, no escape in a string
-abbrev pub asks_for_none : Opening → Scanned TokenView → Bool
-asks_for_none Number s = not (list_any numbers.is_separator s.spelling)
-asks_for_none String' s = is_borrowed s.value
-asks_for_none Word' s = true
-asks_for_none Other s = true
+abbrev pub is_borrowed_name : Result AtomView ErrorView → Bool
+is_borrowed_name (Ok text) = text.is_borrowed
+is_borrowed_name (Err error) = false
+
+-- nothing in a token asks for memory: no separator in a number, no escape in a string or a word
+abbrev pub asks_for_none : Opening → Text → Scanned TokenView → Bool
+asks_for_none Number text s = not (list_any numbers.is_separator s.spelling)
+asks_for_none String' text s = is_borrowed s.value
+asks_for_none Word' text s = is_borrowed_name (words.identifier_name text).value
+asks_for_none Bars' text s = false
+asks_for_none Other text s = true
 
 abbrev pub is_empty : {A : Type 0} → List A → Bool
 is_empty [] = true
 is_empty (item ∷ items) = false
 
 -- what is read takes no memory where nothing is wrong with it and it asks for none
-abbrev pub is_free_token : Opening → Scanned TokenView → Bool
-is_free_token opens s = is_ok s.value && (is_empty s.faults && asks_for_none opens s)
+abbrev pub is_free_token : Opening → Text → Scanned TokenView → Bool
+is_free_token opens text s = is_ok s.value && (is_empty s.faults && asks_for_none opens text s)
 
-abbrev pub is_free_at : Mode → Text → Bool
-is_free_at mode text = is_free_token (opening text) (token_at mode text)
+abbrev pub is_free_at : Mode → Bool → Text → Bool
+is_free_at mode flag text = is_free_token (opening flag text) text (token_at mode flag text)
 
 -- a refused text is a token too
 abbrev pub token_of : Result TokenView ErrorView → TokenView

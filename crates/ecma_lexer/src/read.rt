@@ -63,7 +63,7 @@ pub fn read_from<'a>(
         faults: token_faults,
         extent,
         line_break,
-    } = token_at(alloc, input, mode, c)?;
+    } = token_at(alloc, input, mode, end_flag, c)?;
     let token = TokenAndSpan {
         token: token_of(value),
         had_line_break: end_flag | line_break,
