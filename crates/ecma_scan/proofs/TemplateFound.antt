@@ -13,7 +13,7 @@ use Rattle.ecma_scan.specs.Locality.{ends_template}
 use Rattle.ecma_scan.specs.Pieces.{pieces, spelled}
 use Rattle.ecma_scan.specs.Templates.{TemplatePiece, TemplateEnd, AtEnd, AtBackQuote, AtDollarBrace, template_piece, template_cutter, template_end, is_verbatim, is_break, raw_text, raw_atom, cooked_atom, last_refusal, template_token, token_of_refusal, text_of, mark_of, template_of, template_text, template_found}
 use Rattle.ecma_scan.proofs.PieceLemmas.{pieces_none}
-use Rattle.ecma_scan.proofs.TemplateLaws.{is_at_end, none_ends, same_text}
+use Rattle.ecma_scan.proofs.TemplateLaws.{is_at_end, same_text}
 use Rattle.ecma_scan.proofs.TemplatePieces.{last_behind}
 
 -- which end follows
