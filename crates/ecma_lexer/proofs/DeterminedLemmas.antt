@@ -4,12 +4,11 @@ use Rattle.std.proofs.lemmas.List.{drop-drop}
 use Rattle.ecma_place.specs.Cursor.{Cursor, rest, place, passed}
 use Rattle.ecma_place.specs.Text.{Text, byte_len}
 use Rattle.ecma_place.proofs.MoveLemmas.{place-passed}
-use Rattle.ecma_token.specs.View.{TokenView}
 use Rattle.ecma_scan.specs.Gaps.{gap_spelling}
-use Rattle.ecma_scan.specs.Found.{Scanned, fault_behind, token_behind, span_of}
+use Rattle.ecma_scan.specs.Found.{fault_behind, token_behind, span_of}
 use Rattle.ecma_lexer.specs.Mode.{gap_mode}
-use Rattle.ecma_lexer.specs.Reading.{GapView, IsSameReading, ReadingIsDetermined, gap_in, reading, reading_behind, token_reading}
-use Rattle.ecma_lexer.specs.TokenAt.{token_at, token_of}
+use Rattle.ecma_lexer.specs.Reading.{GapView, IsSameReading, ReadingIsDetermined, gap_in, reading, reading_behind, reading_token}
+use Rattle.ecma_lexer.specs.TokenAt.{token_at, token_comments, token_of}
 use Rattle.ecma_lexer.specs.declared.mode.Mode.{Mode}
 
 -- cursors before which the same stands in the same place
@@ -33,14 +32,15 @@ alike_passed n a b h = record {
       ∙ sym (place-behind n b);
 }
 
-same_token : (gap : GapView) (a b : Cursor) (s : Scanned TokenView) → Alike a b → IsSameReading (token_reading gap a s) (token_reading gap b s)
-same_token gap a b s h =
+same_token : (mode : Mode) (gap : GapView) (a b : Cursor) (text : Text) → Alike a b → IsSameReading (reading_token mode gap a text) (reading_token mode gap b text)
+same_token mode gap a b text h =
+    let s = token_at mode gap.line_break text in
     let behind = alike_passed (length s.spelling) a b h in
     record {
       found = ap (λ p. Some record { token = token_behind p (token_of s.value); had_line_break = gap.line_break || s.line_break; span = span_of p (p + byte_len s.spelling) }) h.stands;
       end_flag = refl;
       faults = ap (λ p. gap.faults ++ map (fault_behind p) s.faults) h.stands;
-      comments = refl;
+      comments = ap (λ p. gap.comments ++ token_comments mode gap.line_break p text) h.stands;
       left = behind.left;
       stands = behind.stands;
     }
@@ -48,7 +48,7 @@ same_token gap a b s h =
 same_behind : (mode : Mode) (gap : GapView) (a b : Cursor) (text : Text) → Alike a b → IsSameReading (reading_behind mode gap a text) (reading_behind mode gap b text)
 same_behind mode gap a b [] h =
     record { found = refl; end_flag = refl; faults = refl; comments = refl; left = h.left; stands = h.stands }
-same_behind mode gap a b (c ∷ cs) h = same_token gap a b (token_at mode (c ∷ cs)) h
+same_behind mode gap a b (c ∷ cs) h = same_token mode gap a b (c ∷ cs) h
 
 pub reading_is_determined : ReadingIsDetermined
 unfolding reading

@@ -35,8 +35,8 @@ reads-behind mode before input here n [] gap e = record {
   ending = λ _. e;
 }
 reads-behind mode before input here n (c ∷ cs) gap e =
-    let s = token_at mode (c ∷ cs) in
-    let front : take (length s.spelling) (rest here) ≡ s.spelling = rw e (token_at-front mode (c ∷ cs)) in
+    let s = token_at mode before.line_break (c ∷ cs) in
+    let front : take (length s.spelling) (rest here) ≡ s.spelling = rw e (token_at-front mode before.line_break (c ∷ cs)) in
     let behind : place (passed (length s.spelling) here) ≡ place here + byte_len s.spelling =
     place-passed here _ (length s.spelling) refl ∙ ap (λ l. place here + byte_len l) front in
     let first = place-passed-le input here n gap in
@@ -116,8 +116,8 @@ less-behind : (mode : Mode) (before : GapView) (input here : Cursor) (n : ℕ) (
     → (reading_behind mode before here text).found ≡ Some t → length (rest (reading_behind mode before here text).input) < length (rest input)
 less-behind mode before input here n [] t gap e found = absurd (none-some t found)
 less-behind mode before input here n (c ∷ cs) t gap e found =
-    let s = token_at mode (c ∷ cs) in
-    let some = token_at-some mode c cs in
+    let s = token_at mode before.line_break (c ∷ cs) in
+    let some = token_at-some mode before.line_break c cs in
     let left : length (rest here) ≡ length (c ∷ cs) = ap length e in
     let more : length (c ∷ cs) ≡ 1 + length cs = omega arith in
     let skipped : length (rest here) ≡ length (rest input) - n = rw (gap, ← drop-drop n input.at input.text) (length-drop n (rest input)) in

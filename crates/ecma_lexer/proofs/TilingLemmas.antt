@@ -64,7 +64,7 @@ act_standing input s Read k = read_standing input s (reading_of (state_of s)) (r
 act_standing input s (SetCtx context) k = record { start = k.start; text = k.text; order = k.order; ended = k.ended }
 act_standing input s TakeErrors k = record { start = k.start; text = k.text; order = k.order; ended = k.ended }
 
-fold_standing : (input : Cursor) (s : Session) (steps : List Step) → Standing input s → Standing input (fold act_on s steps)
+pub fold_standing : (input : Cursor) (s : Session) (steps : List Step) → Standing input s → Standing input (fold act_on s steps)
 fold_standing input s [] k = k
 fold_standing input s (step ∷ steps) k = fold_standing input (act_on s step) steps (act_standing input s step k)
 

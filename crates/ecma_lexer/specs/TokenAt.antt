@@ -16,12 +16,14 @@ use Rattle.ecma_scan.specs.Punctuators as punctuators
 use Rattle.ecma_scan.specs.Strings as strings
 use Rattle.ecma_lexer.specs.Mode.{gap_mode, type_mode, is_typescript, is_since_es5}
 use Rattle.ecma_lexer.specs.declared.mode.Mode.{Mode}
+use Rattle.ecma_lexer.specs.declared.opening.Opening.{Opening}
+use Rattle.ecma_lexer.specs.declared.opening.Opening.TheVariants as opens
 
-abbrev word_value : Result Word ErrorView → Result TokenView ErrorView
+abbrev pub word_value : Result Word ErrorView → Result TokenView ErrorView
 word_value (Ok word) = Ok (plain_token (token.Word word))
 word_value (Err error) = Err error
 
-abbrev as_token : Scanned Word → Scanned TokenView
+abbrev pub as_token : Scanned Word → Scanned TokenView
 as_token s = record { value = word_value s.value; faults = s.faults; spelling = s.spelling; line_break = s.line_break }
 
 abbrev pub word_token : Mode → Text → Scanned TokenView
@@ -39,21 +41,13 @@ punctuator_or_stray None text = stray text
 abbrev pub other_token : Mode → Text → Scanned TokenView
 other_token mode text = punctuator_or_stray (punctuators.punctuator_in (type_mode mode) text) text
 
--- what the first characters of a text open
-pub data Opening : Type 0 where
-  Number : Opening
-  String' : Opening
-  Word' : Opening
-  -- a marker of bars, which is our own choice
-  Bars' : Opening
-  Other : Opening
-
+-- what the first characters of a text open, by the first question that is answered so
 abbrev pub opening_from : Bool → Bool → Bool → Bool → Opening
-opening_from true string word bars = Number
-opening_from false true word bars = String'
-opening_from false false true bars = Word'
-opening_from false false false true = Bars'
-opening_from false false false false = Other
+opening_from true string word bars = opens.Number
+opening_from false true word bars = opens.String
+opening_from false false true bars = opens.Word
+opening_from false false false true = opens.Bars
+opening_from false false false false = opens.Other
 
 -- bars open a marker only where the flag stands
 abbrev pub opening : Bool → Text → Opening
@@ -65,11 +59,11 @@ abbrev pub ts1085 : Mode → Bool
 ts1085 mode = is_typescript mode.settings.syntax && is_since_es5 mode.settings.target
 
 abbrev pub read_opened : Opening → Mode → Text → Scanned TokenView
-read_opened Number mode text = numbers.number (ts1085 mode) text
-read_opened String' mode text = strings.string_literal text
-read_opened Word' mode text = word_token mode text
-read_opened Bars' mode text = bars.bars_token text
-read_opened Other mode text = other_token mode text
+read_opened opens.Number mode text = numbers.number (ts1085 mode) text
+read_opened opens.String mode text = strings.string_literal text
+read_opened opens.Word mode text = word_token mode text
+read_opened opens.Bars mode text = bars.bars_token text
+read_opened opens.Other mode text = other_token mode text
 
 -- the token at a text that isn't empty, where the flag of the gap before stands or not
 abbrev pub token_at : Mode → Bool → Text → Scanned TokenView
@@ -77,7 +71,7 @@ token_at mode flag text = read_opened (opening flag text) mode text
 
 -- the comments of a token: a marker of bars holds some
 abbrev pub comments_in : Opening → Mode → ℕ → Text → List (Comment × Bool)
-comments_in Bars' mode n text = bars.bars_comments_at n (gap_mode mode) text
+comments_in opens.Bars mode n text = bars.bars_comments_at n (gap_mode mode) text
 comments_in _ mode n text = []
 
 abbrev pub token_comments : Mode → Bool → ℕ → Text → List (Comment × Bool)
@@ -94,11 +88,11 @@ is_borrowed_name (Err error) = false
 
 -- nothing in a token asks for memory: no separator in a number, no escape in a string or a word
 abbrev pub asks_for_none : Opening → Text → Scanned TokenView → Bool
-asks_for_none Number text s = not (list_any numbers.is_separator s.spelling)
-asks_for_none String' text s = is_borrowed s.value
-asks_for_none Word' text s = is_borrowed_name (words.identifier_name text).value
-asks_for_none Bars' text s = false
-asks_for_none Other text s = true
+asks_for_none opens.Number text s = not (list_any numbers.is_separator s.spelling)
+asks_for_none opens.String text s = is_borrowed s.value
+asks_for_none opens.Word text s = is_borrowed_name (words.identifier_name text).value
+asks_for_none opens.Bars text s = false
+asks_for_none opens.Other text s = true
 
 abbrev pub is_empty : {A : Type 0} → List A → Bool
 is_empty [] = true
@@ -106,7 +100,7 @@ is_empty (item ∷ items) = false
 
 -- what is read takes no memory where nothing is wrong with it and it asks for none
 abbrev pub is_free_token : Opening → Text → Scanned TokenView → Bool
-is_free_token opens text s = is_ok s.value && (is_empty s.faults && asks_for_none opens text s)
+is_free_token opened text s = is_ok s.value && (is_empty s.faults && asks_for_none opened text s)
 
 abbrev pub is_free_at : Mode → Bool → Text → Bool
 is_free_at mode flag text = is_free_token (opening flag text) text (token_at mode flag text)

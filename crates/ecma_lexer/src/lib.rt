@@ -7,6 +7,7 @@ pub mod kept;
 pub mod laws;
 pub mod lexer;
 pub mod mode;
+mod opening;
 mod read;
 pub mod settings;
 pub mod step;
