@@ -1,4 +1,7 @@
 //! Each reader once on its happy path, and every punctuator.
+mod strings;
+mod words;
+
 use crate::found::Found;
 use crate::gap::{GapMode, scan_gap};
 use crate::number::scan_number;
