@@ -1,5 +1,5 @@
 //! Strings and escapes: where they end, what they stand for, and what is said of them.
-use crate::escape::scan_escape;
+use crate::escape::{at_escape, scan_escape};
 use crate::found::Blame;
 use crate::string::scan_string;
 use ecma_place::{Atom, BytePos, Span, Spanned, StringInput};
@@ -41,10 +41,14 @@ pub(super) fn summary(
 
 /// Asserts what is found of the string with which the text begins.
 fn assert_string(rt: &impl Abort, alloc: Global, text: &str, line: &str) -> Result<(), Fail> {
-    if !StringInput::fits(text, BytePos(0)) || !(text.starts_with('\'') || text.starts_with('"')) {
+    if !StringInput::fits(text, BytePos(0)) {
         return Err(Fail::from("no string"));
     }
     let mut input = StringInput::new(text, BytePos(0));
+    match input.cur() {
+        Some(c) if c == '"' || c == '\'' => {}
+        _ => return Err(Fail::from("no string")),
+    }
     let found = scan_string(alloc, &mut input)?;
     let value = match &found.value {
         Ok(Token::Str { value, raw }) => {
@@ -177,7 +181,7 @@ fn assert_escape(
         return Err(Fail::from("no escape"));
     }
     let mut input = StringInput::new(text, BytePos(3));
-    if !input.is_byte(b'\\') {
+    if !at_escape(&input) {
         return Err(Fail::from("no escape"));
     }
     let found = scan_escape(alloc, &mut input, in_template)?;
