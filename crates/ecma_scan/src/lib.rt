@@ -7,7 +7,7 @@ pub mod found;
 pub mod gap;
 mod line;
 mod marker;
-pub(crate) mod name;
+mod name;
 pub mod number;
 pub mod punctuator;
 pub mod shebang;
