@@ -1,5 +1,5 @@
 -- A name, as its reader finds it piece by piece.
-use Rattle.std.proofs.Common.{◌≡◌, ℕ, ◌+◌, ◌<◌, Bool, true, false, cond, ◌==◌, List, [], ◌∷◌, ◌++◌, length, length-append, map, take, take_at, drop, refl, sym, ap, subst, ◌∙◌, arith, zero, suc, append-nil, one-add, inl, inr, ◌⊎◌, ◌≢◌, encode_utf8_all, Some, None, Result, Ok, Err}
+use Rattle.std.proofs.Common.{◌≡◌, ℕ, ◌+◌, ◌<◌, Bool, true, false, cond, ◌==◌, List, [], ◌∷◌, ◌++◌, length, length-append, map, take, take_at, drop, refl, sym, ap, subst, ◌∙◌, arith, zero, suc, append-nil, inl, inr, ◌⊎◌, ◌≢◌, encode_utf8_all, Some, None, Result, Ok, Err}
 use Rattle.std.specs.Prelude.{option_map}
 use Rattle.std.specs.List.{prefix_len, list_any}
 use Rattle.std.proofs.lemmas.List.Folds.{length-prefix_len}
@@ -28,7 +28,7 @@ use Rattle.ecma_scan.proofs.EscapeForms.{rest-behind}
 use Rattle.ecma_scan.proofs.EscapeLaws.{begins_is, escape_some}
 use Rattle.ecma_scan.proofs.EscapeSpans.{IsRead, escape-place}
 use Rattle.ecma_scan.proofs.PieceLemmas.{pieces_none, pieces_more, tiling}
-use Rattle.ecma_scan.proofs.PieceReading.{IsOnPieces, IsPlain, on-start, on-stop, on-step, on-plain, plain-from, plain-escaped, later, rest-less}
+use Rattle.ecma_scan.proofs.PieceReading.{IsOnPieces, IsPlain, on-start, on-stop, on-step, on-plain, plain-from, plain-escaped, later, rest-less, no-run, run-stops}
 use Rattle.ecma_scan.proofs.WordLaws.{word_is_cutter, name_front}
 use Rattle.ecma_scan.proofs.StringFound.{error-shifted, faults-shifted}
 use Rattle.ecma_place.proofs.MoveLemmas.{place-passed}
@@ -91,13 +91,6 @@ is-plain = record {
   leads = λ s c. refl;
 }
 
-no-run : (p : ℕ → Bool) (c : ℕ) (cs : Text) → prefix_len p (c ∷ cs) ≡ 0 → p c ≡ false
-no-run p c cs h = go (p c) refl h
-  where
-    go : (b : Bool) → p c ≡ b → prefix_len p (c ∷ cs) ≡ 0 → p c ≡ false
-    go true e h = absurd (let h' = rw e at h in omega (arith, h'))
-    go false e h = e
-
 stopped : (is_first : Bool) (text : Text) → prefix_len is_ident_part text ≡ 0 → opens_escape text ≡ false → (word_piece is_first text ≡ None) × (word_ending text ≡ Ended)
 stopped is_first [] h e = (refl, refl)
 stopped is_first (c ∷ cs) h e =
@@ -134,17 +127,6 @@ name-turn s t old now one far before text more run was said new on opens accepte
         let behind = on-step word_piece (λ _ _. false) word_is_cutter s t old now one before text more was said new (Escaped spelling value (faults_in (named_piece t (Accepted spelling value faults)))) on here moved m n in
         subst (λ u. IsOnName s u old far before run was new) (same-later (prefix_len is_ident_part (rest one)))
         (on-plain word_piece (λ _ _. false) is_ident_part false word_is_cutter is-plain s false old one far before more run was new behind onward r)
-
-pub run-stops : (p : ℕ → Bool) (now far : Cursor) → far ≡ passed (prefix_len p (rest now)) now → prefix_len p (rest far) ≡ 0
-run-stops p now far moved = ap (prefix_len p) (rest-behind now far _ moved) ∙ none (rest now)
-  where
-    none : (text : Text) → prefix_len p (drop (prefix_len p text) text) ≡ 0
-    none [] = refl
-    none (c ∷ cs) = go (p c) refl (none cs)
-      where
-        go : (b : Bool) → p c ≡ b → prefix_len p (drop (prefix_len p cs) cs) ≡ 0 → prefix_len p (drop (prefix_len p (c ∷ cs)) (c ∷ cs)) ≡ 0
-        go true e more = rw (e, one-add (prefix_len p cs)) more
-        go false e more = rw (e, e) refl
 
 pub turn-less : (now one far : Cursor) → opens_escape (rest now) ≡ true → one ≡ passed (length (escape_spelling (escape InWord (rest now)))) now → far ≡ passed (prefix_len is_ident_part (rest one)) one
     → length (rest far) < length (rest now)

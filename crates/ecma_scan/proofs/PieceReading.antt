@@ -1,6 +1,6 @@
 -- The pieces of a string or a word, as a loop goes over them: what was found, with what is found from the cursor on, is
 -- what is found from the start.
-use Rattle.std.proofs.Common.{◌≡◌, ℕ, ◌+◌, ◌≤◌, ◌<◌, Bool, true, false, List, [], ◌∷◌, ◌++◌, length, map, take, drop, length-drop, take_at, refl, sym, ap, ◌∙◌, arith, zero, suc, append_assoc, append-nil, length-append, encode_utf8_all, Option, Some, None}
+use Rattle.std.proofs.Common.{◌≡◌, ℕ, ◌+◌, ◌≤◌, ◌<◌, Bool, true, false, List, [], ◌∷◌, ◌++◌, length, map, take, drop, length-drop, take_at, refl, sym, ap, ◌∙◌, arith, zero, suc, one-add, append_assoc, append-nil, length-append, encode_utf8_all, Option, Some, None}
 use Rattle.std.specs.List.{prefix_len, list_any}
 use Rattle.std.proofs.lemmas.Str.{encodes-append}
 use Rattle.std.proofs.lemmas.List.Folds.{length-prefix_len}
@@ -162,6 +162,26 @@ on-plain {S} read next p u is plain s t old now far before text more was said on
           ∙ sym (passed-later-by now _ (length (spelled cutter left)) n (ap length end ∙ length-append xs (spelled cutter left) ∙ ap (λ k. k + length (spelled cutter left)) (length-prefix_len p (rest now))))
           ∙ on.end;
     }
+
+-- a run of no characters, and what stands behind a run
+
+pub no-run : (p : ℕ → Bool) (c : ℕ) (cs : Text) → prefix_len p (c ∷ cs) ≡ 0 → p c ≡ false
+no-run p c cs h = go (p c) refl h
+  where
+    go : (b : Bool) → p c ≡ b → prefix_len p (c ∷ cs) ≡ 0 → p c ≡ false
+    go true e h = absurd (let h' = rw e at h in omega (arith, h'))
+    go false e h = e
+
+pub run-stops : (p : ℕ → Bool) (now far : Cursor) → far ≡ passed (prefix_len p (rest now)) now → prefix_len p (rest far) ≡ 0
+run-stops p now far moved = ap (prefix_len p) (rest-behind now far _ moved) ∙ none (rest now)
+  where
+    none : (text : Text) → prefix_len p (drop (prefix_len p text) text) ≡ 0
+    none [] = refl
+    none (c ∷ cs) = go (p c) refl (none cs)
+      where
+        go : (b : Bool) → p c ≡ b → prefix_len p (drop (prefix_len p cs) cs) ≡ 0 → prefix_len p (drop (prefix_len p (c ∷ cs)) (c ∷ cs)) ≡ 0
+        go true e more = rw (e, one-add (prefix_len p cs)) more
+        go false e more = rw (e, e) refl
 
 -- a cursor that went on leaves less
 pub rest-less : (now one far : Cursor) (m n : ℕ) → one ≡ passed m now → far ≡ passed n one → 0 < m → 0 < length (rest now) → length (rest far) < length (rest now)

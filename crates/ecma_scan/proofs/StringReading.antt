@@ -1,5 +1,5 @@
 -- A string, as its reader finds it piece by piece.
-use Rattle.std.proofs.Common.{◌≡◌, ℕ, ◌<◌, Bool, true, false, cond, not, ◌||◌, ◌==◌, List, [], ◌∷◌, ◌++◌, length, map, take, drop, refl, sym, ap, subst, ◌∙◌, arith, append-nil, one-add, inl, inr, ◌⊎◌, encode_utf8_all, Some, None, Result, Ok, Err}
+use Rattle.std.proofs.Common.{◌≡◌, ℕ, ◌<◌, Bool, true, false, cond, not, ◌||◌, ◌==◌, List, [], ◌∷◌, ◌++◌, length, map, take, drop, refl, sym, ap, subst, ◌∙◌, arith, append-nil, inl, inr, ◌⊎◌, encode_utf8_all, Some, None, Result, Ok, Err}
 use Rattle.std.specs.Prelude.{option_map}
 use Rattle.std.specs.List.{prefix_len, list_any}
 use Rattle.ecma_place.specs.Text.{Text}
@@ -20,9 +20,8 @@ use Rattle.ecma_scan.specs.Strings.{Piece, Plain, Escaped, is_escaped, value_of,
 use Rattle.ecma_scan.specs.PieceParts.{values_from, faults_from, end_from, quoted, unless_refused, behind_refused, ending_from, text_from, atom_from, behind_pieces}
 use Rattle.ecma_scan.proofs.EscapeLaws.{begins_is, escape_some}
 use Rattle.ecma_scan.proofs.StringLaws.{string_is_cutter}
-use Rattle.ecma_scan.proofs.EscapeForms.{rest-behind}
 use Rattle.ecma_scan.proofs.PieceLemmas.{pieces_none, pieces_more}
-use Rattle.ecma_scan.proofs.PieceReading.{IsOnPieces, IsPlain, on-start, on-stop, on-step, on-plain, plain-from, plain-escaped, rest-less}
+use Rattle.ecma_scan.proofs.PieceReading.{IsOnPieces, IsPlain, on-start, on-stop, on-step, on-plain, plain-from, plain-escaped, rest-less, no-run, run-stops}
 
 -- what a character of the class does, and one that is not
 
@@ -56,13 +55,6 @@ stop-role quote c h e = go (c == quote_byte quote) (c == 92) (c == 13) (c == 10)
     go false false true w h e = λ c cs. (refl, refl)
     go false false false true h e = λ c cs. (refl, refl)
     go false false false false h e = cc
-
-no-run : (p : ℕ → Bool) (c : ℕ) (cs : Text) → prefix_len p (c ∷ cs) ≡ 0 → p c ≡ false
-no-run p c cs h = go (p c) refl h
-  where
-    go : (b : Bool) → p c ≡ b → prefix_len p (c ∷ cs) ≡ 0 → p c ≡ false
-    go true e h = absurd (let h' = rw e at h in omega (arith, h'))
-    go false e h = e
 
 -- neither a character that stands for itself nor a backslash begins a piece
 pub stopped : (quote : Mark) (text : Text) → prefix_len (is_in_class (class.Plain quote)) text ≡ 0 → opens_escape text ≡ false
@@ -120,18 +112,6 @@ string-turn quote old now one far before text more run was said new on opens acc
     go (Accepted spelling value faults) piece a moved m n =
         let behind = on-step (λ _ text. string_piece (quote_byte quote) text) (λ s _. s) (string_is_cutter (quote_byte quote)) tt tt old now one before text more was said new (Escaped spelling value faults) on piece moved m n in
         on-plain (λ _ text. string_piece (quote_byte quote) text) (λ s _. s) (is_in_class (class.Plain quote)) tt (string_is_cutter (quote_byte quote)) (is-plain quote) tt tt old one far before more run was new behind onward r
-
--- no character that stands for itself stands behind a run of them
-pub run-stops : (p : ℕ → Bool) (now far : Cursor) → far ≡ passed (prefix_len p (rest now)) now → prefix_len p (rest far) ≡ 0
-run-stops p now far moved = ap (prefix_len p) (rest-behind now far _ moved) ∙ none (rest now)
-  where
-    none : (text : Text) → prefix_len p (drop (prefix_len p text) text) ≡ 0
-    none [] = refl
-    none (c ∷ cs) = go (p c) refl (none cs)
-      where
-        go : (b : Bool) → p c ≡ b → prefix_len p (drop (prefix_len p cs) cs) ≡ 0 → prefix_len p (drop (prefix_len p (c ∷ cs)) (c ∷ cs)) ≡ 0
-        go true e more = rw (e, one-add (prefix_len p cs)) more
-        go false e more = rw (e, e) refl
 
 pub turn-less : (p : ℕ → Bool) (now one far : Cursor) → opens_escape (rest now) ≡ true → one ≡ passed (length (escape_spelling (escape InString (rest now)))) now → far ≡ passed (prefix_len p (rest one)) one
     → length (rest far) < length (rest now)

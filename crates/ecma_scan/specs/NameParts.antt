@@ -48,7 +48,7 @@ abbrev pub behind_refused : WordEnding → Cursor → Cursor
 behind_refused Ended end = end
 behind_refused (BadEscape spelling error) end = passed (length spelling) end
 
--- how the pieces from the cursor on end; the first may be none that came yet
+-- how the pieces from the cursor on end; `is_first` says that none came before it
 abbrev pub ending_from : Bool → Cursor → WordEnding
 ending_from is_first c = word_ending (rest (end_from word_cutter is_first c))
 

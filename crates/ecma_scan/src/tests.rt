@@ -2,7 +2,9 @@
 
 mod gaps;
 mod numbers;
+mod strings;
 mod templates;
+mod words;
 
 use crate::found::Found;
 use crate::gap::{GapMode, scan_gap};

@@ -3,7 +3,8 @@ use Rattle.std.specs.Prelude.{string_bytes, option_map}
 use Rattle.ecma_place.specs.Character.{is_ident_part}
 use Rattle.ecma_token.specs.View.{error_view}
 use Rattle.ecma_scan.specs.Found.{fault_view}
-use Rattle.ecma_scan.proofs.NameReading.{name-turn, turn-less, run-stops, text-ended, text-refused}
+use Rattle.ecma_scan.proofs.NameReading.{name-turn, turn-less, text-ended, text-refused}
+use Rattle.ecma_scan.proofs.PieceReading.{run-stops}
 use Rattle.ecma_scan.proofs.name.escaped_name.Goals as goal
 
 pub returns-in-Some : goal.returns-in-Some

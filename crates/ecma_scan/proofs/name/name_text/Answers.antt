@@ -5,7 +5,8 @@ use Rattle.ecma_place.specs.Cursor.{rest}
 use Rattle.ecma_token.specs.View.{error_view}
 use Rattle.ecma_scan.specs.EscapeAnswers.{opens_escape}
 use Rattle.ecma_scan.specs.Found.{fault_view, value_view}
-use Rattle.ecma_scan.proofs.NameReading.{plain-name, escaped-text, bad-text, not-borrowed, first-behind, run-stops}
+use Rattle.ecma_scan.proofs.NameReading.{plain-name, escaped-text, bad-text, not-borrowed, first-behind}
+use Rattle.ecma_scan.proofs.PieceReading.{run-stops}
 use Rattle.ecma_scan.proofs.name.name_text.Goals as goal
 
 pub returns-then-not-at_escape : goal.returns-then-not-at_escape

@@ -4,29 +4,17 @@ use Rattle.ecma_place.specs.Run.{is_in_class}
 use Rattle.ecma_place.specs.declared.run.ByteClass.TheVariants.{Plain}
 use Rattle.ecma_token.specs.View.{error_view}
 use Rattle.ecma_scan.specs.Found.{fault_view}
-use Rattle.ecma_scan.proofs.StringReading.{string-turn, turn-less, run-stops, text-ended, text-refused}
+use Rattle.ecma_scan.proofs.StringReading.{string-turn, turn-less, text-ended, text-refused}
+use Rattle.ecma_scan.proofs.PieceReading.{run-stops}
 use Rattle.ecma_scan.proofs.string.escaped_text.Goals as goal
 
-pub returns-in-Some-clause-value : goal.returns-in-Some-clause-value
-returns-in-Some-clause-value c =
+pub returns-in-Some : goal.returns-in-Some
+returns-in-Some c =
     let opens = sym c.at_escape.ensures ∙ c.pieces-test.true in
     let refusal = sym (ap (option_map error_view) c.in-Some.is) ∙ c.in_ok-error.ensures.refusal in
-    (text-refused c.args.quote c.args.input.now c.pieces.input c.push_escape.new.input c.args.before.now (string_bytes c.pieces.text) (map fault_view c.args.faults.now.items) (map fault_view c.pieces.faults.items) _ _
-    c.pieces.invariant.on opens refusal c.in_ok-error.ensures.moved c.in_ok-error.ensures.faults).value
-
-pub returns-in-Some-clause-faults : goal.returns-in-Some-clause-faults
-returns-in-Some-clause-faults c =
-    let opens = sym c.at_escape.ensures ∙ c.pieces-test.true in
-    let refusal = sym (ap (option_map error_view) c.in-Some.is) ∙ c.in_ok-error.ensures.refusal in
-    (text-refused c.args.quote c.args.input.now c.pieces.input c.push_escape.new.input c.args.before.now (string_bytes c.pieces.text) (map fault_view c.args.faults.now.items) (map fault_view c.pieces.faults.items) _ _
-    c.pieces.invariant.on opens refusal c.in_ok-error.ensures.moved c.in_ok-error.ensures.faults).faults
-
-pub returns-in-Some-clause-moved : goal.returns-in-Some-clause-moved
-returns-in-Some-clause-moved c =
-    let opens = sym c.at_escape.ensures ∙ c.pieces-test.true in
-    let refusal = sym (ap (option_map error_view) c.in-Some.is) ∙ c.in_ok-error.ensures.refusal in
-    (text-refused c.args.quote c.args.input.now c.pieces.input c.push_escape.new.input c.args.before.now (string_bytes c.pieces.text) (map fault_view c.args.faults.now.items) (map fault_view c.pieces.faults.items) _ _
-    c.pieces.invariant.on opens refusal c.in_ok-error.ensures.moved c.in_ok-error.ensures.faults).moved
+    let all = text-refused c.args.quote c.args.input.now c.pieces.input c.push_escape.new.input c.args.before.now (string_bytes c.pieces.text) (map fault_view c.args.faults.now.items) (map fault_view c.pieces.faults.items) _ _
+    c.pieces.invariant.on opens refusal c.in_ok-error.ensures.moved c.in_ok-error.ensures.faults in
+    record { value = all.value; faults = all.faults; moved = all.moved }
 
 pub pieces-smaller : goal.pieces-smaller
 pieces-smaller c =
@@ -43,14 +31,7 @@ pieces-preserved c =
       stopped = run-stops (is_in_class (Plain c.args.quote)) c.push_escape.new.input c.plain_text.new.input c.plain_text.ensures.moved;
     }
 
-pub returns-clause-value : goal.returns-clause-value
-returns-clause-value c =
-    (text-ended c.args.quote c.args.input.now c.pieces.input c.args.before.now (string_bytes c.pieces.text) (map fault_view c.args.faults.now.items) (map fault_view c.pieces.faults.items) c.pieces.invariant.on c.pieces.invariant.stopped (sym c.at_escape.ensures ∙ c.pieces-test.false)).value
-
-pub returns-clause-faults : goal.returns-clause-faults
-returns-clause-faults c =
-    (text-ended c.args.quote c.args.input.now c.pieces.input c.args.before.now (string_bytes c.pieces.text) (map fault_view c.args.faults.now.items) (map fault_view c.pieces.faults.items) c.pieces.invariant.on c.pieces.invariant.stopped (sym c.at_escape.ensures ∙ c.pieces-test.false)).faults
-
-pub returns-clause-moved : goal.returns-clause-moved
-returns-clause-moved c =
-    (text-ended c.args.quote c.args.input.now c.pieces.input c.args.before.now (string_bytes c.pieces.text) (map fault_view c.args.faults.now.items) (map fault_view c.pieces.faults.items) c.pieces.invariant.on c.pieces.invariant.stopped (sym c.at_escape.ensures ∙ c.pieces-test.false)).moved
+pub returns : goal.returns
+returns c =
+    let all = text-ended c.args.quote c.args.input.now c.pieces.input c.args.before.now (string_bytes c.pieces.text) (map fault_view c.args.faults.now.items) (map fault_view c.pieces.faults.items) c.pieces.invariant.on c.pieces.invariant.stopped (sym c.at_escape.ensures ∙ c.pieces-test.false) in
+    record { value = all.value; faults = all.faults; moved = all.moved }

@@ -1,4 +1,4 @@
-use Rattle.std.proofs.Common.{ap, sym, ◌∙◌, arith, map, Ok}
+use Rattle.std.proofs.Common.{ap, sym, ◌∙◌, refl, arith, map, Ok}
 use Rattle.ecma_place.specs.Atom.{borrowed_atom}
 use Rattle.ecma_place.proofs.MoveLemmas.{place-passed-le}
 use Rattle.ecma_token.specs.View.{error_view, plain_token}
@@ -34,40 +34,22 @@ slice-requires-clause-in_order c =
     let order = place-passed-le c.args.input.now c.close_string.new.input _ all.moved in
     omega (arith, order, c.cur_pos-start.ensures, c.cur_pos.ensures)
 
-pub returns-in-Err-clause-value : goal.returns-in-Err-clause-value
-returns-in-Err-clause-value c =
+pub returns-in-Err : goal.returns-in-Err
+returns-in-Err c =
     let value = sym (ap (value_view (λ a. a)) c.in-Err.is) ∙ c.in_ok-error.ensures.value in
-    (literal-refused c.opening_quote-quote.result c.args.input.now c.opening_quote-quote.new.input c.string_value.new.input (error_view c.in-Err.error) (map fault_view c.args.faults.now.items) _
-    c.opening_quote-quote.ensures.quote c.opening_quote-quote.ensures.moved value c.in_ok-error.ensures.faults c.in_ok-error.ensures.moved).value
+    let all = literal-refused c.opening_quote-quote.result c.args.input.now c.opening_quote-quote.new.input c.string_value.new.input (error_view c.in-Err.error) (map fault_view c.args.faults.now.items) _
+    c.opening_quote-quote.ensures.quote c.opening_quote-quote.ensures.moved value c.in_ok-error.ensures.faults c.in_ok-error.ensures.moved in
+    record { value = all.value; faults = all.faults; moved = all.moved; free = λ token h o none. refl }
 
-pub returns-in-Err-clause-faults : goal.returns-in-Err-clause-faults
-returns-in-Err-clause-faults c =
-    let value = sym (ap (value_view (λ a. a)) c.in-Err.is) ∙ c.in_ok-error.ensures.value in
-    (literal-refused c.opening_quote-quote.result c.args.input.now c.opening_quote-quote.new.input c.string_value.new.input (error_view c.in-Err.error) (map fault_view c.args.faults.now.items) _
-    c.opening_quote-quote.ensures.quote c.opening_quote-quote.ensures.moved value c.in_ok-error.ensures.faults c.in_ok-error.ensures.moved).faults
-
-pub returns-in-Err-clause-moved : goal.returns-in-Err-clause-moved
-returns-in-Err-clause-moved c =
-    let value = sym (ap (value_view (λ a. a)) c.in-Err.is) ∙ c.in_ok-error.ensures.value in
-    (literal-refused c.opening_quote-quote.result c.args.input.now c.opening_quote-quote.new.input c.string_value.new.input (error_view c.in-Err.error) (map fault_view c.args.faults.now.items) _
-    c.opening_quote-quote.ensures.quote c.opening_quote-quote.ensures.moved value c.in_ok-error.ensures.faults c.in_ok-error.ensures.moved).moved
-
-pub returns-in_ok-close_string-in-Ok-clause-value : goal.returns-in_ok-close_string-in-Ok-clause-value
-returns-in_ok-close_string-in-Ok-clause-value c =
+pub returns-in_ok-close_string-in-Ok : goal.returns-in_ok-close_string-in-Ok
+returns-in_ok-close_string-in-Ok c =
     let value = sym (ap (value_view (λ a. a)) c.in-Ok.is) ∙ c.in_ok-error.ensures.value in
     let all = literal-accepted c.opening_quote-quote.result c.args.input.now c.opening_quote-quote.new.input c.string_value.new.input c.close_string.new.input c.in-Ok.value (map fault_view c.args.faults.now.items) _ _ c.cur_pos-start.result.0
     c.opening_quote-quote.ensures.quote c.opening_quote-quote.ensures.moved value c.in_ok-error.ensures.faults c.in_ok-error.ensures.moved c.cur_pos-start.ensures c.in_ok-close_string-in-Ok.ensures.faults c.in_ok-close_string-in-Ok.ensures.moved in
     let raw = c.slice.ensures ∙ literal-raw c.args.input.now c.close_string.new.input _ _ all.moved c.cur_pos-start.ensures c.cur_pos.ensures in
-    ap (λ a. Ok (plain_token (Str c.in-Ok.value a))) (c.from-raw.ensures ∙ ap borrowed_atom raw) ∙ all.value
-
-pub returns-in_ok-close_string-in-Ok-clause-faults : goal.returns-in_ok-close_string-in-Ok-clause-faults
-returns-in_ok-close_string-in-Ok-clause-faults c =
-    let value = sym (ap (value_view (λ a. a)) c.in-Ok.is) ∙ c.in_ok-error.ensures.value in
-    (literal-accepted c.opening_quote-quote.result c.args.input.now c.opening_quote-quote.new.input c.string_value.new.input c.close_string.new.input c.in-Ok.value (map fault_view c.args.faults.now.items) _ _ c.cur_pos-start.result.0
-    c.opening_quote-quote.ensures.quote c.opening_quote-quote.ensures.moved value c.in_ok-error.ensures.faults c.in_ok-error.ensures.moved c.cur_pos-start.ensures c.in_ok-close_string-in-Ok.ensures.faults c.in_ok-close_string-in-Ok.ensures.moved).faults
-
-pub returns-in_ok-close_string-in-Ok-clause-moved : goal.returns-in_ok-close_string-in-Ok-clause-moved
-returns-in_ok-close_string-in-Ok-clause-moved c =
-    let value = sym (ap (value_view (λ a. a)) c.in-Ok.is) ∙ c.in_ok-error.ensures.value in
-    (literal-accepted c.opening_quote-quote.result c.args.input.now c.opening_quote-quote.new.input c.string_value.new.input c.close_string.new.input c.in-Ok.value (map fault_view c.args.faults.now.items) _ _ c.cur_pos-start.result.0
-    c.opening_quote-quote.ensures.quote c.opening_quote-quote.ensures.moved value c.in_ok-error.ensures.faults c.in_ok-error.ensures.moved c.cur_pos-start.ensures c.in_ok-close_string-in-Ok.ensures.faults c.in_ok-close_string-in-Ok.ensures.moved).moved
+    record {
+      value = ap (λ a. Ok (plain_token (Str c.in-Ok.value a))) (c.from-raw.ensures ∙ ap borrowed_atom raw) ∙ all.value;
+      faults = all.faults;
+      moved = all.moved;
+      free = λ token h o none. refl;
+    }

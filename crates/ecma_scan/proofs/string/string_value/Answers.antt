@@ -1,4 +1,4 @@
-use Rattle.std.proofs.Common.{◌≡◌, ap, sym, ◌∙◌, map, true, false, Ok}
+use Rattle.std.proofs.Common.{◌≡◌, ap, sym, ◌∙◌, refl, map, true, false, Ok}
 use Rattle.std.specs.Prelude.{string_bytes}
 use Rattle.ecma_token.specs.View.{error_view}
 use Rattle.ecma_scan.specs.EscapeAnswers.{opens_escape}
@@ -7,62 +7,28 @@ use Rattle.ecma_scan.specs.Found.{fault_view, value_view}
 use Rattle.ecma_scan.proofs.StringReading.{plain-value, escaped-value, bad-value, not-borrowed}
 use Rattle.ecma_scan.proofs.string.string_value.Goals as goal
 
-pub returns-then-not-at_escape-clause-value : goal.returns-then-not-at_escape-clause-value
-returns-then-not-at_escape-clause-value c =
+pub returns-then-not-at_escape : goal.returns-then-not-at_escape
+returns-then-not-at_escape c =
     let not : opens_escape (rest c.plain_text-plain.new.input) ≡ false = sym c.at_escape.ensures ∙ c.if-not-at_escape.true in
-    ap (λ a. Ok a) c.from.ensures ∙ (plain-value c.args.quote c.args.input.now c.plain_text-plain.new.input _ (map fault_view c.args.faults.now.items) c.plain_text-plain.ensures.moved c.plain_text-plain.ensures.text not).value
-
-pub returns-then-not-at_escape-clause-faults : goal.returns-then-not-at_escape-clause-faults
-returns-then-not-at_escape-clause-faults c =
-    let not : opens_escape (rest c.plain_text-plain.new.input) ≡ false = sym c.at_escape.ensures ∙ c.if-not-at_escape.true in
-    (plain-value c.args.quote c.args.input.now c.plain_text-plain.new.input _ (map fault_view c.args.faults.now.items) c.plain_text-plain.ensures.moved c.plain_text-plain.ensures.text not).faults
-
-pub returns-then-not-at_escape-clause-moved : goal.returns-then-not-at_escape-clause-moved
-returns-then-not-at_escape-clause-moved c =
-    let not : opens_escape (rest c.plain_text-plain.new.input) ≡ false = sym c.at_escape.ensures ∙ c.if-not-at_escape.true in
-    (plain-value c.args.quote c.args.input.now c.plain_text-plain.new.input _ (map fault_view c.args.faults.now.items) c.plain_text-plain.ensures.moved c.plain_text-plain.ensures.text not).moved
+    let all = plain-value c.args.quote c.args.input.now c.plain_text-plain.new.input _ (map fault_view c.args.faults.now.items) c.plain_text-plain.ensures.moved c.plain_text-plain.ensures.text not in
+    record { value = ap (λ a. Ok a) c.from.ensures ∙ all.value; faults = all.faults; moved = all.moved; free = λ atom h b. refl }
 
 pub returns-in_err-text-clause-free : goal.returns-in_err-text-clause-free
 returns-in_err-text-clause-free c = λ atom h b.
     let opens : opens_escape (rest c.plain_text-plain.new.input) ≡ true = sym c.at_escape.ensures ∙ c.if-not-at_escape.false in
     absurd (not-borrowed c.args.quote c.args.input.now c.plain_text-plain.new.input atom c.plain_text-plain.ensures.moved opens h b)
 
-pub returns-in-Ok-clause-value : goal.returns-in-Ok-clause-value
-returns-in-Ok-clause-value c =
+pub returns-in-Ok : goal.returns-in-Ok
+returns-in-Ok c =
     let opens : opens_escape (rest c.plain_text-plain.new.input) ≡ true = sym c.at_escape.ensures ∙ c.if-not-at_escape.false in
     let value = sym (ap (value_view string_bytes) c.in-Ok.is) ∙ c.in_ok-text.ensures.value in
-    ap (λ a. Ok a) c.from-in-Ok.ensures
-    ∙ (escaped-value c.args.quote c.args.input.now c.plain_text-plain.new.input c.escaped_text.new.input c.plain_text-plain.result.now (string_bytes c.in-Ok.text) (map fault_view c.args.faults.now.items) _
-    c.plain_text-plain.ensures.moved c.plain_text-plain.ensures.text opens value c.in_ok-text.ensures.faults c.in_ok-text.ensures.moved).value
+    let all = escaped-value c.args.quote c.args.input.now c.plain_text-plain.new.input c.escaped_text.new.input c.plain_text-plain.result.now (string_bytes c.in-Ok.text) (map fault_view c.args.faults.now.items) _
+    c.plain_text-plain.ensures.moved c.plain_text-plain.ensures.text opens value c.in_ok-text.ensures.faults c.in_ok-text.ensures.moved in
+    record { value = ap (λ a. Ok a) c.from-in-Ok.ensures ∙ all.value; faults = all.faults; moved = all.moved; free = λ atom h b. refl }
 
-pub returns-in-Ok-clause-faults : goal.returns-in-Ok-clause-faults
-returns-in-Ok-clause-faults c =
-    let opens : opens_escape (rest c.plain_text-plain.new.input) ≡ true = sym c.at_escape.ensures ∙ c.if-not-at_escape.false in
-    let value = sym (ap (value_view string_bytes) c.in-Ok.is) ∙ c.in_ok-text.ensures.value in
-    (escaped-value c.args.quote c.args.input.now c.plain_text-plain.new.input c.escaped_text.new.input c.plain_text-plain.result.now (string_bytes c.in-Ok.text) (map fault_view c.args.faults.now.items) _
-    c.plain_text-plain.ensures.moved c.plain_text-plain.ensures.text opens value c.in_ok-text.ensures.faults c.in_ok-text.ensures.moved).faults
-
-pub returns-in-Ok-clause-moved : goal.returns-in-Ok-clause-moved
-returns-in-Ok-clause-moved c =
-    let opens : opens_escape (rest c.plain_text-plain.new.input) ≡ true = sym c.at_escape.ensures ∙ c.if-not-at_escape.false in
-    let value = sym (ap (value_view string_bytes) c.in-Ok.is) ∙ c.in_ok-text.ensures.value in
-    (escaped-value c.args.quote c.args.input.now c.plain_text-plain.new.input c.escaped_text.new.input c.plain_text-plain.result.now (string_bytes c.in-Ok.text) (map fault_view c.args.faults.now.items) _
-    c.plain_text-plain.ensures.moved c.plain_text-plain.ensures.text opens value c.in_ok-text.ensures.faults c.in_ok-text.ensures.moved).moved
-
-pub returns-in-Err-clause-value : goal.returns-in-Err-clause-value
-returns-in-Err-clause-value c =
+pub returns-in-Err : goal.returns-in-Err
+returns-in-Err c =
     let value = sym (ap (value_view string_bytes) c.in-Err.is) ∙ c.in_ok-text.ensures.value in
-    (bad-value c.args.quote c.args.input.now c.plain_text-plain.new.input c.escaped_text.new.input c.plain_text-plain.result.now (map fault_view c.args.faults.now.items) _ (error_view c.in-Err.error)
-    c.plain_text-plain.ensures.moved c.plain_text-plain.ensures.text value c.in_ok-text.ensures.faults c.in_ok-text.ensures.moved).value
-
-pub returns-in-Err-clause-faults : goal.returns-in-Err-clause-faults
-returns-in-Err-clause-faults c =
-    let value = sym (ap (value_view string_bytes) c.in-Err.is) ∙ c.in_ok-text.ensures.value in
-    (bad-value c.args.quote c.args.input.now c.plain_text-plain.new.input c.escaped_text.new.input c.plain_text-plain.result.now (map fault_view c.args.faults.now.items) _ (error_view c.in-Err.error)
-    c.plain_text-plain.ensures.moved c.plain_text-plain.ensures.text value c.in_ok-text.ensures.faults c.in_ok-text.ensures.moved).faults
-
-pub returns-in-Err-clause-moved : goal.returns-in-Err-clause-moved
-returns-in-Err-clause-moved c =
-    let value = sym (ap (value_view string_bytes) c.in-Err.is) ∙ c.in_ok-text.ensures.value in
-    (bad-value c.args.quote c.args.input.now c.plain_text-plain.new.input c.escaped_text.new.input c.plain_text-plain.result.now (map fault_view c.args.faults.now.items) _ (error_view c.in-Err.error)
-    c.plain_text-plain.ensures.moved c.plain_text-plain.ensures.text value c.in_ok-text.ensures.faults c.in_ok-text.ensures.moved).moved
+    let all = bad-value c.args.quote c.args.input.now c.plain_text-plain.new.input c.escaped_text.new.input c.plain_text-plain.result.now (map fault_view c.args.faults.now.items) _ (error_view c.in-Err.error)
+    c.plain_text-plain.ensures.moved c.plain_text-plain.ensures.text value c.in_ok-text.ensures.faults c.in_ok-text.ensures.moved in
+    record { value = all.value; faults = all.faults; moved = all.moved; free = λ atom h b. refl }
