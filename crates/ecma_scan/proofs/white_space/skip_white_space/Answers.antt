@@ -1,7 +1,6 @@
-use Rattle.std.proofs.Common.{sym}
 use Rattle.ecma_place.specs.Character.{is_white_space, is_line_terminator}
 use Rattle.ecma_place.proofs.RunLemmas.{run-start, run-step, flag-start, flag-step}
-use Rattle.ecma_scan.proofs.WhiteLemmas.{white-jump, white-jump-flag, white-ends, white-ends-flag}
+use Rattle.ecma_scan.proofs.WhiteLemmas.{white-jump, white-jump-flag, white-ends-flag}
 use Rattle.ecma_scan.proofs.white_space.skip_white_space.Goals as goal
 
 pub chars-init : goal.chars-init
