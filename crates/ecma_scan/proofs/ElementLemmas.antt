@@ -99,11 +99,6 @@ line-said mode r now signs old new low low' pending faults faults' text text' h 
     ∙ ap (λ n. line_view mode r low' flag pending faults' n text) (line-place signs old new h moved)
     ∙ ap (λ cs. line_view mode r low' flag pending faults' high cs) t
 
--- a comment that is collected is one
-pub uncollected : {A : Type 0} (b : Bool) (x : A) → collected b (x ∷ []) ≡ [] → b ≡ false
-uncollected true x e = cc
-uncollected false x e = refl
-
 slashes-plain : list_any is_line_terminator (codes "//") ≡ false
 unfolding is_line_terminator
 slashes-plain = refl
@@ -153,10 +148,6 @@ html-closing-said mode r opened said now old behind new start low h s b l n o f 
     ∙ ap (with_comment mode (rest new) (line_comment low (place new) (line (rest behind)))) (f ∙ ap (with_fault (fault_between Module LegacyCommentInModule start low)) o)
     ∙ ap (λ s. line_view mode r low r.flag None ((r.faults ++ pending_fault r.pending s) ++ legacy_comment s low) (place new) (line (rest behind))) s
     ∙ ap (λ t. line_view mode r t r.flag None ((r.faults ++ pending_fault r.pending (place old)) ++ legacy_comment (place old) t) (place new) (line (rest behind))) third)
-
--- a list that ends in an element is not empty
-pub not-empty : {A : Type 0} (xs : List A) (x : A) → xs ++ x ∷ [] ≡ [] → ⊥
-not-empty xs x e = omega (arith, ap length e, length-append xs (x ∷ []))
 
 -- Markers
 
@@ -376,10 +367,6 @@ open-said mode r said now old behind new start high terminator none is s hi te e
     ∙ sym (open-view mode r (place old) (rest old) o d none)
 
 -- what is added is nothing
-pub closed-free : (mode : GapMode) (r : ReadingView) (n : ℕ) (text : Text) (o : Option Text) (d : Text) → is_some o ≡ true → AddsNothing mode n text r (block_of o d) → mode.collect ≡ false
-closed-free mode r n text (Some body) d some h = uncollected mode.collect _ h.0
-closed-free mode r n text None d some h = cc
-
 pub open-free : (mode : GapMode) (r : ReadingView) (n : ℕ) (text : Text) (o : Option Text) (d : Text) → is_some o ≡ false → AddsNothing mode n text r (block_of o d) → ⊥
 open-free mode r n text (Some body) d none h = cc
 open-free mode r n text None d none h = let no = h.1 in cc

@@ -1,21 +1,19 @@
 -- Which element a text begins with, by what its reader sees.
-use Rattle.std.proofs.Common.{◌≡◌, ℕ, ◌+◌, cond, Bool, true, false, not, ◌&&◌, ◌||◌, ◌==◌, [], ◌∷◌, length, drop, slice_get, Option, Some, None, refl, sym, ap, ◌∙◌, arith, replicate, eqb-true, codes, nat_lt}
+use Rattle.std.proofs.Common.{◌≡◌, ℕ, ◌+◌, cond, Bool, true, false, not, ◌&&◌, ◌||◌, ◌==◌, [], ◌∷◌, length, drop, slice_get, Option, Some, None, refl, sym, ap, ◌∙◌, arith, replicate, eqb-true, codes}
 use Rattle.std.specs.Prelude.{is_some, nat_eq}
 use Rattle.std.specs.List.{starts_with}
 use Rattle.std.specs.Str.{chars}
 use Rattle.std.proofs.lemmas.Bool.{and_parts}
-use Rattle.std.proofs.lemmas.Bool.Decides.{nat_tests}
 use Rattle.ecma_place.specs.Text.{Text}
-use Rattle.ecma_place.specs.Cursor.{Cursor, passed, ascii_of}
+use Rattle.ecma_place.specs.Cursor.{Cursor, passed}
 use Rattle.ecma_place.specs.Character.{is_white_space, is_line_terminator}
 use Rattle.ecma_scan.specs.declared.gap.GapMode.{GapMode}
 use Rattle.ecma_scan.specs.Bars.{common_element}
 use Rattle.ecma_scan.specs.Fronts.{begins_with, line, next_is, next_passes}
-use Rattle.ecma_scan.specs.Gaps.{Element, element_text, LineComment, HtmlOpening, HtmlClosing, Marker, block_of, comment_body, common_or, element, elements, elements_if, elements_under, gap, flagged_element, is_inert, is_marker, marker, marks, special_element}
+use Rattle.ecma_scan.specs.Gaps.{Element, element_text, LineComment, HtmlClosing, Marker, block_of, comment_body, elements, elements_if, elements_under, gap, flagged_element, is_marker, marker, marks, special_element}
 use Rattle.ecma_scan.specs.Readings.{ReadingView, with_element, with_next, next_text, AddsNothing, NextAddsNothing}
 use Rattle.ecma_scan.proofs.GapForms.{cond_false, cond_true}
 use Rattle.ecma_scan.proofs.SignLemmas.{html-opening-seen, html-closing-seen}
-use Rattle.ecma_scan.proofs.GapLaws.{no_element, special_none}
 
 -- White space and comments
 
@@ -33,9 +31,6 @@ common-none [] w n e = refl
 common-none (c ∷ cs) w n e = cond_false _ _ _ w ∙ cond_false _ _ _ n ∙ cond_false _ _ _ e
 
 -- HTML-like comments and markers
-
-pub special-opening : (type_mode flag : Bool) (text : Text) → (begins_with (codes "<!--") text && not type_mode) ≡ true → special_element type_mode flag text ≡ Some (HtmlOpening (line (drop 4 text)))
-special-opening type_mode flag text e = cond_true _ _ _ e
 
 -- no `<!--`, or among types
 pub special-flagged : (type_mode flag : Bool) (text : Text) → (begins_with (codes "<!--") text && not type_mode) ≡ false → special_element type_mode flag text ≡ cond flag (flagged_element type_mode text) None
@@ -89,54 +84,6 @@ gap-kept mode text b t k e =
     go : (o : Option Element) → elements_if o mode text ≡ cond (is_some o) (elements mode text) []
     go None = refl
     go (Some e) = refl
-
--- By the first byte
-
-pub at-slash : (mode : GapMode) (flag : Bool) (text : Text) → ascii_of (slice_get text 0) ≡ Some 47 → element mode flag text ≡ common_element text
-at-slash mode flag [] e = cc
-at-slash mode flag (c ∷ cs) e = go (nat_lt c 128) refl e
-  where
-    go : (x : Bool) → nat_lt c 128 ≡ x → cond x (Some c) None ≡ Some 47 → element mode flag (c ∷ cs) ≡ common_element (c ∷ cs)
-    go true h e =
-        let same : c ≡ 47 = cc in
-        ap (common_or c cs) (special_none mode.type_mode flag c cs (ap (λ x. x == 45) same) (ap (λ x. x == 61) same) (ap (λ x. x == 60) same) (ap (λ x. x == 62) same))
-    go false h e = cc
-
--- what is special begins with no slash
-pub at-sign : (mode : GapMode) (flag : Bool) (text : Text) (sign : ℕ) → ascii_of (slice_get text 0) ≡ Some sign → (sign == 47) ≡ false → next_passes is_white_space text ≡ false
-    → element mode flag text ≡ special_element mode.type_mode flag text
-at-sign mode flag [] sign e n w = cc
-at-sign mode flag (c ∷ cs) sign e n w = go (nat_lt c 128) refl e
-  where
-    go : (x : Bool) → nat_lt c 128 ≡ x → cond x (Some c) None ≡ Some sign → element mode flag (c ∷ cs) ≡ special_element mode.type_mode flag (c ∷ cs)
-    go true h e =
-        let same : c ≡ sign = cc in
-        let other : (c == 47) ≡ false = ap (λ x. x == 47) same ∙ n in
-        cond_false _ _ _ w ∙ cond_false _ _ _ (ap (λ x. x && begins_with (codes "/") cs) other) ∙ cond_false _ _ _ (ap (λ x. x && begins_with (codes "*") cs) other)
-    go false h e = cc
-
-no_tests : (a b c d e f : Bool) → a ≡ false → b ≡ false → c ≡ false → d ≡ false → e ≡ false → f ≡ false → not (((((a || b) || c) || d) || e) || f) ≡ true
-no_tests a b c d e f p q r s t u = rw (p, q, r, s, t, u) refl
-
--- no element begins with any other character
-pub at-other : (mode : GapMode) (flag : Bool) (text : Text) → next_passes is_white_space text ≡ false → ((sign : ℕ) → ascii_of (slice_get text 0) ≡ Some sign
-    → ((sign == 47) ≡ false) × ((sign == 60) ≡ false) × ((sign == 45) ≡ false) × ((sign == 61) ≡ false) × ((sign == 62) ≡ false)) → element mode flag text ≡ None
-at-other mode flag [] w others = refl
-at-other mode flag (c ∷ cs) w others = no_element mode flag c cs (go (nat_lt c 128) refl others)
-  where
-    go : (x : Bool) → nat_lt c 128 ≡ x
-        → ((sign : ℕ) → cond x (Some c) None ≡ Some sign → ((sign == 47) ≡ false) × ((sign == 60) ≡ false) × ((sign == 45) ≡ false) × ((sign == 61) ≡ false) × ((sign == 62) ≡ false))
-        → is_inert c ≡ true
-    go true h others =
-        let (a, b, d, e, f) = others c refl in
-        no_tests (is_white_space c) (c == 47) (c == 60) (c == 45) (c == 61) (c == 62) w a b d e f
-    go false h others =
-        let a : (c == 47) ≡ false = grind (arith, nat_tests) in
-        let b : (c == 60) ≡ false = grind (arith, nat_tests) in
-        let d : (c == 45) ≡ false = grind (arith, nat_tests) in
-        let e : (c == 61) ≡ false = grind (arith, nat_tests) in
-        let f : (c == 62) ≡ false = grind (arith, nat_tests) in
-        no_tests (is_white_space c) (c == 47) (c == 60) (c == 45) (c == 61) (c == 62) w a b d e f
 
 -- What is read of the element, where it is known which
 

@@ -1,5 +1,5 @@
 -- Runs of blanks as white space, by bytes.
-use Rattle.std.proofs.Common.{◌≡◌, ℕ, ◌+◌, ◌≤◌, ◌<◌, cond, Bool, true, false, List, [], ◌∷◌, ◌++◌, drop, refl, sym, ap, ◌∙◌, arith, zero, suc, encode_utf8, encode_utf8_all, drop-drop, ◌||◌, ◌==◌, eqb-true}
+use Rattle.std.proofs.Common.{◌≡◌, ℕ, ◌+◌, ◌≤◌, ◌<◌, cond, Bool, true, false, List, [], ◌∷◌, ◌++◌, drop, refl, sym, ap, ◌∙◌, arith, zero, suc, encode_utf8, encode_utf8_all, drop-drop, ◌||◌, ◌==◌, eqb-true, ◌&&◌, nat_le}
 use Rattle.std.specs.List.{prefix_len, take_while, list_any}
 use Rattle.std.proofs.lemmas.List.Sums.{take_while-cons}
 use Rattle.std.proofs.lemmas.Bool.Decides.{nat_tests}
@@ -9,7 +9,8 @@ use Rattle.ecma_place.specs.Character.{is_white_space, is_line_terminator}
 use Rattle.ecma_place.specs.Run.{is_in_class}
 use Rattle.ecma_place.specs.declared.run.ByteClass.TheVariants.{Blank}
 use Rattle.std.proofs.lemmas.Str.{char_from_byte}
-use Rattle.ecma_place.proofs.RunLemmas.{IsOnRun, FlagsRun, passed-later-by, runs}
+use Rattle.ecma_place.proofs.RunLemmas.{IsOnRun, FlagsRun, passed-later-by}
+use Rattle.ecma_scan.specs.Fronts.{next_passes}
 use Rattle.ecma_scan.proofs.LineLemmas.{Stops, within-run}
 
 -- bytes of a class of ASCII begin no other character
@@ -85,4 +86,36 @@ unfolding FlagsRun
 white-jump-flag flag old now next n on e moved =
     rw (moved, behind now (count_within n (rest now))) (ap (λ b. flag || b) (sym (jump now n e).same) ∙ on)
 
-pub ruleset whites = (runs, white-jump, white-jump-flag)
+-- where no white space follows
+
+none-passes : (p : ℕ → Bool) (text : Text) → next_passes p text ≡ false → prefix_len p text ≡ 0
+none-passes p [] e = refl
+none-passes p (c ∷ cs) e = rw e refl
+
+none-taken : (p : ℕ → Bool) (text : Text) → next_passes p text ≡ false → take_while p text ≡ []
+none-taken p [] e = refl
+none-taken p (c ∷ cs) e = rw (take_while-cons p c cs, e) refl
+
+or-false : (x : Bool) → (x || false) ≡ x
+or-false true = refl
+or-false false = refl
+
+pub white-ends : (old now : Cursor) → IsOnRun is_white_space old now → next_passes is_white_space (rest now) ≡ false → now ≡ passed (prefix_len is_white_space (rest old)) old
+white-ends old now on e =
+    let none = none-passes is_white_space (rest now) e in
+    let same : now.at ≡ now.at + prefix_len is_white_space (rest now) = omega (arith, none) in
+    ap (λ (n : ℕ). let moved : Cursor = record { start = now.start; text = now.text; at = n } in moved) same ∙ on.same_end
+
+pub white-ends-flag : (flag : Bool) (old now : Cursor) → FlagsRun is_white_space is_line_terminator flag old now → next_passes is_white_space (rest now) ≡ false
+    → flag ≡ list_any is_line_terminator (take_while is_white_space (rest old))
+unfolding FlagsRun
+white-ends-flag flag old now on e =
+    sym (or-false flag) ∙ ap (λ l. flag || list_any is_line_terminator l) (sym (none-taken is_white_space (rest now) e)) ∙ on
+
+-- what the first byte says of white space
+
+pub white-byte : (b : ℕ) → b < 128 → is_white_space b ≡ ((nat_le 9 b && nat_le b 13) || b == 32)
+unfolding is_white_space is_line_terminator
+white-byte b l = grind (arith, nat_tests)
+
+pub ruleset white_bytes = (white-byte)

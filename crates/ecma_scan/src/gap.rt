@@ -45,7 +45,6 @@ pub struct Gap<'a> {
 }
 
 /// Whether an HTML-like comment or a conflict marker stands at the cursor. `flag` says whether `-->` and markers may.
-
 fn stands_special(input: &StringInput, type_mode: bool, flag: bool) -> bool
     ensures { result ≡ is_some (grammar.special_element type_mode flag (rest input.now)) }
 {
