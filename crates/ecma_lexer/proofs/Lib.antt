@@ -3,6 +3,7 @@ pub mod EndLemmas
 pub mod EndingLemmas
 pub mod ErrorLemmas
 pub mod FrontLemmas
+pub mod OpeningLemmas
 pub mod ReadingLemmas
 pub mod TilingLemmas
 pub mod TokenLemmas

@@ -34,20 +34,22 @@ fn stands_bars(input: &StringInput) -> bool
     input.is_str("||||||| ")
 }
 
-/// What stands at the cursor, which stands before the character `c`, behind a gap whose flag stands or not.
-pub fn opening(input: &StringInput, flag: bool, c: char) -> Opening
-    requires { slice_get (rest input.now) 0 ≡ Some c }
-    ensures { result ≡ grammar.opening flag (rest input.now) }
-{
-    if c.is_ident_start() || c == '\\' {
-        Opening::Word
-    } else if stands_number(input, c) {
-        Opening::Number
-    } else if c == '"' || c == '\'' {
-        Opening::String
-    } else if flag && stands_bars(input) {
-        Opening::Bars
-    } else {
-        Opening::Other
+impl Opening {
+    /// What stands at the cursor, which stands before the character `c`, behind a gap whose flag stands or not.
+    pub fn at(input: &StringInput, flag: bool, c: char) -> Opening
+        requires { slice_get (rest input.now) 0 ≡ Some c }
+        ensures { result ≡ grammar.opening flag (rest input.now) }
+    {
+        if stands_number(input, c) {
+            Opening::Number
+        } else if c == '"' || c == '\'' {
+            Opening::String
+        } else if c.is_ident_start() || c == '\\' {
+            Opening::Word
+        } else if flag && stands_bars(input) {
+            Opening::Bars
+        } else {
+            Opening::Other
+        }
     }
 }

@@ -8,7 +8,7 @@ ghost use Rattle.ecma_scan.specs.Words.{identifier_name, opens_word};
 ghost use Rattle.ecma_lexer.specs.TokenAt as grammar;
 
 use crate::mode::Mode;
-use crate::opening::{Opening, opening};
+use crate::opening::Opening;
 use ecma_place::{Span, StringInput};
 use ecma_scan::{Bars, Found, scan_bars, scan_number, scan_punct, scan_string, scan_word};
 use ecma_syntax::Word;
@@ -155,7 +155,7 @@ pub fn token_at<'a>(
         (input.new ≡ passed (length (grammar.token_at mode.now flag (rest input.old)).spelling) input.old) }
     ensures free { grammar.is_free_at mode.now flag (rest input.old) ≡ true → IsOk result }
 {
-    match opening(input, flag, c) {
+    match Opening::at(input, flag, c) {
         Opening::Number => scan_number(alloc, input, mode.ts1085()),
         Opening::String => scan_string(alloc, input),
         Opening::Word => word_at(alloc, input, mode),
