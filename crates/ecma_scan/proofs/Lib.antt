@@ -12,6 +12,7 @@ pub mod EscapeReading
 mod EscapeRows
 pub mod ExpressionForms
 pub mod ExpressionLaws
+pub mod ExpressionPieces
 pub mod ExpressionReading
 mod ExpressionRows
 pub mod Fronts

@@ -18,6 +18,7 @@ pub mod Shebangs
 pub mod Strings
 pub mod Templates
 pub mod Words
+pub mod WrittenExpressions
 pub mod WrittenNumbers
 pub mod WrittenTemplates
 pub use Rattle.ecma_place.specs.Atom

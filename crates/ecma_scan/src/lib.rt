@@ -3,6 +3,7 @@
 
 mod comment;
 mod escape;
+mod expression;
 pub mod found;
 pub mod gap;
 mod line;
