@@ -16,6 +16,7 @@ mod EscapeRows
 pub mod EscapeSpans
 pub mod ExpressionForms
 pub mod ExpressionLaws
+pub mod ExpressionPieces
 pub mod ExpressionReading
 mod ExpressionRows
 pub mod Fronts

@@ -1,5 +1,5 @@
 -- What is found in a template: text with a meaning or without, a mark, or text that meets the end.
-use Rattle.std.proofs.Common.{◌≡◌, ℕ, ◌+◌, Bool, true, false, ◌==◌, List, [], ◌∷◌, length, drop, Option, Some, None, option_map, Result, Ok, Err, refl, sym, ap, ◌∙◌, encode_utf8_all}
+use Rattle.std.proofs.Common.{◌≡◌, ℕ, ◌+◌, Bool, true, false, ◌==◌, List, [], ◌∷◌, Option, Some, None, option_map, Result, Ok, Err, refl, sym, ap, ◌∙◌, encode_utf8_all}
 use Rattle.std.specs.Prelude.{slice_get}
 use Rattle.std.specs.List.{list_all, list_any}
 use Rattle.ecma_place.specs.Text.{Text, byte_len}
@@ -10,9 +10,7 @@ use Rattle.ecma_token.specs.declared.error.SyntaxError.{UnterminatedTpl}
 use Rattle.ecma_token.specs.declared.token.Token.{BackQuote, DollarLBrace, Template', Ok'}
 use Rattle.ecma_scan.specs.Found.{FoundView, error_behind, span_of, token_behind, found_at}
 use Rattle.ecma_scan.specs.Locality.{ends_template}
-use Rattle.ecma_scan.specs.Pieces.{pieces, spelled}
-use Rattle.ecma_scan.specs.Templates.{TemplatePiece, TemplateEnd, AtEnd, AtBackQuote, AtDollarBrace, template_piece, template_cutter, template_end, is_verbatim, is_break, raw_text, raw_atom, cooked_atom, last_refusal, template_token, token_of_refusal, text_of, mark_of, template_of, template_text, template_found}
-use Rattle.ecma_scan.proofs.PieceLemmas.{pieces_none}
+use Rattle.ecma_scan.specs.Templates.{TemplatePiece, TemplateEnd, AtEnd, AtBackQuote, AtDollarBrace, template_piece, template_end, is_verbatim, is_break, raw_text, raw_atom, cooked_atom, last_refusal, template_token, token_of_refusal, text_of, mark_of, template_found}
 use Rattle.ecma_scan.proofs.TemplateLaws.{is_at_end, same_text}
 use Rattle.ecma_scan.proofs.TemplatePieces.{last_behind}
 

@@ -4,24 +4,22 @@ use Rattle.std.specs.List.{list_all, list_any}
 use Rattle.std.proofs.lemmas.List.{take_at}
 use Rattle.std.proofs.lemmas.Str.{encodes-append}
 use Rattle.ecma_place.specs.Text.{Text, byte_len, slice_between}
-use Rattle.ecma_place.specs.declared.place.Span.{Span}
 use Rattle.ecma_place.specs.Cursor.{Cursor, rest, place, passed}
 use Rattle.ecma_place.proofs.MoveLemmas.{place-passed}
 use Rattle.ecma_place.proofs.RunLemmas.{passed-later-by, text-passed}
-use Rattle.ecma_token.specs.View.{KindView, ErrorView}
-use Rattle.ecma_scan.specs.Found.{error_behind, span_behind, span_of}
+use Rattle.ecma_token.specs.View.{ErrorView}
+use Rattle.ecma_scan.specs.Found.{error_behind, span_of}
 use Rattle.ecma_scan.specs.Fronts.{next_is}
 use Rattle.ecma_scan.specs.Pieces.{pieces, spelled}
 use Rattle.ecma_scan.specs.Escapes.{Refused, InTemplate, escape_behind, line_end}
-use Rattle.ecma_scan.specs.EscapeAnswers.{refusal_error, refusal_kind}
+use Rattle.ecma_scan.specs.EscapeAnswers.{refusal_error}
 use Rattle.ecma_scan.specs.Templates as grammar
 use Rattle.ecma_scan.specs.Templates.{TemplatePiece, Break, Escaped, TemplateRole, Stop, Backslash, Itself, template_role, template_piece_of, piece_text, is_verbatim, is_break, cooked_piece, cooked_text, piece_refusal, newer, last_refusal, template_piece, template_cutter}
 use Rattle.ecma_scan.specs.declared.template.pieces.Piece.{Piece}
 use Rattle.ecma_scan.specs.declared.template.pieces.Piece.TheVariants as written
 use Rattle.ecma_scan.specs.declared.escape.Refusal.{Refusal}
-use Rattle.ecma_scan.specs.declared.escape.Refusal.TheVariants as because
 use Rattle.ecma_scan.specs.declared.escape.Answer.TheVariants as answer
-use Rattle.ecma_scan.specs.WrittenTemplates.{piece_of, first_text, refused_at}
+use Rattle.ecma_scan.specs.WrittenTemplates.{piece_of, first_text}
 use Rattle.ecma_scan.proofs.EscapeBytes.{IsAsciiIfRefused, refused_ascii}
 use Rattle.ecma_scan.proofs.EscapeForms.{rest-behind}
 use Rattle.ecma_scan.proofs.PieceLemmas.{pieces_none, pieces_more}

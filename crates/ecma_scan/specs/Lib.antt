@@ -1,8 +1,6 @@
 pub mod Bars
-pub mod Blanks
 pub mod Comments
 pub mod Cutters
-pub mod DigitRuns
 pub mod EscapeAnswers
 pub mod EscapeParts
 pub mod Escapes
@@ -15,13 +13,13 @@ pub mod NameParts
 pub mod Numbers
 pub mod PieceParts
 pub mod Pieces
-pub mod PlainWords
 pub mod Punctuators
 pub mod Readings
 pub mod Shebangs
 pub mod Strings
 pub mod Templates
 pub mod Words
+pub mod WrittenExpressions
 pub mod WrittenNumbers
 pub mod WrittenTemplates
 pub use Rattle.ecma_place.specs.Atom

@@ -6,6 +6,7 @@ pub mod bars;
 mod comment;
 mod element;
 mod escape;
+mod expression;
 pub mod found;
 pub mod gap;
 mod line;
