@@ -1,5 +1,5 @@
 -- Letters and pieces of a regular expression, as a cursor goes over them.
-use Rattle.std.proofs.Common.{◌≡◌, ℕ, ◌+◌, ◌<◌, Bool, true, false, cond, not, ◌||◌, ◌==◌, List, [], ◌∷◌, ◌++◌, length, take, drop, Option, Some, None, refl, sym, ap, ◌∙◌, arith, length-append, length-drop, eqb-true, IsTrue, ◌↔◌}
+use Rattle.std.proofs.Common.{◌≡◌, ℕ, ◌+◌, ◌<◌, Bool, true, false, cond, ◌||◌, ◌==◌, [], ◌∷◌, ◌++◌, length, drop, Option, Some, None, refl, sym, ap, ◌∙◌, arith, length-append, length-drop, eqb-true, IsTrue, ◌↔◌}
 use Rattle.std.specs.Prelude.{is_some, slice_get}
 use Rattle.std.specs.List.{list_any}
 use Rattle.std.proofs.lemmas.List.{drop_at}
@@ -7,10 +7,10 @@ use Rattle.ecma_place.specs.Text.{Text}
 use Rattle.ecma_place.specs.Character.{is_line_terminator}
 use Rattle.ecma_place.specs.Cursor.{Cursor, rest, passed}
 use Rattle.ecma_place.proofs.RunLemmas.{passed-later-by}
-use Rattle.ecma_scan.specs.Fronts.{front, next_is, in_line, line}
+use Rattle.ecma_scan.specs.Fronts.{front, next_is, line}
 use Rattle.ecma_scan.specs.Pieces.{Cutter, pieces, spelled, remainder}
 use Rattle.ecma_scan.specs.Cutters.{IsCutter}
-use Rattle.ecma_scan.specs.Expressions.{Letter, letter_text, BodyPiece, Class, body_piece_text, ClassRole, ClassStop, ClassBackslash, ClassItself, class_role, class_letter_of, class_letter, class_cutter, class_behind, body_piece, body_cutter}
+use Rattle.ecma_scan.specs.Expressions.{Class, class_letter, class_cutter, class_behind, body_piece, body_cutter}
 use Rattle.ecma_scan.specs.WrittenExpressions.{letter_if, body_if, behind_all, at_line_end}
 use Rattle.ecma_scan.proofs.EscapeForms.{rest-behind, eaten-is, passed-both, first-cons}
 use Rattle.ecma_scan.proofs.PieceLemmas.{cut, tiling, maximal, pieces_none, pieces_more}

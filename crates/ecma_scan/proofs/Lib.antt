@@ -11,6 +11,7 @@ pub mod EscapeLaws
 pub mod EscapeReading
 mod EscapeRows
 pub mod ExpressionForms
+pub mod ExpressionFound
 pub mod ExpressionLaws
 pub mod ExpressionPieces
 pub mod ExpressionReading

@@ -3,7 +3,7 @@
 
 mod comment;
 mod escape;
-mod expression;
+pub mod expression;
 pub mod found;
 pub mod gap;
 mod line;
@@ -17,6 +17,7 @@ pub mod template;
 mod tests;
 pub mod word;
 
+pub use expression::scan_regexp;
 pub use found::{Blame, Found};
 pub use gap::{Gap, GapMode, scan_gap};
 pub use number::scan_number;
