@@ -15,6 +15,7 @@ pub mod EscapeReading
 mod EscapeRows
 pub mod EscapeSpans
 pub mod ExpressionForms
+pub mod ExpressionFound
 pub mod ExpressionLaws
 pub mod ExpressionPieces
 pub mod ExpressionReading

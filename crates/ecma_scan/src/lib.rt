@@ -6,7 +6,7 @@ pub mod bars;
 mod comment;
 mod element;
 mod escape;
-mod expression;
+pub mod expression;
 pub mod found;
 pub mod gap;
 mod line;
@@ -26,6 +26,7 @@ pub mod word;
 
 pub use bars::{Bars, scan_bars};
 pub use escape::scan_escape;
+pub use expression::scan_regexp;
 pub use found::{Blame, Found};
 pub use gap::{Gap, GapMode, scan_gap};
 pub use number::scan_number;

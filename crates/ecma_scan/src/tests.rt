@@ -1,5 +1,6 @@
 //! Each reader once on its happy path, and every punctuator.
 
+mod expressions;
 mod gaps;
 mod numbers;
 mod strings;
