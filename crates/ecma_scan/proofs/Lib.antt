@@ -33,7 +33,6 @@ pub mod NumberDigits
 pub mod NumberForms
 pub mod NumberFound
 pub mod NumberLaws
-pub mod NumberLemmas
 pub mod NumberLocal
 pub mod NumberReading
 pub mod NumberRefusals
