@@ -16,9 +16,9 @@ returns-in_err-value-clause-free c =
     let gap : here ≡ behind_gap mode c.args.input.now = rw c.gap_mode.ensures at c.in_ok-gap.ensures.moved in
     let flag : c.in_ok-gap.gap.line_break ≡ has_line_break (gap_mode mode) (rest c.args.input.now) = rw c.gap_mode.ensures at c.in_ok-gap.ensures.line_break in
     λ h.
-        let free = free-reading mode c.args.input.now h in
-        let token = ap (λ there. is_free_behind mode (has_line_break (gap_mode mode) (rest c.args.input.now)) (rest there)) gap ∙ free.token in
-        absurd (true≢false (sym (c.in_err-value.ensures.free (rw flag (free-token mode _ (rest here) c.in-Some.c (sym c.in-Some.ensures.first) token)))))
+    let free = free-reading mode c.args.input.now h in
+    let token = ap (λ there. is_free_behind mode (has_line_break (gap_mode mode) (rest c.args.input.now)) (rest there)) gap ∙ free.token in
+    absurd (true≢false (sym (c.in_err-value.ensures.free (rw flag (free-token mode _ (rest here) c.in-Some.c (sym c.in-Some.ensures.first) token)))))
 
 pub returns-clause-found : goal.returns-clause-found
 returns-clause-found c =
