@@ -21,7 +21,12 @@ use Rattle.ecma_scan.proofs.PieceLemmas.{pieces_more, pieces_none}
 use Rattle.ecma_scan.proofs.PunctuatorLemmas.{punctuator-front, punctuator-some}
 use Rattle.ecma_scan.proofs.StringLaws.{string_front}
 use Rattle.ecma_scan.proofs.WordLaws.{name_front, word_is_cutter}
+use Rattle.ecma_scan.specs.Found.{scanned}
+use Rattle.ecma_scan.specs.Fronts.{line}
+use Rattle.ecma_scan.specs.Shebangs.{found_shebang, opens_shebang, shebang}
+use Rattle.ecma_scan.proofs.ShebangLemmas as shebangs
 use Rattle.ecma_lexer.specs.Mode.{type_mode}
+use Rattle.ecma_lexer.specs.Reading.{shebang_token}
 use Rattle.ecma_lexer.specs.TokenAt.{token_at, ts1085, opening_from, read_opened, punctuator_or_stray}
 use Rattle.ecma_lexer.specs.declared.mode.Mode.{Mode}
 
@@ -135,3 +140,10 @@ token_at-some mode flag c cs = go (opens_number (c ∷ cs)) (opens_string (c ∷
     go false false true bars n w = word-some c cs w
     go false false false true n w = omega arith
     go false false false false n w = other-some (punctuator_in (type_mode mode) (c ∷ cs)) c cs (punctuator-some (type_mode mode) (c ∷ cs))
+
+-- a shebang is a front of the text that it opens
+pub shebang-front : (text : Text) → opens_shebang text ≡ true → IsFront (shebang_token text).spelling text
+shebang-front text opens =
+    let same : (shebang text).spelling ≡ (shebang_token text).spelling =
+    ap (λ b. (cond b (found_shebang (line (drop 2 text))) (scanned None [])).spelling) opens in
+    ap (λ s. take (length s) text) (sym same) ∙ shebangs.shebang-front text ∙ same

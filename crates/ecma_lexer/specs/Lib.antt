@@ -17,6 +17,7 @@ pub use Rattle.ecma_scan.specs.Found
 pub use Rattle.ecma_scan.specs.Gaps
 pub use Rattle.ecma_scan.specs.Numbers
 pub use Rattle.ecma_scan.specs.Punctuators
+pub use Rattle.ecma_scan.specs.Shebangs
 pub use Rattle.ecma_scan.specs.Strings
 pub use Rattle.ecma_scan.specs.Words
 pub use Rattle.ecma_token.specs.Kinds

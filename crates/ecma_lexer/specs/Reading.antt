@@ -1,12 +1,16 @@
 -- One read: the gap, and then the end or the token at its place.
-use Rattle.std.specs.Prelude.{◌≡◌, ℕ, ◌+◌, Bool, true, ◌||◌, ◌&&◌, List, [], ◌∷◌, ◌++◌, Option, Some, None, length, map}
+use Rattle.std.specs.Prelude.{◌≡◌, ℕ, ◌+◌, Bool, true, false, ◌||◌, ◌&&◌, List, [], ◌∷◌, ◌++◌, Option, Some, None, codes, drop, encode_utf8_all, length, map}
 use Rattle.ecma_place.specs.Text.{Text, byte_len}
 use Rattle.ecma_place.specs.Cursor.{Cursor, rest, place, passed}
 use Rattle.ecma_place.specs.declared.comment.Comment.{Comment}
-use Rattle.ecma_token.specs.View.{TokenView, SpannedView}
-use Rattle.ecma_scan.specs.Found.{Fault, Scanned, fault_behind, token_behind, span_of}
+use Rattle.ecma_place.specs.Atom.{borrowed_atom}
+use Rattle.ecma_token.specs.View.{TokenView, SpannedView, plain_token}
+use Rattle.ecma_token.specs.declared.token.Token.{Shebang}
+use Rattle.ecma_scan.specs.Found.{Fault, Scanned, fault_behind, scanned, token_behind, span_of}
+use Rattle.ecma_scan.specs.Fronts.{line}
 use Rattle.ecma_scan.specs.Comments.{comments_at}
 use Rattle.ecma_scan.specs.Gaps.{gap_spelling, has_line_break, gap_faults_at}
+use Rattle.ecma_scan.specs.Shebangs.{opens_shebang}
 use Rattle.ecma_lexer.specs.Mode.{gap_mode}
 use Rattle.ecma_lexer.specs.TokenAt.{token_at, token_comments, token_of, is_empty, is_free_at}
 use Rattle.ecma_lexer.specs.declared.mode.Mode.{Mode}
@@ -70,21 +74,48 @@ gap_in mode n text =
 abbrev pub behind_gap : Mode → Cursor → Cursor
 behind_gap mode input = passed (length (gap_spelling (gap_mode mode) (rest input))) input
 
--- what a read finds from a cursor on
-unfoldable pub reading : Mode → Cursor → Reading
-reading mode input =
+-- A shebang stands where no token was given (12.5). Its flag is false, which is our own choice.
+
+abbrev pub no_gap : GapView
+no_gap = record { line_break = false; faults = []; comments = [] }
+
+abbrev pub stands_shebang : Mode → Text → Bool
+stands_shebang mode text = mode.none_given && opens_shebang text
+
+abbrev pub shebang_token : Text → Scanned TokenView
+shebang_token text =
+    scanned (plain_token (Shebang (borrowed_atom (encode_utf8_all (line (drop 2 text)))))) (codes "#!" ++ line (drop 2 text))
+
+abbrev pub shebang_reading : Cursor → Reading
+shebang_reading here = token_reading no_gap here (shebang_token (rest here)) []
+
+-- what a read finds where no shebang stands
+unfoldable pub reading_code : Mode → Cursor → Reading
+reading_code mode input =
     reading_behind mode (gap_in mode (place input) (rest input)) (behind_gap mode input) (rest (behind_gap mode input))
+
+abbrev pub reading_if : Bool → Mode → Cursor → Reading
+reading_if true mode input = shebang_reading input
+reading_if false mode input = reading_code mode input
+
+-- what a read finds from a cursor on
+abbrev pub reading : Mode → Cursor → Reading
+reading mode input = reading_if (stands_shebang mode (rest input)) mode input
 
 -- a read takes no memory where nothing is wrong in the gap, no comment is collected, and the token takes none
 abbrev pub is_free_behind : Mode → Bool → Text → Bool
 is_free_behind mode flag [] = true
 is_free_behind mode flag (c ∷ cs) = is_free_at mode flag (c ∷ cs)
 
-abbrev pub is_free : Mode → Cursor → Bool
-is_free mode input =
+abbrev pub is_free_code : Mode → Cursor → Bool
+is_free_code mode input =
     is_empty (gap_in mode (place input) (rest input)).faults
     && (is_empty (gap_in mode (place input) (rest input)).comments
     && is_free_behind mode (has_line_break (gap_mode mode) (rest input)) (rest (behind_gap mode input)))
+
+-- a shebang takes none
+abbrev pub is_free : Mode → Cursor → Bool
+is_free mode input = stands_shebang mode (rest input) || is_free_code mode input
 
 -- Laws
 

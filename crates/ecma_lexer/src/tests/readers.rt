@@ -180,6 +180,19 @@ fn reads_no_marker_among_types(rt: HostRuntime) -> Result<(), Fail> {
 }
 
 #[test]
+fn reads_shebangs(rt: HostRuntime) -> Result<(), Fail> {
+    let alloc = rt.alloc();
+    let rows = [row(0, 3, false, TokenKind::Shebang), row(4, 5, true, NAME)];
+    assert_text(&rt, alloc, "#!x\na", &rows, &[], &[])?;
+    let rows = [
+        row(1, 2, true, TokenKind::Hash),
+        row(2, 3, false, TokenKind::Bang),
+        row(3, 4, false, NAME),
+    ];
+    assert_text(&rt, alloc, " #!x", &rows, &[], &[])
+}
+
+#[test]
 fn reads_block_comments(rt: HostRuntime) -> Result<(), Fail> {
     let alloc = rt.alloc();
     let rows = [row(0, 1, true, NAME), row(6, 7, true, NAME)];
