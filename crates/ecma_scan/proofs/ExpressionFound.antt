@@ -14,10 +14,10 @@ use Rattle.ecma_scan.specs.Fronts.{next_is, in_line, line, behind_line}
 use Rattle.ecma_scan.specs.Pieces.{spelled, remainder}
 use Rattle.ecma_scan.specs.Expressions.{slashed, regex_value, closed_expression, open_expression, expression_behind, regular_expression, flags, body_cutter, body_pieces}
 use Rattle.ecma_scan.specs.WrittenExpressions.{regex_of, behind_all, at_line_end}
-use Rattle.ecma_scan.proofs.EscapeForms.{first-cons, passed-both, rest-behind}
+use Rattle.ecma_scan.proofs.EscapeForms.{passed-both, rest-behind}
 use Rattle.ecma_scan.proofs.EscapeLaws.{begins_is}
 use Rattle.ecma_scan.proofs.ExpressionLaws.{body_is_cutter}
-use Rattle.ecma_scan.proofs.Fronts.{front_after}
+use Rattle.ecma_scan.proofs.Fronts.{front_after, first-cons}
 use Rattle.ecma_scan.proofs.NumberFound.{front-taken}
 use Rattle.ecma_scan.proofs.PieceLemmas.{tiling}
 use Rattle.ecma_scan.proofs.PartFaults.{all_shifted}

@@ -12,7 +12,8 @@ use Rattle.ecma_scan.specs.Pieces.{Cutter, pieces, spelled, remainder}
 use Rattle.ecma_scan.specs.Cutters.{IsCutter}
 use Rattle.ecma_scan.specs.Expressions.{Class, class_letter, class_cutter, class_behind, body_piece, body_cutter}
 use Rattle.ecma_scan.specs.WrittenExpressions.{letter_if, body_if, behind_all, at_line_end}
-use Rattle.ecma_scan.proofs.EscapeForms.{rest-behind, eaten-is, passed-both, first-cons}
+use Rattle.ecma_scan.proofs.EscapeForms.{rest-behind, eaten-is, passed-both}
+use Rattle.ecma_scan.proofs.Fronts.{first-cons}
 use Rattle.ecma_scan.proofs.PieceLemmas.{cut, tiling, maximal, pieces_none, pieces_more}
 use Rattle.ecma_scan.proofs.ExpressionForms.{class_forms, class_lines, expression_is_pieces}
 use Rattle.ecma_scan.proofs.ExpressionLaws.{class_is_cutter, body_is_cutter}

@@ -3,7 +3,7 @@ use Rattle.std.proofs.Common.{◌≡◌, ℕ, ◌<◌, Bool, true, false, not, �
 use Rattle.std.specs.Char.{digit_value}
 use Rattle.std.specs.List.{list_all, list_any}
 use Rattle.std.specs.Str.Parse.{AllDigits}
-use Rattle.std.proofs.lemmas.Bool.{and_parts, eqb-false}
+use Rattle.std.proofs.lemmas.Bool.{and_parts, eqb-false, not-true}
 use Rattle.std.proofs.lemmas.Bool.Decides.{nat_tests}
 use Rattle.std.proofs.lemmas.Str.Parse.{digit_from_value}
 use Rattle.std.proofs.lemmas.Str.{digit_value_digit}
@@ -40,10 +40,6 @@ neither : (a b : Bool) → (a || b) ≡ false → (a ≡ false) × (b ≡ false)
 neither true b e = cc
 neither false b e = (refl, e)
 
-not_true : (b : Bool) → not b ≡ true → b ≡ false
-not_true true e = cc
-not_true false e = refl
-
 octal_digit : (c : ℕ) → in_run Decimal c ≡ true → is_separator c ≡ false → is_past_octal c ≡ false → digit_value c < 8
 octal_digit c e f past =
     let low : digit_value c < 10 = run_digit Decimal c e f in
@@ -68,7 +64,7 @@ octal_run (c ∷ cs) all none =
 -- what is left of a legacy octal is octal digits
 pub octal-digits : (run : Text) → IsNumber (OctalRun run) → AllDigits 8 (without_separators run)
 octal-digits run form =
-    octal_run run form.0 (not_true (list_any is_past_octal run) (and_parts (is_legacy run) (not (list_any is_past_octal run)) form.1).1)
+    octal_run run form.0 (not-true (list_any is_past_octal run) (and_parts (is_legacy run) (not (list_any is_past_octal run)) form.1).1)
 
 -- of a run with a digit something is left
 run_some : (radix : Radix) (run : Text) → list_any (digit radix) run ≡ true → 0 < length (without_separators run)

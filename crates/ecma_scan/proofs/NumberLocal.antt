@@ -1,5 +1,6 @@
 -- What follows a number that is read cleanly may be replaced by any separator, and a number is not empty.
 use Rattle.std.proofs.Common.{◌≡◌, ℕ, ◌<◌, Bool, true, false, not, ◌&&◌, ◌||◌, ◌==◌, [], ◌∷◌, ◌++◌, length, Option, Some, None, refl, ap, ◌∙◌, sym, arith, eqb-true}
+use Rattle.std.proofs.lemmas.Bool.{and_right}
 use Rattle.std.proofs.lemmas.List.{drop_at}
 use Rattle.std.proofs.lemmas.Bool.Decides.{nat_tests}
 use Rattle.ecma_place.specs.Text.{Text, byte_len}
@@ -43,12 +44,8 @@ part_refusal_none (BigRun run) rest r h = refl
 part_refusal_none (OctalRun run) rest r h = refl
 part_refusal_none (DecimalRun run f e) rest r h = exponent_refusal_none (byte_len (run ++ fraction_text f)) e rest r h
 
-and_none : (a b : Bool) → b ≡ false → (a && b) ≡ false
-and_none true b e = e
-and_none false b e = refl
-
 name_refusal_none : (n : Number) (r : Text) → next_passes is_ident_start r ≡ false → name_refusal n r ≡ None
-name_refusal_none n r stop = rw (and_none (not (is_big_number n)) (next_passes is_ident_start r) stop)
+name_refusal_none n r stop = rw (and_right (not (is_big_number n)) (next_passes is_ident_start r) stop)
 
 first_none : (a b : Option ErrorView) → or_else a b ≡ None → a ≡ None
 first_none None b h = refl

@@ -25,7 +25,8 @@ use Rattle.ecma_scan.specs.Strings.{Piece, piece_text, piece_faults, faults_of, 
 use Rattle.ecma_scan.specs.PieceParts.{faults_from, end_from, quoted, unless_refused, behind_refused, ending_from, atom_from, behind_pieces, closing_faults}
 use Rattle.ecma_scan.proofs.PartFaults.{all_shifted}
 use Rattle.ecma_scan.proofs.PieceLemmas.{tiling}
-use Rattle.ecma_scan.proofs.EscapeForms.{rest-behind, first-cons}
+use Rattle.ecma_scan.proofs.EscapeForms.{rest-behind}
+use Rattle.ecma_scan.proofs.Fronts.{first-cons}
 use Rattle.ecma_scan.proofs.StringLaws.{string_is_cutter, string_front}
 use Rattle.ecma_scan.proofs.StringReading.{is_bad, stays}
 

@@ -13,11 +13,13 @@ use Rattle.ecma_scan.specs.Fronts.{next_is}
 use Rattle.ecma_scan.specs.Pieces.{pieces, spelled}
 use Rattle.ecma_scan.specs.Escapes.{Refused, InTemplate, escape_behind, line_end}
 use Rattle.ecma_scan.specs.EscapeAnswers.{refusal_error}
+use Rattle.ecma_scan.specs.EscapeParts.{answer_value}
 use Rattle.ecma_scan.specs.Templates as grammar
 use Rattle.ecma_scan.specs.Templates.{TemplatePiece, Break, Escaped, TemplateRole, Stop, Backslash, Itself, template_role, template_piece_of, piece_text, is_verbatim, is_break, cooked_piece, cooked_text, piece_refusal, newer, last_refusal, template_piece, template_cutter}
 use Rattle.ecma_scan.specs.declared.template.pieces.Piece.{Piece}
 use Rattle.ecma_scan.specs.declared.template.pieces.Piece.TheVariants as written
 use Rattle.ecma_scan.specs.declared.escape.Refusal.{Refusal}
+use Rattle.ecma_scan.specs.declared.escape.Answer.{Answer}
 use Rattle.ecma_scan.specs.declared.escape.Answer.TheVariants as answer
 use Rattle.ecma_scan.specs.WrittenTemplates.{piece_of, first_text}
 use Rattle.ecma_scan.proofs.EscapeBytes.{IsAsciiIfRefused, refused_ascii}
@@ -174,3 +176,17 @@ piece-slice piece old now from to e moved f t =
     let is = piece_read piece old now e moved in
     let same : first_text (rest old) ≡ piece_text (piece_of (first_text (rest old)) piece) = some_text (rest old) _ (sym e) in
     text-passed old now _ from to moved f t ∙ ap encode_utf8_all (ap (λ l. take (length l) (rest old)) same ∙ is.taken ∙ sym same)
+
+-- what an escape stands for that is answered so, as it is added behind these bytes
+cooked-answer : (text : Text) (a : Answer) → answer_value (encode_utf8_all text) a ≡ encode_utf8_all (cooked_piece (piece_of text (written.Escaped a)))
+cooked-answer text answer.Nothing = refl
+cooked-answer text (answer.Character c) = refl
+cooked-answer text (answer.Octal c) = refl
+cooked-answer text answer.Spelling = refl
+cooked-answer text (answer.Refused refusal) = refl
+
+pub cooked-push : (old new spelling : List ℕ) (text : Text) (a : Answer) → new ≡ old ++ answer_value spelling a → spelling ≡ encode_utf8_all text
+    → new ≡ old ++ encode_utf8_all (cooked_piece (piece_of text (written.Escaped a)))
+cooked-push old new spelling text a e is = e ∙ ap (λ bytes. old ++ answer_value bytes a) is ∙ ap (λ bytes. old ++ bytes) (cooked-answer text a)
+
+pub ruleset cooked_answers = (cooked-push)

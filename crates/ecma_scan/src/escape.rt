@@ -14,7 +14,7 @@ ghost use Rattle.ecma_scan.specs.EscapeParts.{escape_value, escape_faults, escap
 ghost use Rattle.ecma_scan.specs.declared.escape.Refusal.TheVariants.{NoBrace};
 ghost use Rattle.ecma_scan.specs.declared.escape.Answer.TheVariants.{Nothing, Octal};
 
-use crate::found::{Blame, Found};
+use crate::found::{Blame, Found, push_fault};
 use ecma_place::{Atom, BytePos, CharExt, Span, StringInput};
 use ecma_token::{Error, SyntaxError};
 use std::alloc::{AllocError, Global};
@@ -323,7 +323,7 @@ pub(crate) fn read_escape(input: &mut StringInput, within: Use) -> Answer
 }
 
 /// The kind of error of a refusal.
-fn refusal_kind<'a>(refusal: Refusal) -> SyntaxError<'a>
+pub(crate) fn refusal_kind<'a>(refusal: Refusal) -> SyntaxError<'a>
     ensures { kind_view result ≡ refusal_kind refusal }
 {
     match refusal {
@@ -398,22 +398,6 @@ pub(crate) fn push_value(
         Answer::Character(c) | Answer::Octal(c) => text.push(c),
         Answer::Spelling => text.push_str(spelling),
     }
-}
-
-/// Adds a fault.
-pub(crate) fn push_fault<'a>(
-    alloc: Global,
-    faults: &mut Vec<(Blame, Error<'a>)>,
-    blame: Blame,
-    span: Span,
-    kind: SyntaxError<'a>,
-) -> Result<(), AllocError>
-    ensures { OnOk result (map fault_view faults.new.items ≡ map fault_view faults.old.items
-        ++ record { blame = blame; error = record { kind = kind_view kind.entry; span = span } } ∷ []) }
-{
-    let error = Error::new(alloc, span, kind)?;
-    faults.push((blame, error))?;
-    Ok(())
 }
 
 /// Adds what is wrong with an escape at `start` in a string or a template.

@@ -1,20 +1,19 @@
 //! Regular expressions.
 ghost use Rattle.std.specs.Prelude.{◌≡◌, ◌≤◌, ◌+◌, ◌∷◌, Some, Ok, true, false, length, drop, is_some, slice_get, encode_utf8_all, IfOk, IsOk, OnOk};
 ghost use Rattle.ecma_place.specs.Atom.{AtomView, borrowed_atom};
-ghost use Rattle.ecma_place.specs.Character.{is_ident_start};
 ghost use Rattle.ecma_place.specs.Cursor.{rest, place, passed};
 ghost use Rattle.ecma_place.specs.Text.{Text, byte_len};
 ghost use Rattle.ecma_token.specs.View.{TokenView, owns_nothing, token_view};
 ghost use Rattle.ecma_scan.specs.Found.{found_view, found_at, placeless, token_behind, value_view};
 ghost use Rattle.ecma_scan.specs.NameParts.{cow_atom};
 ghost use Rattle.ecma_scan.specs.Expressions as grammar;
-ghost use Rattle.ecma_scan.specs.Fronts.{next_is, next_passes};
+ghost use Rattle.ecma_scan.specs.Fronts.{next_is};
 ghost use Rattle.ecma_scan.specs.Pieces.{remainder};
 ghost use Rattle.ecma_scan.specs.WrittenExpressions.{letter_if, body_if, behind_all, at_line_end, regex_of};
 
 use crate::found::Found;
 use crate::line::read_line;
-use crate::name::read_name;
+use crate::name::{begins_name, read_name};
 use ecma_place::{Atom, BytePos, CharExt, Span, StringInput};
 use ecma_token::{Error, SyntaxError, Token};
 use std::alloc::{AllocError, Global};
@@ -123,16 +122,6 @@ fn skip_body(input: &mut StringInput) -> bool
     false
 }
 
-/// Whether a start character stands at the cursor.
-fn begins_flags(input: &StringInput) -> bool
-    ensures { result ≡ next_passes is_ident_start (rest input.now) }
-{
-    match input.cur() {
-        Some(c) => c.is_ident_start(),
-        None => false,
-    }
-}
-
 /// Reads the flags at the cursor: a name, where a start character stands there, else nothing.
 fn read_flags<'a>(
     alloc: Global,
@@ -143,7 +132,7 @@ fn read_flags<'a>(
     ensures moved { OnOk result (input.new ≡ passed (length (grammar.flags (rest input.old)).spelling) input.old) }
     ensures free { (text : AtomView) → (grammar.flags (rest input.old)).value ≡ Ok text → text.is_borrowed ≡ true → IsOk result }
 {
-    if begins_flags(input) {
+    if begins_name(input) {
         return read_name(alloc, input);
     }
     let here = input.cur_pos();

@@ -2,7 +2,7 @@
 ghost use Rattle.std.specs.Prelude.{◌≡◌, ◌++◌, true, [], length, map, option_map, encode_utf8_all, string_bytes, Ok, IfOk, IsOk, OnOk};
 ghost use Rattle.std.specs.List.{prefix_len, take_while};
 ghost use Rattle.ecma_place.specs.Atom.{AtomView};
-ghost use Rattle.ecma_place.specs.Character.{is_ident_part};
+ghost use Rattle.ecma_place.specs.Character.{is_ident_part, is_ident_start};
 ghost use Rattle.ecma_place.specs.Cursor.{rest, place, passed};
 ghost use Rattle.ecma_token.specs.View.{error_view};
 ghost use Rattle.ecma_scan.specs.Found.{found_view, found_at, placeless, fault_view, fault_behind, error_behind, value_view};
@@ -11,14 +11,25 @@ ghost use Rattle.ecma_scan.specs.EscapeAnswers.{opens_escape};
 ghost use Rattle.ecma_scan.specs.EscapeParts.{escape_value, escape_refusal};
 ghost use Rattle.ecma_scan.specs.PieceParts.{faults_from};
 ghost use Rattle.ecma_scan.specs.NameParts.{faults_in, is_named, named_faults, text_from, name_from, behind_pieces, cow_atom};
+ghost use Rattle.ecma_scan.specs.Fronts.{next_passes};
 ghost use Rattle.ecma_scan.specs.Words as grammar;
 
-use crate::escape::{Answer, Use, at_escape, push_fault, push_value, read_escape, refusal_error};
-use crate::found::{Blame, Found};
+use crate::escape::{Answer, Use, at_escape, push_value, read_escape, refusal_error};
+use crate::found::{Blame, Found, push_fault};
 use ecma_place::{ByteClass, CharExt, Span, StringInput};
 use ecma_token::{Error, SyntaxError};
 use std::alloc::{AllocError, Global};
 use std::borrow::CowStr;
+
+/// Whether a start character stands at the cursor.
+pub(crate) fn begins_name(input: &StringInput) -> bool
+    ensures { result ≡ next_passes is_ident_start (rest input.now) }
+{
+    match input.cur() {
+        Some(c) => c.is_ident_start(),
+        None => false,
+    }
+}
 
 /// Moves behind the part characters at the cursor, and answers their text.
 #[tactic(auto, using(ecma_place::proofs::ClassLemmas::word_runs))]

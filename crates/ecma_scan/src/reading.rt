@@ -7,7 +7,7 @@ ghost use Rattle.ecma_scan.specs.Gaps.{pending_fault};
 ghost use Rattle.ecma_scan.specs.Readings.{reading_view, place_of_opening, nothing_read, with_comment, with_fault, with_opening};
 
 use crate::attachment::is_for_next;
-use crate::found::Blame;
+use crate::found::{Blame, push_fault};
 use crate::gap::{Gap, GapMode};
 use ecma_place::{BytePos, Comment, Span, StringInput};
 use ecma_token::{Error, SyntaxError};
@@ -50,9 +50,7 @@ impl<'a> Reading<'a> {
         ensures { OnOk result (reading_view self.new ≡
             with_fault (record { blame = blame; error = record { kind = kind_view kind.entry; span = span } }) (reading_view self.old)) }
     {
-        let error = Error::new(alloc, span, kind)?;
-        self.faults.push((blame, error))?;
-        Ok(())
+        push_fault(alloc, &mut self.faults, blame, span, kind)
     }
 
     /// Adds a comment behind which the cursor stands, where comments are collected.

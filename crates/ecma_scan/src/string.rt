@@ -11,8 +11,8 @@ ghost use Rattle.ecma_scan.specs.Fronts.{next_is};
 ghost use Rattle.ecma_scan.specs.PieceParts.{quoted, faults_from, text_from, atom_from, behind_pieces, closing_faults};
 ghost use Rattle.ecma_scan.specs.Strings as grammar;
 
-use crate::escape::{Use, at_escape, push_escape, push_fault};
-use crate::found::{Blame, Found};
+use crate::escape::{Use, at_escape, push_escape};
+use crate::found::{Blame, Found, push_fault};
 use ecma_place::{Atom, ByteClass, BytePos, Quote, Span, StringInput};
 use ecma_token::{Error, SyntaxError, Token};
 use std::alloc::{AllocError, Global};

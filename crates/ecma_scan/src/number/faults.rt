@@ -1,7 +1,6 @@
 //! What is wrong with a number that is read all the same.
 ghost use Rattle.std.specs.Prelude.{◌≡◌, ◌<◌, ◌+◌, ◌^◌, ◌++◌, ◌∷◌, [], false, length, map, OnOk, IsOk, if◌then◌else◌};
 ghost use Rattle.std.specs.List.{list_any};
-ghost use Rattle.ecma_token.specs.View.{kind_view};
 ghost use Rattle.ecma_scan.specs.Found.{fault_view, fault_behind};
 ghost use Rattle.ecma_token.specs.declared.token.Radix.TheVariants.{Decimal};
 ghost use Rattle.ecma_scan.specs.Fronts.{next_passes};
@@ -9,7 +8,7 @@ ghost use Rattle.ecma_scan.specs.WrittenNumbers.{number_of, fraction_of, exponen
 ghost use Rattle.ecma_scan.specs.Numbers.{OctalRun, DecimalRun};
 ghost use Rattle.ecma_scan.specs.Numbers as grammar;
 
-use crate::found::Blame;
+use crate::found::{Blame, push_fault};
 use crate::number::digits::has_separator;
 use crate::number::parts::{
     WrittenExponent, WrittenFraction, WrittenNumber, fraction_len, is_legacy,
@@ -18,22 +17,6 @@ use crate::number::runs::is_digit;
 use ecma_place::{BytePos, Span};
 use ecma_token::{Error, Radix, SyntaxError};
 use std::alloc::{AllocError, Global};
-
-/// Adds a fault.
-fn push_fault<'a>(
-    alloc: Global,
-    faults: &mut Vec<(Blame, Error<'a>)>,
-    blame: Blame,
-    span: Span,
-    kind: SyntaxError<'a>,
-) -> Result<(), AllocError>
-    ensures { OnOk result (map fault_view faults.new.items ≡ map fault_view faults.old.items
-        ++ record { blame = blame; error = record { kind = kind_view kind.entry; span = span } } ∷ []) }
-{
-    let error = Error::new(alloc, span, kind)?;
-    faults.push((blame, error))?;
-    Ok(())
-}
 
 /// Adds the fault of a separator behind `count` bytes of its run, if it is faulty.
 fn push_separator<'a>(

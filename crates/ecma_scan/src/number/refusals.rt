@@ -1,17 +1,16 @@
 //! Why a number is refused.
 ghost use Rattle.std.specs.Prelude.{◌≡◌, ◌<◌, ◌+◌, ◌^◌, ◌↔◌, ℕ, IsTrue, None, length, option_map, IfOk, IsOk};
 ghost use Rattle.ecma_place.specs.Text.{byte_len};
-ghost use Rattle.ecma_place.specs.Character.{is_ident_start};
 ghost use Rattle.ecma_place.specs.Cursor.{rest, place};
 ghost use Rattle.ecma_token.specs.View.{error_view};
 ghost use Rattle.ecma_scan.specs.Found.{error_behind};
-ghost use Rattle.ecma_scan.specs.Fronts.{next_passes};
 ghost use Rattle.ecma_scan.specs.Numbers as grammar;
 ghost use Rattle.ecma_scan.specs.WrittenNumbers.{number_of, exponent_of};
 
+use crate::name::begins_name;
 use crate::number::parts::{WrittenExponent, WrittenNumber, fraction_len, is_big};
 use crate::number::runs::has_digit;
-use ecma_place::{BytePos, CharExt, Span, StringInput};
+use ecma_place::{BytePos, Span, StringInput};
 use ecma_token::{Error, Radix, SyntaxError};
 use std::alloc::{AllocError, Global};
 
@@ -71,16 +70,6 @@ fn exponent_refusal<'a>(
                 BytePos(behind.0 + sign.len() as u32),
             )
         }
-    }
-}
-
-/// Whether a name begins at the cursor.
-fn begins_name(input: &StringInput) -> bool
-    ensures { result ≡ next_passes is_ident_start (rest input.now) }
-{
-    match input.cur() {
-        Some(c) => c.is_ident_start(),
-        None => false,
     }
 }
 

@@ -6,28 +6,14 @@ ghost use Rattle.ecma_place.specs.Text.{Text};
 ghost use Rattle.ecma_scan.specs.Pieces.{pieces, spelled};
 ghost use Rattle.ecma_scan.specs.Templates as grammar;
 ghost use Rattle.ecma_scan.specs.WrittenTemplates.{piece_of};
-ghost use Rattle.ecma_scan.specs.declared.template.pieces.Piece.TheVariants.{Escaped};
 
-use crate::escape::Answer;
+use crate::escape::push_value;
 use crate::template::pieces::{Piece, read_piece};
 use ecma_place::StringInput;
 use std::alloc::{AllocError, Global};
 
-/// Adds what an escape stands for that is written so.
-fn push_answer(cooked: &mut String, answer: Answer, spelling: &str) -> Result<(), AllocError>
-    ensures { (text : Text) → spelling.now ≡ encode_utf8_all text
-        → OnOk result (string_bytes cooked.new ≡ string_bytes cooked.old ++ encode_utf8_all (grammar.cooked_piece (piece_of text (Escaped answer)))) }
-{
-    match answer {
-        Answer::Nothing => Ok(()),
-        Answer::Character(c) => cooked.push(c),
-        Answer::Octal(c) => cooked.push(c),
-        Answer::Spelling => cooked.push_str(spelling),
-        Answer::Refused(_) => Ok(()),
-    }
-}
-
 /// Adds what a piece means that is written so.
+#[tactic(auto, using(crate::proofs::TemplatePieces::cooked_answers))]
 fn push_piece(cooked: &mut String, piece: Piece, spelling: &str) -> Result<(), AllocError>
     ensures { (text : Text) → spelling.now ≡ encode_utf8_all text
         → OnOk result (string_bytes cooked.new ≡ string_bytes cooked.old ++ encode_utf8_all (grammar.cooked_piece (piece_of text piece))) }
@@ -36,7 +22,7 @@ fn push_piece(cooked: &mut String, piece: Piece, spelling: &str) -> Result<(), A
         Piece::Plain(c) => cooked.push(c),
         Piece::Break(c) => cooked.push(if c == '\r' { '\n' } else { c }),
         Piece::Return(_) => cooked.push('\n'),
-        Piece::Escaped(answer) => push_answer(cooked, answer, spelling),
+        Piece::Escaped(answer) => push_value(cooked, answer, spelling),
     }
 }
 

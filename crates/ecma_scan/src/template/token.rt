@@ -2,43 +2,18 @@
 ghost use Rattle.std.specs.Prelude.{◌≡◌, None, true, option_map, IfOk, IsOk, encode_utf8_all};
 ghost use Rattle.std.specs.List.{list_all};
 ghost use Rattle.ecma_place.specs.Cursor.{rest, place};
-ghost use Rattle.ecma_token.specs.View.{kind_view, token_view};
-ghost use Rattle.ecma_scan.specs.EscapeAnswers as answers;
+ghost use Rattle.ecma_token.specs.View.{token_view};
 ghost use Rattle.ecma_scan.specs.Found.{token_behind};
 ghost use Rattle.ecma_scan.specs.Pieces.{pieces};
 ghost use Rattle.ecma_scan.specs.Templates as grammar;
 ghost use Rattle.ecma_scan.specs.WrittenTemplates.{refused_at};
 
-use crate::escape::Refusal;
+use crate::escape::refusal_kind;
 use crate::template::cooked::cook_text;
 use crate::template::survey::Survey;
 use ecma_place::{Atom, StringInput};
-use ecma_token::{Error, SyntaxError, Token};
+use ecma_token::{Error, Token};
 use std::alloc::{AllocError, Global};
-
-/// The kind of error of a refusal.
-fn refusal_kind<'a>(refusal: Refusal) -> SyntaxError<'a>
-    ensures { kind_view result ≡ answers.refusal_kind refusal }
-{
-    match refusal {
-        Refusal::TwoDigits => SyntaxError::BadCharacterEscapeSequence {
-            expected: "2 hex characters",
-        },
-        Refusal::FourDigits => SyntaxError::BadCharacterEscapeSequence {
-            expected: "4 hex characters",
-        },
-        Refusal::NoDigits => SyntaxError::BadCharacterEscapeSequence {
-            expected: "1-6 hex characters",
-        },
-        Refusal::OutOfRange => SyntaxError::BadCharacterEscapeSequence {
-            expected: "1-6 hex characters in the range 0 to 10FFFF.",
-        },
-        Refusal::NoBrace => SyntaxError::InvalidUnicodeEscape,
-        Refusal::NoCodePoint => SyntaxError::ExpectedUnicodeEscape,
-        Refusal::AtEnd => SyntaxError::InvalidStrEscape,
-        Refusal::Octal => SyntaxError::LegacyOctal,
-    }
-}
 
 /// What the template text at the cursor means, of which this is written. It borrows and takes no memory where it means
 /// what is written.
