@@ -7,7 +7,7 @@ use Rattle.ecma_lex.proofs.Listing.{ErrorsSoFar}
 use Rattle.ecma_lex.proofs.errors.errors_text.Given as goal
 
 abbrev pub invariant-tokens : goal.invariant-tokens
-invariant-tokens l = ErrorsSoFar l.options l.text (lexer_state l.lexer) l.out.items
+invariant-tokens l = ErrorsSoFar l.fn.options l.text (lexer_state l.lexer) l.out.items
 
 abbrev pub decreases-tokens : goal.decreases-tokens
 decreases-tokens l = length (rest l.lexer.input)
