@@ -1,12 +1,12 @@
 -- A loop that lists the tokens of a text.
-use Rattle.std.proofs.Common.{◌≡◌, ℕ, suc, ◌+◌, ◌<◌, ◌≤◌, Bool, true, false, ◌||◌, List, [], ◌∷◌, ◌++◌, Option, Some, None, IsUtf8, length, take, drop, take-append-drop, append-nil, map, refl, reverse, sym, ap, ◌∙◌, arith}
+use Rattle.std.proofs.Common.{◌≡◌, ℕ, suc, ◌<◌, ◌≤◌, Bool, true, false, ◌||◌, List, [], ◌∷◌, ◌++◌, Option, Some, None, IsUtf8, length, take, drop, take-append-drop, append-nil, map, refl, reverse, sym, ap, ◌∙◌, arith}
 use Rattle.std.specs.Prelude.{option_map, flat_map, is_some}
 use Rattle.std.specs.Str.{chars}
 use Rattle.std.proofs.lemmas.Str.{encodes-chars}
 use Rattle.std.proofs.lemmas.List.{map-append}
 use Rattle.std.proofs.lemmas.Grind.{flat_map-append}
 use Rattle.ecma_place.specs.Text.{Text, byte_len}
-use Rattle.ecma_place.specs.Cursor.{rest, place}
+use Rattle.ecma_place.specs.Cursor.{rest}
 use Rattle.ecma_place.proofs.MoveLemmas.{byte_len-append}
 use Rattle.ecma_token.specs.View.{SpannedView}
 use Rattle.ecma_lexer.specs.declared.kept.Kept.{Kept}

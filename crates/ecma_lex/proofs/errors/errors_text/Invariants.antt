@@ -1,8 +1,7 @@
 -- The lines so far are those of the errors of the tokens that so many reads gave, until the end is answered.
-use Rattle.std.proofs.Common.{◌≡◌, length}
+use Rattle.std.proofs.Common.{length}
 use Rattle.ecma_place.specs.Cursor.{rest}
 use Rattle.ecma_lexer.specs.Session.{lexer_state}
-use Rattle.ecma_lex.specs.Begin.{begin}
 use Rattle.ecma_lex.proofs.Listing.{ErrorsSoFar}
 use Rattle.ecma_lex.proofs.errors.errors_text.Given as goal
 
