@@ -1,17 +1,17 @@
 -- A loop that lists the tokens of a text.
-use Rattle.std.proofs.Common.{◌≡◌, ℕ, suc, ◌+◌, ◌<◌, ◌≤◌, Bool, true, false, ◌||◌, List, [], ◌∷◌, ◌++◌, Option, Some, None, IsUtf8, length, take, drop, take-append-drop, append-nil, map, refl, sym, ap, ◌∙◌, arith}
+use Rattle.std.proofs.Common.{◌≡◌, ℕ, suc, ◌<◌, ◌≤◌, Bool, true, false, ◌||◌, List, [], ◌∷◌, ◌++◌, Option, Some, None, IsUtf8, length, take, drop, take-append-drop, append-nil, map, refl, reverse, sym, ap, ◌∙◌, arith}
 use Rattle.std.specs.Prelude.{option_map, flat_map, is_some}
 use Rattle.std.specs.Str.{chars}
 use Rattle.std.proofs.lemmas.Str.{encodes-chars}
 use Rattle.std.proofs.lemmas.List.{map-append}
 use Rattle.std.proofs.lemmas.Grind.{flat_map-append}
 use Rattle.ecma_place.specs.Text.{Text, byte_len}
-use Rattle.ecma_place.specs.Cursor.{rest, place}
+use Rattle.ecma_place.specs.Cursor.{rest}
 use Rattle.ecma_place.proofs.MoveLemmas.{byte_len-append}
 use Rattle.ecma_token.specs.View.{SpannedView}
 use Rattle.ecma_lexer.specs.declared.kept.Kept.{Kept}
 use Rattle.ecma_lexer.specs.declared.step.Step.TheVariants.{SetCtx}
-use Rattle.ecma_lexer.specs.Session.{LexerState, Session, kept_of, state_of}
+use Rattle.ecma_lexer.specs.Session.{LexerState, Session, kept_back, kept_of, state_of}
 use Rattle.ecma_lexer.specs.Ending.{reads, tokens_of}
 use Rattle.ecma_lexer.specs.Run.{mode_of, reading_of, start_of, state_behind}
 use Rattle.ecma_lexer.proofs.EndLemmas.{reading-on, reading-less}
@@ -59,6 +59,17 @@ token-within o bytes utf8 k l so t found =
     let ends = at.2 in
     (order, omega (arith, ends, start, bound, all))
 
+-- no read was made before the run began
+none-given : (o : Options) (bytes : List ℕ) → (begin o bytes).past ≡ []
+none-given o bytes = go (o.«module» || o.strict)
+  where
+    go : (b : Bool) → (begin_if b o (start_of (settings o) (whole bytes))).past ≡ []
+    go true = refl
+    go false = refl
+
+none-read : (o : Options) (bytes : List ℕ) → read_tokens (begin o bytes) 0 ≡ []
+none-read o bytes = ap (λ past. reverse (kept_back past)) (none-given o bytes)
+
 -- less is left behind it
 pub token-less : (l next : LexerState) (t : SpannedView) → (reading_of l).found ≡ Some t → next ≡ state_behind l (reading_of l) → length (rest next.input) < length (rest l.input)
 token-less l next t found moved =
@@ -72,6 +83,11 @@ more-written written s k t more =
     ap (flat_map written) more
     ∙ flat_map-append written (read_tokens s k) (t ∷ [])
     ∙ ap (λ tail. flat_map written (read_tokens s k) ++ tail) (append-nil (written t))
+
+-- no line before the first token
+pub lines-start : (o : Options) (bytes : List ℕ) (l : LexerState) → l ≡ state_of (begin o bytes)
+    → (k : ℕ) × ReadSoFar (begin o bytes) k l × ([] ≡ lines bytes (map kept_of (read_tokens (begin o bytes) k)))
+lines-start o bytes l e = (0, rw e (so_far-start (begin o bytes)), ap (λ ts. lines bytes (map kept_of ts)) (sym (none-read o bytes)))
 
 -- the lines behind one more token
 pub lines-more : (o : Options) (bytes : List ℕ) (k : ℕ) (l next : LexerState) (t : SpannedView) → ReadSoFar (begin o bytes) k l → (reading_of l).found ≡ Some t → next ≡ state_behind l (reading_of l)
@@ -102,7 +118,7 @@ pub record ErrorsSoFar (o : Options) (bytes : List ℕ) (l : LexerState) (out : 
   pub written : out ≡ flat_map token_lines (read_tokens (begin o bytes) count)
 
 pub errors-start : (o : Options) (bytes : List ℕ) (l : LexerState) → l ≡ state_of (begin o bytes) → ErrorsSoFar o bytes l []
-errors-start o bytes l e = record { count = 0; state = rw e (so_far-start (begin o bytes)); written = refl }
+errors-start o bytes l e = record { count = 0; state = rw e (so_far-start (begin o bytes)); written = ap (flat_map token_lines) (sym (none-read o bytes)) }
 
 pub errors-next : (o : Options) (bytes : List ℕ) (l next : LexerState) (out new : List ℕ) → ErrorsSoFar o bytes l out → is_some (reading_of l).found ≡ true
     → next ≡ state_behind l (reading_of l) → new ≡ out ++ found_lines (reading_of l).found → ErrorsSoFar o bytes next new

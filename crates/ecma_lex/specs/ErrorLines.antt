@@ -1,5 +1,6 @@
 -- What is written of the errors of a text: a line each. The form of the lines is our own choice.
 use Rattle.std.specs.Prelude.{ℕ, List, [], ◌∷◌, ◌++◌, Option, Some, None, codes, decimal, flat_map}
+use Rattle.ecma_place.specs.declared.place.Span.{Span}
 use Rattle.ecma_token.specs.View.{ErrorView, SpannedView, TokenView, error_token}
 use Rattle.ecma_lexer.specs.Disposition as lists
 use Rattle.ecma_lexer.specs.Ending.{errors_of, tokens_of}
@@ -8,10 +9,13 @@ use Rattle.ecma_lex.specs.Lines.{escaped}
 use Rattle.ecma_lex.specs.MessageView.{view_message}
 use Rattle.ecma_lex.specs.declared.command.Options.{Options}
 
--- what kind of error it is, where it lies, and what is wrong
+-- what kind of error it is and where it lies, each with a space behind it
+abbrev pub error_head : List ℕ → Span → List ℕ
+error_head what span = what ++ (codes " " ++ (decimal span.lo.0 ++ (codes " " ++ (decimal span.hi.0 ++ codes " "))))
+
+-- the line of an error; what is wrong stands behind its head
 abbrev pub error_line : List ℕ → ErrorView → List ℕ
-error_line what e =
-    (what ++ (codes " " ++ (decimal e.span.lo.0 ++ (codes " " ++ (decimal e.span.hi.0 ++ codes " "))))) ++ escaped (view_message e.kind) ++ 10 ∷ []
+error_line what e = error_head what e.span ++ escaped (view_message e.kind) ++ 10 ∷ []
 
 abbrev pub error_lines : List ℕ → List ErrorView → List ℕ
 error_lines what errors = flat_map (error_line what) errors

@@ -30,11 +30,7 @@ fn context(options: Options) -> Context
 }
 
 /// The lexer of a text that starts at the place 0.
-pub fn begin<'a>(
-    alloc: Global,
-    options: Options,
-    text: &'a str,
-) -> Result<Lexer<'a>, AllocError>
+pub fn begin<'a>(alloc: Global, options: Options, text: &'a str) -> Result<Lexer<'a>, AllocError>
     requires { length text.now < 2 ^ 32 }
     ensures { IfOk result (λ lexer. lexer_state lexer ≡ state_of (grammar.begin options text.now)) }
 {

@@ -53,9 +53,21 @@ impl Options {
         ensures { result ≡ with_option self word.now }
     {
         match word {
-            "ts" => Options { typescript: true, ..self }.once(self.typescript),
-            "module" => Options { module: true, ..self }.once(self.module),
-            "strict" => Options { strict: true, ..self }.once(self.strict),
+            "ts" => Options {
+                typescript: true,
+                ..self
+            }
+            .once(self.typescript),
+            "module" => Options {
+                module: true,
+                ..self
+            }
+            .once(self.module),
+            "strict" => Options {
+                strict: true,
+                ..self
+            }
+            .once(self.strict),
             _ => None,
         }
     }

@@ -1,33 +1,44 @@
 //! What is written of the errors of a text: a line each.
-ghost use Rattle.std.specs.Prelude.{◌≡◌, ◌++◌, ◌^◌, ◌<◌, codes, length, map, is_some, IfOk, OnOk};
-ghost use Rattle.ecma_token.specs.View.{error_view, token_view};
+ghost use Rattle.std.specs.Prelude.{◌≡◌, ◌++◌, ◌^◌, ◌<◌, codes, length, map, string_bytes, is_some, IfOk, OnOk};
+ghost use Rattle.std.specs.Cow.{cow_str_bytes};
+ghost use Rattle.ecma_token.specs.View.{error_view, kind_view, token_view};
 ghost use Rattle.ecma_lexer.specs.Run.{reading_of, state_behind};
 ghost use Rattle.ecma_lexer.specs.Session.{lexer_state};
 ghost use Rattle.ecma_lex.specs.ErrorLines as grammar;
+ghost use Rattle.ecma_lex.specs.MessageView.{view_message};
 
 use crate::begin::begin;
 use crate::command::Options;
 use crate::lines::push_escaped;
 use ecma_lexer::{Lexer, Tokens};
-use ecma_place::Spanned;
-use ecma_token::{Error, Token};
+use ecma_place::{Span, Spanned};
+use ecma_token::{Error, SyntaxError, Token};
 use std::alloc::{AllocError, Global};
+use std::borrow::CowStr;
 
-/// Adds the line of an error.
-#[tactic(auto, using(crate::proofs::Messages::message_of_view))]
-fn push_error(
-    alloc: Global,
-    out: &mut Vec<u8>,
-    what: &str,
-    error: &Error,
-) -> Result<(), AllocError>
-    ensures { OnOk result (out.new.items ≡ out.old.items ++ grammar.error_line what.now (error_view error.now)) }
+/// What kind of error it is and where it lies, each with a space behind it.
+fn head(alloc: Global, what: &str, span: Span) -> Result<String, AllocError>
+    ensures { IfOk result (λ text. string_bytes text ≡ grammar.error_head what.now span) }
 {
-    let span = error.span();
     let lo = span.lo.0;
     let hi = span.hi.0;
-    let head = format!(in alloc; "{what} {lo} {hi} ")?;
-    let message = error.kind().msg(alloc)?;
+    format!(in alloc; "{what} {lo} {hi} ")
+}
+
+/// What is wrong.
+#[tactic(auto, using(crate::proofs::Messages::message_of_view))]
+fn message(alloc: Global, kind: &SyntaxError) -> Result<CowStr<'static>, AllocError>
+    ensures { IfOk result (λ text. cow_str_bytes text ≡ view_message (kind_view kind.now)) }
+{
+    kind.msg(alloc)
+}
+
+/// Adds the line of an error.
+fn push_error(alloc: Global, out: &mut Vec<u8>, what: &str, error: &Error) -> Result<(), AllocError>
+    ensures { OnOk result (out.new.items ≡ out.old.items ++ grammar.error_line what.now (error_view error.now)) }
+{
+    let head = head(alloc, what, error.span())?;
+    let message = message(alloc, error.kind())?;
     out.extend_from_slice(head.as_bytes())?;
     push_escaped(out, message.as_bytes())?;
     out.push(b'\n')?;

@@ -1,5 +1,4 @@
 use Rattle.std.proofs.Common.{◌≡◌, ◌++◌, suc, sym, ap, ◌∙◌, map}
-use Rattle.ecma_place.specs.Cursor.{rest}
 use Rattle.ecma_lexer.specs.Session.{kept_of, lexer_state}
 use Rattle.ecma_lexer.specs.Run.{reading_of}
 use Rattle.ecma_lexer.proofs.EndingLemmas.{so_far-end}

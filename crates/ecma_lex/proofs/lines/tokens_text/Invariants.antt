@@ -9,7 +9,7 @@ use Rattle.ecma_lex.proofs.lines.tokens_text.Given as goal
 
 abbrev pub invariant-tokens : goal.invariant-tokens
 invariant-tokens l =
-    (k : ℕ) × ReadSoFar (begin l.options l.text) k (lexer_state l.lexer) × (l.out.items ≡ lines l.text (map kept_of (read_tokens (begin l.options l.text) k)))
+    (k : ℕ) × ReadSoFar (begin l.fn.options l.text) k (lexer_state l.lexer) × (l.out.items ≡ lines l.text (map kept_of (read_tokens (begin l.fn.options l.text) k)))
 
 abbrev pub decreases-tokens : goal.decreases-tokens
 decreases-tokens l = length (rest l.lexer.input)
