@@ -1,3 +1,4 @@
+pub mod AttachmentRows
 pub mod DeterminedLemmas
 pub mod EndLemmas
 pub mod EndingLemmas
@@ -6,3 +7,4 @@ pub mod FrontLemmas
 pub mod ReadingLemmas
 pub mod TilingLemmas
 pub mod TokenLemmas
+pub mod TransitionRows

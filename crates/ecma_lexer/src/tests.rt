@@ -1,5 +1,8 @@
 //! Rows of the lexer: what texts give from place 0, as ECMAScript with every option off.
+mod comments;
+mod contexts;
 mod error_lists;
+mod states;
 
 use crate::kept::Kept;
 use crate::lexer::Lexer;
