@@ -12,12 +12,20 @@ use Rattle.ecma_syntax.specs.declared.operator.BinOpToken.TheVariants.{Add}
 use Rattle.ecma_scan.specs.Comments.{is_for_next}
 use Rattle.ecma_scan.specs.Found.{span_of}
 use Rattle.ecma_lexer.specs.Attachment.{attachment, attached}
+use Rattle.ecma_lexer.specs.declared.attachment.Around.{Around}
 use Rattle.ecma_lexer.specs.declared.comments_buffer.BufferedComment.{BufferedComment}
 use Rattle.ecma_lexer.specs.declared.comments_buffer.BufferedCommentKind.{BufferedCommentKind}
 use Rattle.ecma_lexer.specs.declared.comments_buffer.BufferedCommentKind.TheVariants.{Leading, Trailing}
 
 abbrev pos : ℕ → BytePos
 pos n = record { 0 = n }
+
+-- the places of a read, in a text from 0 on, behind a token that ends there: a token starts there, or none comes
+abbrev before : ℕ → ℕ → Around
+before end next = record { start = pos 0; end = pos end; next = Some (pos next) }
+
+abbrev ending : ℕ → Around
+ending end = record { start = pos 0; end = pos end; next = None }
 
 abbrev comment : CommentKind → ℕ → ℕ → Comment
 comment kind lo hi = record { kind = kind; span = span_of lo hi; text = borrowed_atom (encode_utf8_all (codes "c")) }
@@ -31,29 +39,29 @@ abbrev placed : BufferedCommentKind → ℕ → CommentKind → ℕ → ℕ → 
 placed kind at of lo hi = attached kind (pos at) (comment of lo hi)
 
 -- `/**/a`
-before_the_first : attachment (pos 0) (pos 0) (Some (pos 4)) (found Block 0 4 true None false ∷ []) ≡ placed Leading 4 Block 0 4 ∷ []
+before_the_first : attachment (before 0 4) (found Block 0 4 true None false ∷ []) ≡ placed Leading 4 Block 0 4 ∷ []
 before_the_first = refl
 
 -- `f() /*a*/ //b`: the block comment waits and stands last
-at_the_end : attachment (pos 0) (pos 3) None (found Block 4 9 false (Some RParen) false ∷ found Line 10 13 false (Some RParen) false ∷ []) ≡ placed Trailing 3 Line 10 13 ∷ placed Trailing 3 Block 4 9 ∷ []
+at_the_end : attachment (ending 3) (found Block 4 9 false (Some RParen) false ∷ found Line 10 13 false (Some RParen) false ∷ []) ≡ placed Trailing 3 Line 10 13 ∷ placed Trailing 3 Block 4 9 ∷ []
 at_the_end = refl
 
 -- `a`, LF, `-->x`, LF, `b`
-behind_a_line : attachment (pos 0) (pos 1) (Some (pos 7)) (found Line 5 6 true (Some RParen) false ∷ []) ≡ placed Leading 7 Line 5 6 ∷ []
+behind_a_line : attachment (before 1 7) (found Line 5 6 true (Some RParen) false ∷ []) ≡ placed Leading 7 Line 5 6 ∷ []
 behind_a_line = refl
 
 -- `a; /*b*/ c`
-behind_a_semicolon : attachment (pos 0) (pos 2) (Some (pos 9)) (found Block 3 8 false (Some Semi) false ∷ []) ≡ placed Trailing 2 Block 3 8 ∷ []
+behind_a_semicolon : attachment (before 2 9) (found Block 3 8 false (Some Semi) false ∷ []) ≡ placed Trailing 2 Block 3 8 ∷ []
 behind_a_semicolon = refl
 
 -- `a + /*b*/;`
-before_a_semicolon : attachment (pos 0) (pos 3) (Some (pos 9)) (found Block 4 9 false (Some (BinOp Add)) true ∷ []) ≡ placed Trailing 3 Block 4 9 ∷ []
+before_a_semicolon : attachment (before 3 9) (found Block 4 9 false (Some (BinOp Add)) true ∷ []) ≡ placed Trailing 3 Block 4 9 ∷ []
 before_a_semicolon = refl
 
 -- `/*a*/`: with no token at all the comment leads the start
-alone : attachment (pos 0) (pos 0) None (found Block 0 5 true None false ∷ []) ≡ placed Leading 0 Block 0 5 ∷ []
+alone : attachment (ending 0) (found Block 0 5 true None false ∷ []) ≡ placed Leading 0 Block 0 5 ∷ []
 alone = refl
 
 -- `#!x`, LF, `//c`
-behind_a_shebang : attachment (pos 0) (pos 3) None (found Line 4 7 true (Some Shebang) false ∷ []) ≡ placed Trailing 3 Line 4 7 ∷ []
+behind_a_shebang : attachment (ending 3) (found Line 4 7 true (Some Shebang) false ∷ []) ≡ placed Trailing 3 Line 4 7 ∷ []
 behind_a_shebang = refl

@@ -111,4 +111,21 @@ impl<'a> CommentsBuffer<'a> {
         let none = Vec::new(*self.pending_leading.allocator());
         mem::replace(&mut self.pending_leading, none)
     }
+
+    /// Puts the comments that wait behind those that have their token, which takes no memory where none waits.
+    ///
+    /// # Errors
+    ///
+    /// `AllocError` where there is no memory for them. They are then lost.
+    pub(crate) fn settle(&mut self) -> Result<(), AllocError>
+        ensures ok { OnOk result (self.new.comments ≡ self.old.comments ++ self.old.pending_leading) }
+        ensures none { self.new.pending_leading ≡ [] }
+        ensures free { self.old.pending_leading ≡ [] → IsOk result }
+    {
+        let mut waiting = self.take_pending_leading();
+        if waiting.is_empty() {
+            return Ok(());
+        }
+        self.comments.append(&mut waiting)
+    }
 }

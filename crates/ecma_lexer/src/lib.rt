@@ -1,6 +1,7 @@
 //! The lexer: what it reads by, the token at a place, and one read after another.
 #![tactic(auto)]
 
+mod attachment;
 pub mod comments_buffer;
 pub mod error_list;
 mod errors;

@@ -1,6 +1,6 @@
 //! How a token changes the contexts, and whether an expression may begin behind it: our own choice, as ECMA-262 leaves
 //! it to the parser when a slash begins a regular expression and where a template goes on.
-ghost use Rattle.std.specs.Prelude.{◌≡◌, ◌<◌, length, IsOk, IfOk, OnErr};
+ghost use Rattle.std.specs.Prelude.{◌≡◌, ◌<◌, ◌≤◌, length, IsOk, IfOk, OnErr};
 ghost use Rattle.ecma_lexer.specs.Transition as grammar;
 ghost use Rattle.ecma_lexer.specs.Transition.{transition, turned};
 
@@ -78,6 +78,7 @@ impl TokenContexts {
         ensures ok { IfOk result (λ _. self.new ≡ grammar.quoted self.old) }
         ensures err { OnErr result (self.new ≡ self.old) }
         ensures free { length self.old < 128 → IsOk result }
+        ensures ends { length (grammar.quoted self.old) ≤ length self.old → IsOk result }
     {
         if self.is_in_template() {
             let _ = self.pop();
@@ -203,6 +204,7 @@ impl Before {
         ensures ok { IfOk result (λ e. turned contexts.new e ≡ grammar.defined pushed self contexts.old flag) }
         ensures err { OnErr result (contexts.new ≡ contexts.old) }
         ensures free { length contexts.old < 128 → IsOk result }
+        ensures no_push { length (grammar.defined pushed self contexts.old flag).contexts ≤ length contexts.old → IsOk result }
     {
         if self.expr_allowed && !self.is_brace_block(contexts, flag) {
             contexts.push(pushed)?;
@@ -220,6 +222,7 @@ impl Before {
         ensures ok { IfOk result (λ e. turned contexts.new e ≡ grammar.keyword_behind self.previous keyword self contexts.old flag) }
         ensures err { OnErr result (contexts.new ≡ contexts.old) }
         ensures free { length contexts.old < 128 → IsOk result }
+        ensures no_push { length (grammar.keyword_behind self.previous keyword self contexts.old flag).contexts ≤ length contexts.old → IsOk result }
     {
         if matches!(self.previous, Some(TokenKind::Dot)) {
             return Ok(false);
@@ -232,7 +235,8 @@ impl Before {
     }
 
     /// Changes the contexts as a token of this kind does, before which a line terminator stands or not (`flag`); whether
-    /// an expression may begin behind it. Fewer than 128 contexts take no memory.
+    /// an expression may begin behind it. This takes no memory where fewer than 128 contexts stand, nor where no context is
+    /// begun.
     ///
     /// # Errors
     ///
@@ -247,6 +251,7 @@ impl Before {
         ensures ok { IfOk result (λ e. turned contexts.new e ≡ transition self contexts.old kind flag) }
         ensures err { OnErr result (contexts.new ≡ contexts.old) }
         ensures free { length contexts.old < 128 → IsOk result }
+        ensures no_push { length (transition self contexts.old kind flag).contexts ≤ length contexts.old → IsOk result }
     {
         match kind {
             TokenKind::Word(WordKind::Keyword(keyword)) => {
