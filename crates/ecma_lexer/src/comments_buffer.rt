@@ -42,6 +42,20 @@ impl<'a> BufferedComment<'a> {
     }
 }
 
+/// Copies of these comments.
+fn copies<'a>(
+    alloc: Global,
+    comments: &[BufferedComment<'a>],
+) -> Result<Vec<BufferedComment<'a>>, AllocError>
+    ensures { IfOk result (λ copies. copies.items ≡ comments.now) }
+{
+    let mut copies = Vec::new(alloc);
+    'comments: for comment in comments {
+        copies.push(comment.copy(alloc)?)?;
+    }
+    Ok(copies)
+}
+
 /// Comments in order: those that have their token, and those that wait for the next one.
 #[derive(Drop)]
 pub struct CommentsBuffer<'a> {
@@ -110,6 +124,21 @@ impl<'a> CommentsBuffer<'a> {
     {
         let none = Vec::new(*self.pending_leading.allocator());
         mem::replace(&mut self.pending_leading, none)
+    }
+
+    /// The same comments.
+    ///
+    /// # Errors
+    ///
+    /// `AllocError` where there is no memory for them.
+    pub fn copy(&self) -> Result<CommentsBuffer<'a>, AllocError>
+        ensures { IfOk result (λ b. b ≡ self.now) }
+    {
+        let alloc = *self.comments.allocator();
+        Ok(CommentsBuffer {
+            comments: copies(alloc, self.comments.as_slice())?,
+            pending_leading: copies(alloc, self.pending_leading.as_slice())?,
+        })
     }
 
     /// Puts the comments that wait behind those that have their token, which takes no memory where none waits.
