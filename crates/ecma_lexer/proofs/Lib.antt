@@ -1,3 +1,4 @@
+pub mod AttachmentRows
 pub mod DeterminedLemmas
 pub mod EndLemmas
 pub mod EndingLemmas
@@ -7,3 +8,4 @@ pub mod OpeningLemmas
 pub mod ReadingLemmas
 pub mod TilingLemmas
 pub mod TokenLemmas
+pub mod TransitionRows

@@ -1,3 +1,6 @@
+pub mod Attachment
+pub mod Buffers
+pub mod Contexts
 pub mod Disposition
 pub mod Ending
 pub mod Errors
@@ -5,8 +8,10 @@ pub mod Mode
 pub mod Reading
 pub mod Run
 pub mod Session
+pub mod State
 pub mod Tiling
 pub mod TokenAt
+pub mod Transition
 pub mod View
 pub use Rattle.ecma_place.specs.Atom
 pub use Rattle.ecma_place.specs.Cursor

@@ -1,6 +1,9 @@
 //! Rows of the lexer: what texts give from place 0, as ECMAScript with every option off.
+mod comments;
+mod contexts;
 mod error_lists;
 mod readers;
+mod states;
 
 use crate::kept::Kept;
 use crate::lexer::Lexer;
