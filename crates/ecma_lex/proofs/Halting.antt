@@ -6,7 +6,7 @@ use Rattle.ecma_lex.specs.declared.fault.Fault.{Fault}
 use Rattle.ecma_lex.specs.declared.fault.Fault.TheVariants.{BadWords, OutOfMemory}
 use Rattle.ecma_lex.specs.declared.fault.Halt.{Halt}
 use Rattle.ecma_lex.specs.declared.fault.Halt.TheVariants.{ReadFailed, Fault as FaultHalt}
-use Rattle.ecma_lex.specs.Command.{command_of}
+use Rattle.ecma_lex.specs.Command.{request_of}
 use Rattle.ecma_lex.specs.Reply.{reply_to, reply_of}
 use Rattle.ecma_lex.specs.Sending.{IsInput, Halts}
 
@@ -15,9 +15,9 @@ pub some_input : (told : Option (List ℕ)) → IsInput told (unwrap_or told [])
 some_input None = tt
 some_input (Some bytes) = refl
 
-pub halts_at_words : (told : Option (List ℕ)) (words : List (List ℕ)) → None ≡ command_of words
+pub halts_at_words : (told : Option (List ℕ)) (words : List (List ℕ)) → None ≡ request_of words
     → (input : List ℕ) × IsInput told input × Halts (reply_of words input) (FaultHalt BadWords)
-halts_at_words told words bad = (unwrap_or told [], some_input told, inl (ap (λ command. reply_to command (unwrap_or told [])) (sym bad)))
+halts_at_words told words bad = (unwrap_or told [], some_input told, inl (ap (λ request. reply_to request (unwrap_or told [])) (sym bad)))
 
 -- a failed reading halts whatever the reply would have been
 pub halts_reading : {A : Type 0} (result : Result A Halt) (halt : Halt) (Made : A → Type 0) (reply : Result (List ℕ) Fault)

@@ -1,4 +1,5 @@
 pub mod Halting
 pub mod Listing
+pub mod Messages
 pub mod Replies
 pub mod Writing

@@ -1,4 +1,7 @@
+pub mod Begin
 pub mod Command
+pub mod ErrorLines
 pub mod Lines
+pub mod MessageView
 pub mod Reply
 pub mod Sending

@@ -1,16 +1,14 @@
 -- What is written of the tokens of a text: a line each. The form of the lines is our own choice.
 use Rattle.std.specs.Prelude.{ℕ, Bool, true, false, List, [], ◌∷◌, ◌++◌, map, flat_map, codes, decimal, slice_range, if◌then◌else◌, ◌==◌}
-use Rattle.std.specs.Str.{chars}
-use Rattle.ecma_place.specs.Cursor.{Cursor}
-use Rattle.ecma_syntax.specs.Defaults as default_of
 use Rattle.ecma_syntax.specs.declared.word.WordKind.{WordKind}
 use Rattle.ecma_syntax.specs.declared.word.WordKind.TheVariants as word
 use Rattle.ecma_token.specs.declared.kind.TokenKind.{TokenKind}
 use Rattle.ecma_token.specs.declared.kind.TokenKind.TheVariants as kind
 use Rattle.ecma_lexer.specs.declared.kept.Kept.{Kept}
 use Rattle.ecma_lexer.specs.Session.{kept_of}
-use Rattle.ecma_lexer.specs.declared.settings.Settings.{Settings}
 use Rattle.ecma_lexer.specs.Ending.{tokens_of}
+use Rattle.ecma_lex.specs.declared.command.Options.{Options}
+use Rattle.ecma_lex.specs.Begin.{begin}
 
 -- a backslash, a line feed and a carriage return are written with a backslash
 abbrev pub escaped_byte : ℕ → List ℕ
@@ -81,14 +79,6 @@ line bytes t = head t ++ escaped (slice_range bytes t.span.lo.0 t.span.hi.0) ++ 
 abbrev pub lines : List ℕ → List Kept → List ℕ
 lines bytes tokens = flat_map (line bytes) tokens
 
--- ECMAScript with every option off, for the fifth edition, without comments
-abbrev pub settings : Settings
-settings = record { syntax = default_of.syntax; target = default_of.version; comments = false }
-
--- the text with these bytes from its start, at the place 0
-abbrev pub whole : List ℕ → Cursor
-whole bytes = record { start = 0; text = chars bytes; at = 0 }
-
--- what is written for a text
-abbrev pub tokens_text : List ℕ → List ℕ
-tokens_text bytes = lines bytes (map kept_of (tokens_of settings (whole bytes)))
+-- what is written of the tokens of a text
+abbrev pub tokens_text : Options → List ℕ → List ℕ
+tokens_text options bytes = lines bytes (map kept_of (tokens_of (begin options bytes)))

@@ -2,10 +2,13 @@
 use Rattle.std.specs.Prelude.{ℕ, List, [], ◌∷◌, ◌++◌, Option, Some, None, Result, Ok, Err, nat_lt, if◌then◌else◌, length, codes}
 use Rattle.std.specs.Str.{is_utf8}
 use Rattle.ecma_lex.specs.declared.command.Command.{Command}
-use Rattle.ecma_lex.specs.declared.command.Command.TheVariants.{Tokens}
+use Rattle.ecma_lex.specs.declared.command.Command.TheVariants.{Tokens, Errors}
+use Rattle.ecma_lex.specs.declared.command.Options.{Options}
+use Rattle.ecma_lex.specs.declared.command.Request.{Request}
 use Rattle.ecma_lex.specs.declared.fault.Fault.{Fault}
 use Rattle.ecma_lex.specs.declared.fault.Fault.TheVariants.{BadWords, NotUtf8, TooLong, OutOfMemory}
-use Rattle.ecma_lex.specs.Command.{command_of}
+use Rattle.ecma_lex.specs.Command.{request_of}
+use Rattle.ecma_lex.specs.ErrorLines.{errors_text}
 use Rattle.ecma_lex.specs.Lines.{tokens_text}
 
 -- the one line that a fault writes
@@ -21,20 +24,24 @@ fault_status NotUtf8 = 3
 fault_status TooLong = 3
 fault_status OutOfMemory = 5
 
--- what a command writes for a text
-abbrev pub program_text : Command → List ℕ → List ℕ
-program_text Tokens bytes = tokens_text bytes
+-- what is written for a text
+abbrev pub command_text : Command → Options → List ℕ → List ℕ
+command_text Tokens options bytes = tokens_text options bytes
+command_text Errors options bytes = errors_text options bytes
+
+abbrev pub program_text : Request → List ℕ → List ℕ
+program_text request bytes = command_text request.command request.options bytes
 
 -- UTF-8 is judged before the length
-abbrev pub reply_to : Option Command → List ℕ → Result (List ℕ) Fault
+abbrev pub reply_to : Option Request → List ℕ → Result (List ℕ) Fault
 reply_to None input = Err BadWords
-reply_to (Some command) input =
-    if is_utf8 input then (if nat_lt (length input) 4_294_967_296 then Ok (program_text command input) else Err TooLong)
+reply_to (Some request) input =
+    if is_utf8 input then (if nat_lt (length input) 4_294_967_296 then Ok (program_text request input) else Err TooLong)
     else Err NotUtf8
 
 -- the words are judged before the input
 abbrev pub reply_of : List (List ℕ) → List ℕ → Result (List ℕ) Fault
-reply_of words input = reply_to (command_of words) input
+reply_of words input = reply_to (request_of words) input
 
 abbrev pub reply_status : Result (List ℕ) Fault → ℕ
 reply_status (Ok text) = 0

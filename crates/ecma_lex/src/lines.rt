@@ -1,12 +1,13 @@
 //! What is written of the tokens of a text: a line each.
 ghost use Rattle.std.specs.Prelude.{◌≡◌, ◌++◌, ◌+◌, ◌^◌, ◌<◌, ◌≤◌, length, string_bytes, option_map, IfOk, OnOk};
 ghost use Rattle.ecma_lexer.specs.Run.{reading_of, state_behind};
-ghost use Rattle.ecma_lexer.specs.Session.{kept_of};
+ghost use Rattle.ecma_lexer.specs.Session.{kept_of, lexer_state};
 ghost use Rattle.ecma_lex.specs.Lines as grammar;
 
+use crate::begin::begin;
+use crate::command::Options;
 use ecma_lexer::{Kept, Lexer};
-use ecma_place::{BytePos, StringInput};
-use ecma_syntax::{EsVersion, Syntax, WordKind};
+use ecma_syntax::WordKind;
 use ecma_token::TokenKind;
 use std::alloc::{AllocError, Global};
 
@@ -95,7 +96,7 @@ fn push_escaped_byte(out: &mut Vec<u8>, byte: u8) -> Result<(), AllocError>
 }
 
 /// Adds the bytes, each as `push_escaped_byte` does.
-fn push_escaped(out: &mut Vec<u8>, bytes: &[u8]) -> Result<(), AllocError>
+pub fn push_escaped(out: &mut Vec<u8>, bytes: &[u8]) -> Result<(), AllocError>
     ensures { OnOk result (out.new.items ≡ out.old.items ++ grammar.escaped bytes.now) }
 {
     for byte in bytes {
@@ -122,8 +123,8 @@ fn push_line(alloc: Global, out: &mut Vec<u8>, bytes: &[u8], token: Kept) -> Res
 
 /// What is kept of the next token, or nothing at the end.
 fn next_kept(lexer: &mut Lexer) -> Result<Option<Kept>, AllocError>
-    ensures kept { IfOk result (λ kept. kept ≡ option_map kept_of (reading_of lexer.old).found) }
-    ensures after { OnOk result (lexer.new ≡ state_behind lexer.old (reading_of lexer.old)) }
+    ensures kept { IfOk result (λ kept. kept ≡ option_map kept_of (reading_of (lexer_state lexer.old)).found) }
+    ensures after { OnOk result (lexer_state lexer.new ≡ state_behind (lexer_state lexer.old) (reading_of (lexer_state lexer.old))) }
 {
     match lexer.read()? {
         Some(token) => Ok(Some(Kept::from(token))),
@@ -132,12 +133,11 @@ fn next_kept(lexer: &mut Lexer) -> Result<Option<Kept>, AllocError>
 }
 
 /// The lines of the tokens of a text that starts at the place 0.
-pub fn tokens_text(alloc: Global, text: &str) -> Result<Vec<u8>, AllocError>
+pub fn tokens_text(alloc: Global, options: Options, text: &str) -> Result<Vec<u8>, AllocError>
     requires { length text.now < 2 ^ 32 }
-    ensures { IfOk result (λ out. out.items ≡ grammar.tokens_text text.now) }
+    ensures { IfOk result (λ out. out.items ≡ grammar.tokens_text options text.now) }
 {
-    let input = StringInput::new(text, BytePos(0));
-    let mut lexer = Lexer::new(alloc, Syntax::default(), EsVersion::default(), input, false);
+    let mut lexer = begin(alloc, options, text)?;
     let mut out = Vec::new(alloc);
     'tokens: while let Some(token) = next_kept(&mut lexer)? {
         push_line(alloc, &mut out, text.as_bytes(), token)?;

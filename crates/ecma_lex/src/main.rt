@@ -1,7 +1,9 @@
 //! Reads a text from standard input, and writes what the words of the command line ask for.
 #![tactic(auto)]
 
+mod begin;
 mod command;
+mod errors;
 mod fault;
 mod input;
 mod lines;

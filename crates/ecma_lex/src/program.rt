@@ -1,11 +1,11 @@
 //! Words and bytes in, lines out.
 ghost use Rattle.std.specs.Prelude.{◌≡◌, ◌⊎◌, ℕ, List, MatchResult, Some, None, Ok, Err, map, string_bytes, IsOkAnd};
 ghost use Rattle.std.specs.Io.KnownBytes.{Appends};
-ghost use Rattle.ecma_lex.specs.Command.{command_of};
+ghost use Rattle.ecma_lex.specs.Command.{request_of};
 ghost use Rattle.ecma_lex.specs.Reply.{reply_to, reply_of, fault_line};
 ghost use Rattle.ecma_lex.specs.Sending.{Answers, IsInput, Halts, Sends};
 
-use crate::command::Command;
+use crate::command::Request;
 use crate::fault::{Fault, Halt};
 use crate::input::read_all;
 use crate::output::{FAILED, send, send_fault};
@@ -18,12 +18,12 @@ const LONGEST: usize = 4_294_967_295;
 /// So many reads are made; a reader that has not ended then is taken for one that never ends.
 const MOST_TURNS: u64 = 4_294_967_296;
 
-/// What the command makes of the input, which may be no text or one that is too long.
+/// What the request makes of the input, which may be no text or one that is too long.
 #[tactic(auto, using(crate::proofs::Replies::reply_not_utf8, crate::proofs::Replies::reply_too_long, crate::proofs::Replies::reply_whole))]
-fn text_for(alloc: Global, command: Command, input: &[u8]) -> Result<Vec<u8>, Fault>
+fn text_for(alloc: Global, request: Request, input: &[u8]) -> Result<Vec<u8>, Fault>
     ensures { MatchResult result
-        (λ text. reply_to (Some command) input.now ≡ Ok text.items)
-        (λ fault. (reply_to (Some command) input.now ≡ Err fault) ⊎ (fault ≡ Fault.OutOfMemory)) }
+        (λ text. reply_to (Some request) input.now ≡ Ok text.items)
+        (λ fault. (reply_to (Some request) input.now ≡ Err fault) ⊎ (fault ≡ Fault.OutOfMemory)) }
 {
     let Ok(text) = str::from_utf8(input) else {
         return Err(Fault::NotUtf8);
@@ -31,7 +31,7 @@ fn text_for(alloc: Global, command: Command, input: &[u8]) -> Result<Vec<u8>, Fa
     if text.len() > LONGEST {
         return Err(Fault::TooLong);
     }
-    command.text(alloc, text).map_err(|_| Fault::OutOfMemory)
+    request.text(alloc, text).map_err(|_| Fault::OutOfMemory)
 }
 
 /// Judges the words, reads all of the input, and makes the text that is to be written.
@@ -39,14 +39,14 @@ fn reply<R: Read>(alloc: Global, words: &[String], reader: &mut R) -> Result<Vec
     ensures made { (input : List ℕ) × IsInput (R.remaining reader.old) input × MatchResult result
         (λ text. reply_of (map string_bytes words.now) input ≡ Ok text.items)
         (λ halt. Halts (reply_of (map string_bytes words.now) input) halt) }
-    ensures bad_words { command_of (map string_bytes words.now) ≡ None →
+    ensures bad_words { request_of (map string_bytes words.now) ≡ None →
         (result ≡ Err (Halt.Fault Fault.BadWords)) × (reader.new ≡ reader.old) }
 {
-    let Some(command) = Command::from_words(words) else {
+    let Some(request) = Request::from_words(words) else {
         return Err(Halt::Fault(Fault::BadWords));
     };
     let input = read_all(alloc, reader, MOST_TURNS)?;
-    let text = text_for(alloc, command, input.as_slice())?;
+    let text = text_for(alloc, request, input.as_slice())?;
     Ok(text)
 }
 
@@ -57,7 +57,7 @@ pub fn run<R: Read, W: Write>(alloc: Global, words: &[String], reader: &mut R, w
     ensures answers { (input : List ℕ) × IsInput (R.remaining reader.old) input ×
         Answers (reply_of (map string_bytes words.now) input) (W.contents writer.old) (W.contents writer.new) result }
     // Bad words are told of without asking the reader or for memory.
-    ensures bad_words { command_of (map string_bytes words.now) ≡ None →
+    ensures bad_words { request_of (map string_bytes words.now) ≡ None →
         Sends 2 (fault_line Fault.BadWords) (W.contents writer.old) (W.contents writer.new) result × (reader.new ≡ reader.old) }
     // Status 0: what went out is what the words ask for of the input, and nothing else.
     ensures whole { result ≡ 0 → (input : List ℕ) × IsInput (R.remaining reader.old) input ×

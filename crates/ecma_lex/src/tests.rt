@@ -118,17 +118,26 @@ fn assert_run(
     assert_eq!(rt; writer.as_slice(), output);
 }
 
-/// Runs over memory, and asserts what one word of the command line and an input give.
-fn assert_word(
+/// Runs over memory, and asserts what the words of the command line and an input give.
+fn assert_words(
     rt: &impl Abort,
     alloc: Global,
-    word: &str,
+    words: &[&str],
+    input: &[u8],
     status: u8,
     output: &[u8],
 ) -> Result<(), Fail> {
-    let words = vec![in alloc; String::from_str(alloc, word)?]?;
-    assert_run(rt, alloc, words.as_slice(), b";", status, output);
+    let mut given = Vec::new(alloc);
+    for word in words {
+        given.push(String::from_str(alloc, word)?)?;
+    }
+    assert_run(rt, alloc, given.as_slice(), input, status, output);
     Ok(())
+}
+
+/// Asserts that the words are bad.
+fn assert_bad(rt: &impl Abort, alloc: Global, words: &[&str]) -> Result<(), Fail> {
+    assert_words(rt, alloc, words, b";", 2, b"bad words\n")
 }
 
 #[test]
@@ -146,7 +155,7 @@ fn writes_the_tokens(rt: HostRuntime) {
         0,
         b"0 1 lf Ident a\n2 3 lf Ident b\n",
     );
-    assert_run(&rt, alloc, &[], b"\"", 0, b"0 1 lf Error \"\n");
+    assert_run(&rt, alloc, &[], b"\"", 0, b"0 1 lf Str \"\n");
     assert_run(&rt, alloc, &[], b"\\", 0, b"0 1 lf Error \\\\\n");
 }
 
@@ -154,15 +163,105 @@ fn writes_the_tokens(rt: HostRuntime) {
 fn tells_of_faults(rt: HostRuntime) -> Result<(), Fail> {
     let alloc = rt.alloc();
     assert_run(&rt, alloc, &[], b"\xff", 3, b"not UTF-8\n");
-    assert_word(&rt, alloc, "tokens", 0, b"0 1 lf Semi ;\n")?;
-    assert_word(&rt, alloc, "comments", 2, b"bad words\n")?;
-    assert_word(&rt, alloc, "Tokens", 2, b"bad words\n")?;
-    let twice = vec![in alloc;
-        String::from_str(alloc, "tokens")?,
-        String::from_str(alloc, "tokens")?,
-    ]?;
-    assert_run(&rt, alloc, twice.as_slice(), b";", 2, b"bad words\n");
-    Ok(())
+    assert_words(&rt, alloc, &["errors"], b"\xff", 3, b"not UTF-8\n")
+}
+
+#[test]
+fn judges_the_words(rt: HostRuntime) -> Result<(), Fail> {
+    let alloc = rt.alloc();
+    assert_words(&rt, alloc, &["tokens"], b";", 0, b"0 1 lf Semi ;\n")?;
+    assert_words(
+        &rt,
+        alloc,
+        &["tokens", "strict", "ts", "module"],
+        b";",
+        0,
+        b"0 1 lf Semi ;\n",
+    )?;
+    assert_bad(&rt, alloc, &["comments"])?;
+    assert_bad(&rt, alloc, &["Tokens"])?;
+    assert_bad(&rt, alloc, &[""])?;
+    assert_bad(&rt, alloc, &["ts"])?;
+    assert_bad(&rt, alloc, &["tokens", "tokens"])?;
+    assert_bad(&rt, alloc, &["errors", "x"])?;
+    assert_bad(&rt, alloc, &["errors", "ts", "ts"])?;
+    assert_bad(&rt, alloc, &["tokens", "module", "ts", "module"])?;
+    assert_bad(&rt, alloc, &["tokens", "strict", "strict"])
+}
+
+#[test]
+fn writes_the_errors_of_tokens(rt: HostRuntime) -> Result<(), Fail> {
+    let alloc = rt.alloc();
+    let words = ["errors"].as_slice();
+    assert_words(&rt, alloc, words, b"let x = 1;", 0, b"")?;
+    assert_words(
+        &rt,
+        alloc,
+        words,
+        b"\0a",
+        0,
+        b"token 0 0 Unexpected character '\\\\0'\n",
+    )?;
+    assert_words(
+        &rt,
+        alloc,
+        words,
+        b"\\u0062reak",
+        0,
+        b"token 0 10 Unexpected escape sequence in reserved word: break\n",
+    )?;
+    let lines =
+        b"token 1 4 Bad character escape sequence, expected 2 hex characters\nrecorded 4 5 Unterminated string constant\n";
+    assert_words(&rt, alloc, words, b"'\\x4'", 0, lines)
+}
+
+#[test]
+fn writes_the_lists(rt: HostRuntime) -> Result<(), Fail> {
+    let alloc = rt.alloc();
+    let comment = b"a\n-->x".as_slice();
+    assert_words(
+        &rt,
+        alloc,
+        &["errors"],
+        comment,
+        0,
+        b"waiting 2 5 Legacy comments cannot be used in module code\n",
+    )?;
+    assert_words(
+        &rt,
+        alloc,
+        &["errors", "module"],
+        comment,
+        0,
+        b"recorded 2 5 Legacy comments cannot be used in module code\n",
+    )?;
+    assert_words(
+        &rt,
+        alloc,
+        &["errors"],
+        b"1__2",
+        0,
+        b"recorded 0 1 A numeric separator is only allowed between two digits\n",
+    )?;
+    assert_words(
+        &rt,
+        alloc,
+        &["errors"],
+        b"08.1",
+        0,
+        b"waiting 0 2 Legacy decimal escape is not permitted in strict mode\n",
+    )?;
+    assert_words(
+        &rt,
+        alloc,
+        &["errors", "strict"],
+        b"08.1",
+        0,
+        b"recorded 0 2 Legacy decimal escape is not permitted in strict mode\n",
+    )?;
+    let lines =
+        b"recorded 0 3 Legacy octal literals are not available when targeting ECMAScript 5 and higher\nwaiting 0 3 Legacy octal escape is not permitted in strict mode\n";
+    assert_words(&rt, alloc, &["errors", "ts"], b"012", 0, lines)
 }
 
 #[test]

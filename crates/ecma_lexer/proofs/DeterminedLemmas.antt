@@ -1,15 +1,14 @@
 -- What a read finds depends on the mode, on what is left, and on the place of that alone.
-use Rattle.std.proofs.Common.{◌≡◌, ℕ, ◌+◌, ◌||◌, Bool, [], ◌∷◌, length, take, drop, map, Some, refl, sym, ap, ◌∙◌}
+use Rattle.std.proofs.Common.{◌≡◌, ℕ, ◌+◌, ◌||◌, Bool, true, false, [], ◌∷◌, ◌++◌, length, take, drop, map, Some, refl, sym, ap, subst, ◌∙◌}
 use Rattle.std.proofs.lemmas.List.{drop-drop}
 use Rattle.ecma_place.specs.Cursor.{Cursor, rest, place, passed}
 use Rattle.ecma_place.specs.Text.{Text, byte_len}
 use Rattle.ecma_place.proofs.MoveLemmas.{place-passed}
-use Rattle.ecma_token.specs.View.{TokenView}
-use Rattle.ecma_scan.specs.Blanks.{gap_spelling, has_line_break}
-use Rattle.ecma_scan.specs.Found.{Scanned, fault_behind, token_behind, span_of}
+use Rattle.ecma_scan.specs.Gaps.{gap_spelling}
+use Rattle.ecma_scan.specs.Found.{fault_behind, token_behind, span_of}
 use Rattle.ecma_lexer.specs.Mode.{gap_mode}
-use Rattle.ecma_lexer.specs.Reading.{IsSameReading, ReadingIsDetermined, reading, reading_behind, token_reading}
-use Rattle.ecma_lexer.specs.TokenAt.{token_at, token_of}
+use Rattle.ecma_lexer.specs.Reading.{GapView, IsSameReading, ReadingIsDetermined, gap_in, no_gap, reading, reading_behind, reading_code, reading_if, reading_token, shebang_reading, shebang_token, stands_shebang, token_reading}
+use Rattle.ecma_lexer.specs.TokenAt.{token_at, token_comments, token_of}
 use Rattle.ecma_lexer.specs.declared.mode.Mode.{Mode}
 
 -- cursors before which the same stands in the same place
@@ -33,27 +32,57 @@ alike_passed n a b h = record {
       ∙ sym (place-behind n b);
 }
 
-same_token : (flag : Bool) (a b : Cursor) (s : Scanned TokenView) → Alike a b → IsSameReading (token_reading flag a s) (token_reading flag b s)
-same_token flag a b s h =
+same_token : (mode : Mode) (gap : GapView) (a b : Cursor) (text : Text) → Alike a b → IsSameReading (reading_token mode gap a text) (reading_token mode gap b text)
+same_token mode gap a b text h =
+    let s = token_at mode gap.line_break text in
     let behind = alike_passed (length s.spelling) a b h in
     record {
-      found = ap (λ p. Some record { token = token_behind p (token_of s.value); had_line_break = flag || s.line_break; span = span_of p (p + byte_len s.spelling) }) h.stands;
+      found = ap (λ p. Some record { token = token_behind p (token_of s.value); had_line_break = gap.line_break || s.line_break; span = span_of p (p + byte_len s.spelling) }) h.stands;
       end_flag = refl;
-      faults = ap (λ p. map (fault_behind p) s.faults) h.stands;
+      faults = ap (λ p. gap.faults ++ map (fault_behind p) s.faults) h.stands;
+      comments = ap (λ p. gap.comments ++ token_comments mode gap.line_break p text) h.stands;
       left = behind.left;
       stands = behind.stands;
     }
 
-same_behind : (mode : Mode) (flag : Bool) (a b : Cursor) (text : Text) → Alike a b → IsSameReading (reading_behind mode flag a text) (reading_behind mode flag b text)
-same_behind mode flag a b [] h = record { found = refl; end_flag = refl; faults = refl; left = h.left; stands = h.stands }
-same_behind mode flag a b (c ∷ cs) h = same_token flag a b (token_at mode (c ∷ cs)) h
+same_behind : (mode : Mode) (gap : GapView) (a b : Cursor) (text : Text) → Alike a b → IsSameReading (reading_behind mode gap a text) (reading_behind mode gap b text)
+same_behind mode gap a b [] h =
+    record { found = refl; end_flag = refl; faults = refl; comments = refl; left = h.left; stands = h.stands }
+same_behind mode gap a b (c ∷ cs) h = same_token mode gap a b (c ∷ cs) h
 
-pub reading_is_determined : ReadingIsDetermined
-unfolding reading
-reading_is_determined mode a b left stands =
+code_is_determined : (mode : Mode) (a b : Cursor) → Alike a b → IsSameReading (reading_code mode a) (reading_code mode b)
+unfolding reading_code
+code_is_determined mode a b h =
     let m = gap_mode mode in
     let n = length (gap_spelling m (rest a)) in
-    let same : length (gap_spelling m (rest b)) ≡ n = ap (λ l. length (gap_spelling m l)) (sym left) in
-    let flag : has_line_break m (rest b) ≡ has_line_break m (rest a) = ap (has_line_break m) (sym left) in
-    let behind = alike_passed n a b record { left = left; stands = stands } in
-    rw (same, flag, ← behind.left) (same_behind mode (has_line_break m (rest a)) (passed n a) (passed n b) (rest (passed n a)) behind)
+    let same : length (gap_spelling m (rest b)) ≡ n = ap (λ l. length (gap_spelling m l)) (sym h.left) in
+    let gap : gap_in mode (place b) (rest b) ≡ gap_in mode (place a) (rest a) =
+    ap (λ p. gap_in mode p (rest b)) (sym h.stands) ∙ ap (gap_in mode (place a)) (sym h.left) in
+    let behind = alike_passed n a b h in
+    rw (same, gap, ← behind.left) (same_behind mode (gap_in mode (place a) (rest a)) (passed n a) (passed n b) (rest (passed n a)) behind)
+
+shebang_is_determined : (a b : Cursor) → Alike a b → IsSameReading (shebang_reading a) (shebang_reading b)
+shebang_is_determined a b h =
+    let s = shebang_token (rest a) in
+    let same : shebang_token (rest b) ≡ s = ap shebang_token (sym h.left) in
+    let behind = alike_passed (length s.spelling) a b h in
+    let there : IsSameReading (shebang_reading a) (token_reading no_gap b s []) =
+    record {
+      found = ap (λ p. Some record { token = token_behind p (token_of s.value); had_line_break = false; span = span_of p (p + byte_len s.spelling) }) h.stands;
+      end_flag = refl;
+      faults = refl;
+      comments = refl;
+      left = behind.left;
+      stands = behind.stands;
+    } in
+    subst (λ t. IsSameReading (shebang_reading a) (token_reading no_gap b t [])) (sym same) there
+
+pub reading_is_determined : ReadingIsDetermined
+reading_is_determined mode a b left stands =
+    let h : Alike a b = record { left = left; stands = stands } in
+    let same : stands_shebang mode (rest a) ≡ stands_shebang mode (rest b) = ap (stands_shebang mode) left in
+    subst (λ x. IsSameReading (reading mode a) (reading_if x mode b)) same (go (stands_shebang mode (rest a)) h)
+  where
+    go : (x : Bool) → Alike a b → IsSameReading (reading_if x mode a) (reading_if x mode b)
+    go true h = shebang_is_determined a b h
+    go false h = code_is_determined mode a b h

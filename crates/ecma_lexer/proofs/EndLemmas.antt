@@ -1,19 +1,23 @@
 -- Where a read comes to, and what is read at the end.
-use Rattle.std.proofs.Common.{◌≡◌, ℕ, ◌+◌, ◌-◌, ◌<◌, ◌≤◌, Bool, true, false, ◌||◌, [], ◌∷◌, length, take, drop-drop, length-drop, Option, Some, None, refl, sym, ap, ◌∙◌, arith}
+use Rattle.std.proofs.Common.{◌≡◌, ℕ, ◌+◌, ◌-◌, ◌<◌, ◌≤◌, Bool, true, false, ◌&&◌, List, [], ◌∷◌, length, take, drop-drop, length-drop, Option, Some, None, refl, sym, ap, ◌∙◌, arith}
 use Rattle.std.proofs.lemmas.Option.{none-some}
 use Rattle.ecma_place.specs.Text.{Text, byte_len}
 use Rattle.ecma_place.specs.Cursor.{Cursor, rest, place, passed}
 use Rattle.ecma_place.proofs.MoveLemmas.{place-passed, place-passed-le}
-use Rattle.ecma_token.specs.View.{SpannedView}
+use Rattle.ecma_place.specs.declared.comment.Comment.{Comment}
+use Rattle.ecma_token.specs.View.{SpannedView, TokenView}
 use Rattle.ecma_scan.specs.Pieces.{spelled}
-use Rattle.ecma_scan.specs.Blanks.{gap_spelling, has_line_break, gap_cutter, elements_if}
+use Rattle.ecma_scan.specs.Comments.{collected, comments_at, comments_of}
+use Rattle.ecma_scan.specs.Gaps.{elements_under, faults_of, gap, gap_cutter, gap_faults_at, gap_spelling, has_line_break}
+use Rattle.ecma_scan.specs.Found.{Fault, Scanned}
 use Rattle.ecma_scan.specs.declared.gap.GapMode.{GapMode}
 use Rattle.ecma_scan.proofs.PunctuatorLemmas.{passed-zero}
+use Rattle.ecma_scan.specs.Shebangs.{opens_shebang}
 use Rattle.ecma_lexer.specs.Mode.{gap_mode}
-use Rattle.ecma_lexer.specs.Reading.{Reading, reading, reading_behind, behind_gap}
+use Rattle.ecma_lexer.specs.Reading.{GapView, Reading, reading, reading_behind, reading_code, reading_if, behind_gap, gap_in, no_gap, shebang_reading, shebang_token, stands_shebang, token_reading}
 use Rattle.ecma_lexer.specs.TokenAt.{token_at}
 use Rattle.ecma_lexer.specs.declared.mode.Mode.{Mode}
-use Rattle.ecma_lexer.proofs.FrontLemmas.{token_at-front, token_at-some}
+use Rattle.ecma_lexer.proofs.FrontLemmas.{shebang-front, token_at-front, token_at-some}
 
 -- what a read finds stands behind the place where it began, and ends where the read ends
 pub record ReadsOn (input : Cursor) (r : Reading) : Type 0 where
@@ -23,17 +27,17 @@ pub record ReadsOn (input : Cursor) (r : Reading) : Type 0 where
   pub further : place input ≤ place r.input
   pub ending : r.found ≡ None → rest r.input ≡ []
 
-reads-behind : (mode : Mode) (flag : Bool) (input here : Cursor) (n : ℕ) (text : Text) → here ≡ passed n input → rest here ≡ text → ReadsOn input (reading_behind mode flag here text)
-reads-behind mode flag input here n [] gap e = record {
+reads-behind : (mode : Mode) (before : GapView) (input here : Cursor) (n : ℕ) (text : Text) → here ≡ passed n input → rest here ≡ text → ReadsOn input (reading_behind mode before here text)
+reads-behind mode before input here n [] gap e = record {
   start = ap (λ c. c.start) gap;
   text = ap (λ c. c.text) gap;
   token = λ t h. absurd (none-some t h);
   further = place-passed-le input here n gap;
   ending = λ _. e;
 }
-reads-behind mode flag input here n (c ∷ cs) gap e =
-    let s = token_at mode (c ∷ cs) in
-    let front : take (length s.spelling) (rest here) ≡ s.spelling = rw e (token_at-front mode (c ∷ cs)) in
+reads-behind mode before input here n (c ∷ cs) gap e =
+    let s = token_at mode before.line_break (c ∷ cs) in
+    let front : take (length s.spelling) (rest here) ≡ s.spelling = rw e (token_at-front mode before.line_break (c ∷ cs)) in
     let behind : place (passed (length s.spelling) here) ≡ place here + byte_len s.spelling =
     place-passed here _ (length s.spelling) refl ∙ ap (λ l. place here + byte_len l) front in
     let first = place-passed-le input here n gap in
@@ -55,17 +59,67 @@ reads-behind mode flag input here n (c ∷ cs) gap e =
     hi_in None = 0
     hi_in (Some t) = t.span.hi.0
 
+-- a token without a gap before it
+token-on : (input : Cursor) (s : Scanned TokenView) → take (length s.spelling) (rest input) ≡ s.spelling → ReadsOn input (token_reading no_gap input s [])
+token-on input s front =
+    let behind : place (passed (length s.spelling) input) ≡ place input + byte_len s.spelling =
+    place-passed input _ (length s.spelling) refl ∙ ap (λ l. place input + byte_len l) front in
+    record {
+      start = refl;
+      text = refl;
+      token = λ t h. let lo : place input ≡ t.span.lo.0 = ap lo_in h in
+          let hi : place input + byte_len s.spelling ≡ t.span.hi.0 = ap hi_in h in
+          (omega (arith, lo), omega (arith, lo, hi), sym hi ∙ sym behind);
+      further = omega (arith, behind);
+      ending = λ h. absurd (none-some _ (sym h));
+    }
+  where
+    lo_in : Option SpannedView → ℕ
+    lo_in None = 0
+    lo_in (Some t) = t.span.lo.0
+
+    hi_in : Option SpannedView → ℕ
+    hi_in None = 0
+    hi_in (Some t) = t.span.hi.0
+
+stands-opens : (none_given : Bool) (text : Text) → (none_given && opens_shebang text) ≡ true → opens_shebang text ≡ true
+stands-opens true text h = h
+stands-opens false text h = cc
+
+code-on : (mode : Mode) (input : Cursor) → ReadsOn input (reading_code mode input)
+unfolding reading_code
+code-on mode input =
+    reads-behind mode (gap_in mode (place input) (rest input)) input (behind_gap mode input) (length (gap_spelling (gap_mode mode) (rest input))) (rest (behind_gap mode input)) refl refl
+
 pub reading-on : (mode : Mode) (input : Cursor) → ReadsOn input (reading mode input)
-unfolding reading
-reading-on mode input =
-    reads-behind mode (has_line_break (gap_mode mode) (rest input)) input (behind_gap mode input) (length (gap_spelling (gap_mode mode) (rest input))) (rest (behind_gap mode input)) refl refl
+reading-on mode input = go (stands_shebang mode (rest input)) refl
+  where
+    go : (b : Bool) → stands_shebang mode (rest input) ≡ b → ReadsOn input (reading_if b mode input)
+    go true e = token-on input (shebang_token (rest input)) (shebang-front (rest input) (stands-opens mode.none_given (rest input) e))
+    go false e = code-on mode input
 
 -- At the end
 
-gap_spelling-end : (mode : GapMode) → gap_spelling mode [] ≡ []
-gap_spelling-end mode = go (mode.template || mode.keeps_space)
+-- before nothing there is no gap
+gap-end : (mode : GapMode) → gap mode [] ≡ []
+gap-end mode = go mode.template mode.keeps_space mode.first
   where
-    go : (b : Bool) → spelled (gap_cutter mode) (elements_if b mode []) ≡ []
+    go : (template keeps_space flag : Bool) → elements_under template keeps_space (record mode { first = flag }) [] ≡ []
+    go true keeps_space flag = refl
+    go false true true = refl
+    go false true false = refl
+    go false false flag = refl
+
+gap_spelling-end : (mode : GapMode) → gap_spelling mode [] ≡ []
+gap_spelling-end mode = ap (spelled (gap_cutter mode)) (gap-end mode)
+
+gap_faults-end : (n : ℕ) (mode : GapMode) → gap_faults_at n mode [] ≡ []
+gap_faults-end n mode = ap (faults_of None n) (gap-end mode)
+
+comments-end : (n : ℕ) (mode : GapMode) → comments_at n mode [] ≡ []
+comments-end n mode = ap (λ es. collected mode.collect (comments_of mode.prev mode.first n es [])) (gap-end mode) ∙ go mode.collect
+  where
+    go : (collect : Bool) → collected {A = Comment × Bool} collect [] ≡ []
     go true = refl
     go false = refl
 
@@ -76,19 +130,37 @@ behind_gap-end mode input e =
     ∙ passed-zero input
 
 -- where nothing is left the end is answered, and nothing moves
-pub reading-end : (mode : Mode) (input : Cursor) → rest input ≡ [] → reading mode input ≡ record { found = None; end_flag = has_line_break (gap_mode mode) (rest input); faults = []; input = input }
-unfolding reading
-reading-end mode input e =
+code-end : (mode : Mode) (input : Cursor) → rest input ≡ [] → reading_code mode input ≡ record { found = None; end_flag = has_line_break (gap_mode mode) (rest input); faults = []; comments = []; input = input }
+unfolding reading_code
+code-end mode input e =
+    let gap = gap_in mode (place input) (rest input) in
     let flag = has_line_break (gap_mode mode) (rest input) in
-    ap (λ here. reading_behind mode flag here (rest here)) (behind_gap-end mode input e) ∙ ap (reading_behind mode flag input) e
+    let faults = ap (gap_faults_at (place input) (gap_mode mode)) e ∙ gap_faults-end (place input) (gap_mode mode) in
+    let comments = ap (comments_at (place input) (gap_mode mode)) e ∙ comments-end (place input) (gap_mode mode) in
+    ap (λ here. reading_behind mode gap here (rest here)) (behind_gap-end mode input e)
+    ∙ ap (reading_behind mode gap input) e
+    ∙ ap (λ fs. nothing_left flag fs (gap.comments) input) faults
+    ∙ ap (λ cs. nothing_left flag [] cs input) comments
+  where
+    nothing_left : Bool → List Fault → List (Comment × Bool) → Cursor → Reading
+    nothing_left flag faults comments input =
+        record { found = None; end_flag = flag; faults = faults; comments = comments; input = input }
+
+no-shebang : (none_given : Bool) → (none_given && opens_shebang []) ≡ false
+no-shebang true = refl
+no-shebang false = refl
+
+pub reading-end : (mode : Mode) (input : Cursor) → rest input ≡ [] → reading mode input ≡ record { found = None; end_flag = has_line_break (gap_mode mode) (rest input); faults = []; comments = []; input = input }
+reading-end mode input e =
+    ap (λ b. reading_if b mode input) (ap (stands_shebang mode) e ∙ no-shebang mode.none_given) ∙ code-end mode input e
 
 -- a token takes away from what is left
-less-behind : (mode : Mode) (flag : Bool) (input here : Cursor) (n : ℕ) (text : Text) (t : SpannedView) → here ≡ passed n input → rest here ≡ text
-    → (reading_behind mode flag here text).found ≡ Some t → length (rest (reading_behind mode flag here text).input) < length (rest input)
-less-behind mode flag input here n [] t gap e found = absurd (none-some t found)
-less-behind mode flag input here n (c ∷ cs) t gap e found =
-    let s = token_at mode (c ∷ cs) in
-    let some = token_at-some mode c cs in
+less-behind : (mode : Mode) (before : GapView) (input here : Cursor) (n : ℕ) (text : Text) (t : SpannedView) → here ≡ passed n input → rest here ≡ text
+    → (reading_behind mode before here text).found ≡ Some t → length (rest (reading_behind mode before here text).input) < length (rest input)
+less-behind mode before input here n [] t gap e found = absurd (none-some t found)
+less-behind mode before input here n (c ∷ cs) t gap e found =
+    let s = token_at mode before.line_break (c ∷ cs) in
+    let some = token_at-some mode before.line_break c cs in
     let left : length (rest here) ≡ length (c ∷ cs) = ap length e in
     let more : length (c ∷ cs) ≡ 1 + length cs = omega arith in
     let skipped : length (rest here) ≡ length (rest input) - n = rw (gap, ← drop-drop n input.at input.text) (length-drop n (rest input)) in
@@ -96,7 +168,26 @@ less-behind mode flag input here n (c ∷ cs) t gap e found =
     rw (← drop-drop (length s.spelling) here.at here.text) (length-drop (length s.spelling) (rest here)) in
     omega (arith, some, left, more, skipped, behind)
 
+code-less : (mode : Mode) (input : Cursor) (t : SpannedView) → (reading_code mode input).found ≡ Some t → length (rest (reading_code mode input).input) < length (rest input)
+unfolding reading_code
+code-less mode input t found =
+    less-behind mode (gap_in mode (place input) (rest input)) input (behind_gap mode input) (length (gap_spelling (gap_mode mode) (rest input))) (rest (behind_gap mode input)) t refl refl found
+
+-- a shebang holds its two signs at least
+shebang-less : (input : Cursor) → opens_shebang (rest input) ≡ true → length (rest (shebang_reading input).input) < length (rest input)
+shebang-less input opens =
+    let n : ℕ = length (shebang_token (rest input)).spelling in
+    let left : length (rest (passed n input)) ≡ length (rest input) - n =
+    rw (← drop-drop n input.at input.text) (length-drop n (rest input)) in
+    omega (arith, left, opens-some (rest input) opens)
+  where
+    opens-some : (text : Text) → opens_shebang text ≡ true → 0 < length text
+    opens-some [] h = cc
+    opens-some (c ∷ cs) h = omega arith
+
 pub reading-less : (mode : Mode) (input : Cursor) (t : SpannedView) → (reading mode input).found ≡ Some t → length (rest (reading mode input).input) < length (rest input)
-unfolding reading
-reading-less mode input t found =
-    less-behind mode (has_line_break (gap_mode mode) (rest input)) input (behind_gap mode input) (length (gap_spelling (gap_mode mode) (rest input))) (rest (behind_gap mode input)) t refl refl found
+reading-less mode input t found = go (stands_shebang mode (rest input)) refl found
+  where
+    go : (b : Bool) → stands_shebang mode (rest input) ≡ b → (reading_if b mode input).found ≡ Some t → length (rest (reading_if b mode input).input) < length (rest input)
+    go true e found = shebang-less input (stands-opens mode.none_given (rest input) e)
+    go false e found = code-less mode input t found

@@ -1,8 +1,11 @@
+pub mod AttachmentRows
 pub mod DeterminedLemmas
 pub mod EndLemmas
 pub mod EndingLemmas
 pub mod ErrorLemmas
 pub mod FrontLemmas
+pub mod OpeningLemmas
 pub mod ReadingLemmas
 pub mod TilingLemmas
 pub mod TokenLemmas
+pub mod TransitionRows

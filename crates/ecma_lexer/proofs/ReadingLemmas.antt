@@ -1,29 +1,32 @@
 -- What a read finds, from what its readers found.
-use Rattle.std.proofs.Common.{◌≡◌, ℕ, Bool, true, [], ◌∷◌, ◌||◌, Some, Result, Ok, Err, slice_get, refl, sym, ap, ◌∙◌}
-use Rattle.std.specs.Prelude.{is_ok}
-use Rattle.ecma_place.specs.Text.{Text}
+use Rattle.std.proofs.Common.{◌≡◌, ℕ, ◌+◌, Bool, true, false, cond, List, [], ◌∷◌, ◌++◌, ◌||◌, ◌&&◌, Some, None, Result, Ok, Err, drop, map, slice_get, refl, sym, ap, ◌∙◌}
+use Rattle.std.specs.Prelude.{option_map}
+use Rattle.ecma_place.specs.Text.{Text, byte_len}
+use Rattle.ecma_place.specs.declared.place.Span.{Span}
 use Rattle.ecma_place.specs.Cursor.{Cursor, rest, place}
 use Rattle.ecma_token.specs.View.{TokenView, ErrorView, SpannedView}
-use Rattle.ecma_scan.specs.Found.{Scanned, FoundView, found_at, token_behind, value_behind}
-use Rattle.ecma_scan.specs.Blanks.{has_line_break}
+use Rattle.ecma_scan.specs.Found.{Fault, Scanned, fault_behind, FoundView, found_at, scanned, span_of, token_behind, value_behind}
+use Rattle.ecma_lexer.specs.Reading.{GapView, reading, reading_behind, behind_gap, gap_in, reading_code, reading_if, reading_token, shebang_reading, shebang_token, spanned_at, stands_shebang, is_free, is_free_behind, is_free_code}
+use Rattle.ecma_scan.specs.Gaps.{has_line_break}
+use Rattle.ecma_scan.specs.Fronts.{line}
+use Rattle.ecma_scan.specs.Shebangs.{found_shebang, opens_shebang, shebang}
 use Rattle.ecma_lexer.specs.Mode.{gap_mode}
-use Rattle.ecma_lexer.specs.Reading.{reading, reading_behind, behind_gap, token_reading, spanned_at, is_free}
-use Rattle.ecma_lexer.specs.TokenAt.{token_at, token_of}
+use Rattle.ecma_lexer.specs.TokenAt.{token_at, token_of, opening, is_empty, is_free_at}
 use Rattle.ecma_lexer.specs.declared.mode.Mode.{Mode}
+use Rattle.ecma_lexer.proofs.TokenLemmas.{and-parts, empty-none, free-parts, view}
 
-reading_behind-some : (mode : Mode) (flag : Bool) (here : Cursor) (text : Text) (x : ℕ) → slice_get text 0 ≡ Some x
-    → reading_behind mode flag here text ≡ token_reading flag here (token_at mode text)
-reading_behind-some mode flag here [] x e = cc
-reading_behind-some mode flag here (c ∷ cs) x e = refl
+reading_behind-some : (mode : Mode) (gap : GapView) (here : Cursor) (text : Text) (x : ℕ) → slice_get text 0 ≡ Some x
+    → reading_behind mode gap here text ≡ reading_token mode gap here text
+reading_behind-some mode gap here [] x e = cc
+reading_behind-some mode gap here (c ∷ cs) x e = refl
 
 -- a token is read where something stands behind the gap
-pub reading-some : (mode : Mode) (input here : Cursor) (flag : Bool) (x : ℕ) → here ≡ behind_gap mode input → flag ≡ has_line_break (gap_mode mode) (rest input) → slice_get (rest here) 0 ≡ Some x
-    → reading mode input ≡ token_reading flag here (token_at mode (rest here))
-unfolding reading
-reading-some mode input here flag x gap break e =
-    ap (λ there. reading_behind mode (has_line_break (gap_mode mode) (rest input)) there (rest there)) (sym gap)
-    ∙ ap (λ b. reading_behind mode b here (rest here)) (sym break)
-    ∙ reading_behind-some mode flag here (rest here) x e
+pub reading-some : (mode : Mode) (input here : Cursor) (x : ℕ) → here ≡ behind_gap mode input → slice_get (rest here) 0 ≡ Some x
+    → reading_code mode input ≡ reading_token mode (gap_in mode (place input) (rest input)) here (rest here)
+unfolding reading_code
+reading-some mode input here x gap e =
+    ap (λ there. reading_behind mode (gap_in mode (place input) (rest input)) there (rest there)) (sym gap)
+    ∙ reading_behind-some mode (gap_in mode (place input) (rest input)) here (rest here) x e
 
 token_of-behind : (n : ℕ) (value : Result TokenView ErrorView) → token_of (value_behind token_behind n value) ≡ token_behind n (token_of value)
 token_of-behind n (Ok token) = refl
@@ -37,10 +40,92 @@ spanned-found flag here s found e =
     let with_token : TokenView → SpannedView = λ t. record (spanned_at flag here s) { token = t } in
     ap spanned e ∙ ap with_token (token_of-behind (place here) s.value)
 
--- what gives no error token is not refused
-pub free-ok : (flag : Bool) (here : Cursor) (s : Scanned TokenView) → is_free (token_reading flag here s) ≡ true → is_ok s.value ≡ true
-free-ok flag here s h = go s.value h
+-- a read that takes no memory has no faults before the token, collects no comment, and its token takes none
+pub record IsFree (mode : Mode) (input : Cursor) : Type 0 where
+  pub gap_faults : (gap_in mode (place input) (rest input)).faults ≡ []
+  pub comments : (gap_in mode (place input) (rest input)).comments ≡ []
+  pub token : is_free_behind mode (has_line_break (gap_mode mode) (rest input)) (rest (behind_gap mode input)) ≡ true
+
+pub free-reading : (mode : Mode) (input : Cursor) → is_free_code mode input ≡ true → IsFree mode input
+free-reading mode input h =
+    let gap = gap_in mode (place input) (rest input) in
+    let one = and-parts (is_empty gap.faults) _ h in
+    let two = and-parts (is_empty gap.comments) _ one.1 in
+    record { gap_faults = empty-none gap.faults one.0; comments = empty-none gap.comments two.0; token = two.1 }
+
+-- where a character stands behind the gap, a token is read there
+pub free-token : (mode : Mode) (flag : Bool) (text : Text) (x : ℕ) → slice_get text 0 ≡ Some x → is_free_behind mode flag text ≡ true → is_free_at mode flag text ≡ true
+free-token mode flag [] x e h = cc
+free-token mode flag (c ∷ cs) x e h = h
+
+-- such a read has no faults
+
+free-code : (mode : Mode) (input : Cursor) → is_free_code mode input ≡ true → (reading_code mode input).faults ≡ []
+unfolding reading_code
+free-code mode input h =
+    let free = free-reading mode input h in
+    go (rest (behind_gap mode input)) free.gap_faults free.token
   where
-    go : (value : Result TokenView ErrorView) → is_free (token_reading flag here (record s { value = value })) ≡ true → is_ok value ≡ true
-    go (Ok token) h = refl
-    go (Err error) h = cc
+    go : (text : Text) → (gap_in mode (place input) (rest input)).faults ≡ [] → is_free_behind mode (has_line_break (gap_mode mode) (rest input)) text ≡ true
+        → (reading_behind mode (gap_in mode (place input) (rest input)) (behind_gap mode input) text).faults ≡ []
+    go [] none free = none
+    go (c ∷ cs) none free =
+        let flag = has_line_break (gap_mode mode) (rest input) in
+        let s = token_at mode flag (c ∷ cs) in
+        ap (λ faults. faults ++ map (fault_behind (place (behind_gap mode input))) s.faults) none
+        ∙ ap (map (fault_behind (place (behind_gap mode input)))) (free-parts (opening flag (c ∷ cs)) (c ∷ cs) s free).faults
+
+pub free_faults : (mode : Mode) (input : Cursor) → is_free mode input ≡ true → (reading mode input).faults ≡ []
+free_faults mode input h = go (stands_shebang mode (rest input)) h
+  where
+    go : (b : Bool) → (b || is_free_code mode input) ≡ true → (reading_if b mode input).faults ≡ []
+    go true h = refl
+    go false h = free-code mode input h
+
+-- a shebang was found, or none
+
+pub shebang-found : (n : ℕ) (text : Text) (token : TokenView) (faults : List Fault) (extent : Span) (line_break : Bool)
+    → view (Ok (Some token)) faults extent line_break ≡ found_at (λ m. option_map (token_behind m)) n (shebang text)
+    → (opens_shebang text ≡ true) × (token ≡ token_behind n (token_of (shebang_token text).value)) × (extent ≡ span_of n (n + byte_len (shebang_token text).spelling))
+shebang-found n text token faults extent line_break h = go (opens_shebang text) h
+  where
+    go : (b : Bool) → view (Ok (Some token)) faults extent line_break ≡ found_at (λ m. option_map (token_behind m)) n (cond b (found_shebang (line (drop 2 text))) (scanned None []))
+        → (b ≡ true) × (token ≡ token_behind n (token_of (shebang_token text).value)) × (extent ≡ span_of n (n + byte_len (shebang_token text).spelling))
+    go true h =
+        let value : Ok (Some token) ≡ Ok (Some (token_of (shebang_token text).value)) = ap (λ v. v.value) h in
+        (refl, (let same : token ≡ token_of (shebang_token text).value = cc in same), ap (λ v. v.extent) h)
+    go false h = let value : Ok (Some token) ≡ Ok None = ap (λ v. v.value) h in cc
+
+pub shebang-none : (n : ℕ) (text : Text) (faults : List Fault) (extent : Span) (line_break : Bool)
+    → view (Ok None) faults extent line_break ≡ found_at (λ m. option_map (token_behind m)) n (shebang text) → opens_shebang text ≡ false
+shebang-none n text faults extent line_break h = go (opens_shebang text) h
+  where
+    go : (b : Bool) → view (Ok None) faults extent line_break ≡ found_at (λ m. option_map (token_behind m)) n (cond b (found_shebang (line (drop 2 text))) (scanned None [])) → b ≡ false
+    go true h = let value : Ok None ≡ Ok (Some (token_of (shebang_token text).value)) = ap (λ v. v.value) h in cc
+    go false h = refl
+
+pub shebang-accepted : (n : ℕ) (text : Text) (error : ErrorView) (faults : List Fault) (extent : Span) (line_break : Bool)
+    → view (Err error) faults extent line_break ≡ found_at (λ m. option_map (token_behind m)) n (shebang text) → ⊥
+shebang-accepted n text error faults extent line_break h = go (opens_shebang text) h
+  where
+    go : (b : Bool) → view (Err error) faults extent line_break ≡ found_at (λ m. option_map (token_behind m)) n (cond b (found_shebang (line (drop 2 text))) (scanned None [])) → ⊥
+    go true h = let value : Err error ≡ Ok (Some (token_of (shebang_token text).value)) = ap (λ v. v.value) h in cc
+    go false h = let value : Err error ≡ Ok None = ap (λ v. v.value) h in cc
+
+-- where no shebang was found, none stands, the cursor stays, and what takes no memory still takes none
+
+none-stands : (b : Bool) (t : SpannedView) → None ≡ cond b (Some t) None → b ≡ false
+none-stands true t h = cc
+none-stands false t h = refl
+
+pub free-kept : (mode : Mode) (old now : Cursor) → None ≡ cond (opens_shebang (rest old)) (shebang_reading old).found None
+    → now ≡ cond (opens_shebang (rest old)) (shebang_reading old).input old → is_free mode old ≡ true → is_free_code mode now ≡ true
+free-kept mode old now none moved h =
+    let stands = none-stands (opens_shebang (rest old)) (spanned_at false old (shebang_token (rest old))) none in
+    let same : now ≡ old = moved ∙ ap (λ b. cond b (shebang_reading old).input old) stands in
+    let kept = go mode.none_given (ap (λ b. (mode.none_given && b) || is_free_code mode old) (sym stands) ∙ h) in
+    ap (is_free_code mode) same ∙ kept
+  where
+    go : (none_given : Bool) → ((none_given && false) || is_free_code mode old) ≡ true → is_free_code mode old ≡ true
+    go true h = h
+    go false h = h

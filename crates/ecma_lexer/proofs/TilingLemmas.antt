@@ -9,7 +9,7 @@ use Rattle.ecma_place.proofs.MoveLemmas.{byte_len-append}
 use Rattle.ecma_token.specs.View.{SpannedView}
 use Rattle.ecma_lexer.specs.declared.settings.Settings.{Settings}
 use Rattle.ecma_lexer.specs.declared.step.Step.{Step}
-use Rattle.ecma_lexer.specs.declared.step.Step.TheVariants.{Read}
+use Rattle.ecma_lexer.specs.declared.step.Step.TheVariants.{Read, SetCtx, TakeErrors}
 use Rattle.ecma_lexer.specs.Reading.{Reading}
 use Rattle.ecma_lexer.specs.Session.{Session, has_ended, kept_back, state_of}
 use Rattle.ecma_lexer.specs.Run.{act_on, acted_on, given_in, mode_of, reading_of, session, start_of}
@@ -42,7 +42,7 @@ pub record Standing (input : Cursor) (s : Session) : Type 0 where
 read_standing : (input : Cursor) (s : Session) (r : Reading) → ReadsOn s.input r → Standing input s → Standing input (acted_on s r).after
 read_standing input s r on k = go r.found refl
   where
-    go : (found : Option SpannedView) → r.found ≡ found → Standing input (record s { input = r.input; past = given_in r.end_flag found ∷ s.past })
+    go : (found : Option SpannedView) → r.found ≡ found → Standing input (record (acted_on s r).after { past = given_in r.end_flag found ∷ s.past })
     go (Some t) e =
         let at = on.token t e in
         let hi = at.2 in
@@ -61,8 +61,10 @@ read_standing input s r on k = go r.found refl
 
 pub act_standing : (input : Cursor) (s : Session) (step : Step) → Standing input s → Standing input (act_on s step)
 act_standing input s Read k = read_standing input s (reading_of (state_of s)) (reading-on (mode_of (state_of s)) s.input) k
+act_standing input s (SetCtx context) k = record { start = k.start; text = k.text; order = k.order; ended = k.ended }
+act_standing input s TakeErrors k = record { start = k.start; text = k.text; order = k.order; ended = k.ended }
 
-fold_standing : (input : Cursor) (s : Session) (steps : List Step) → Standing input s → Standing input (fold act_on s steps)
+pub fold_standing : (input : Cursor) (s : Session) (steps : List Step) → Standing input s → Standing input (fold act_on s steps)
 fold_standing input s [] k = k
 fold_standing input s (step ∷ steps) k = fold_standing input (act_on s step) steps (act_standing input s step k)
 

@@ -1,15 +1,27 @@
 -- The token at a place, from what the readers found.
-use Rattle.std.proofs.Common.{◌≡◌, ℕ, ◌+◌, Bool, false, List, [], ◌∷◌, length, take, Option, Some, None, Result, Ok, slice_get, refl, sym, ap, ◌∙◌, arith}
+use Rattle.std.proofs.Common.{◌≡◌, ℕ, ◌+◌, Bool, true, false, cond, not, ◌&&◌, List, [], ◌∷◌, length, take, Option, Some, None, Result, Ok, Err, map, slice_get, refl, sym, ap, ◌∙◌, arith}
 use Rattle.std.specs.Prelude.{option_map, is_ok}
-use Rattle.ecma_place.specs.Text.{Text}
+use Rattle.std.specs.List.{list_any}
+use Rattle.ecma_place.specs.Atom.{AtomView}
+use Rattle.ecma_place.specs.Text.{Text, byte_len}
 use Rattle.ecma_place.specs.Cursor.{Cursor, passed}
 use Rattle.ecma_place.specs.declared.place.BytePos.{BytePos}
 use Rattle.ecma_place.specs.declared.place.Span.{Span}
-use Rattle.ecma_token.specs.View.{TokenView, ErrorView, plain_token}
-use Rattle.ecma_scan.specs.Found.{Fault, FoundView, found_at, token_behind, span_behind, span_of}
+use Rattle.ecma_syntax.specs.declared.word.Word.{Word}
+use Rattle.ecma_token.specs.View.{TokenView, ErrorView, owns_nothing, plain_token}
+use Rattle.ecma_scan.specs.Found.{Fault, FoundView, Scanned, error_behind, fault_behind, found_at, placeless, token_behind, span_behind, span_of, value_behind}
 use Rattle.ecma_scan.specs.Punctuators.{Punctuator, found_punctuator}
 use Rattle.ecma_scan.proofs.PunctuatorLemmas.{passed-zero}
-use Rattle.ecma_lexer.specs.TokenAt.{punctuator_or_stray, stray}
+use Rattle.ecma_scan.specs.Locality.{is_accepted}
+use Rattle.ecma_scan.specs.Bars.{bars_at, bars_error, bars_faults, bars_spelling, bars_token, found_bars, opens_bars}
+use Rattle.ecma_scan.specs.Readings.{BarsView, bars_found_at}
+use Rattle.ecma_scan.specs.declared.gap.GapMode.{GapMode}
+use Rattle.ecma_scan.specs.Numbers.{is_separator}
+use Rattle.ecma_scan.specs.Words.{identifier_name}
+use Rattle.ecma_lexer.specs.TokenAt.{opening, read_opened, is_empty, is_free_at, is_borrowed, is_borrowed_name, is_free_token, asks_for_none, as_token, word_value, punctuator_or_stray, stray}
+use Rattle.ecma_lexer.specs.declared.mode.Mode.{Mode}
+use Rattle.ecma_lexer.specs.declared.opening.Opening.{Opening}
+use Rattle.ecma_lexer.specs.declared.opening.Opening.TheVariants as opens
 
 abbrev pub view : {A : Type 0} → Result A ErrorView → List Fault → Span → Bool → FoundView A
 view value faults extent line_break = record { value = value; faults = faults; extent = extent; line_break = line_break }
@@ -64,3 +76,86 @@ pub empty-span : (n : ℕ) (pos : BytePos) (span : Span) → pos.0 ≡ n → (le
 empty-span n pos span e s =
     let zero : n + 0 ≡ n = omega arith in
     s ∙ ap (λ k. span_of k k) (e ∙ sym zero)
+
+-- a word was found, as a token
+pub word-found : (n : ℕ) (s : Scanned Word) (f : FoundView Word) (value : Result TokenView ErrorView) → f ≡ found_at placeless n s → value ≡ word_value f.value
+    → view value f.faults f.extent f.line_break ≡ found_at token_behind n (as_token s)
+word-found n s f value found is =
+    ap (λ v. view v f.faults f.extent f.line_break) is
+    ∙ ap (λ g. view (word_value g.value) g.faults g.extent g.line_break) found
+    ∙ ap (λ v. view v (map (fault_behind n) s.faults) (span_of n (n + byte_len s.spelling)) s.line_break) (go s.value)
+  where
+    go : (value : Result Word ErrorView) → word_value (value_behind placeless n value) ≡ value_behind token_behind n (word_value value)
+    go (Ok word) = refl
+    go (Err error) = refl
+
+-- bars were found, as a token
+
+pub bars-found : (n : ℕ) (mode : GapMode) (text : Text) (bars : BarsView) (extent : Span) → opens_bars text ≡ true
+    → Some bars ≡ option_map (bars_found_at n) (bars_at n mode text) → extent ≡ span_of n (n + byte_len (bars_spelling text))
+    → view (Err bars.error) bars.faults extent false ≡ found_at token_behind n (bars_token text)
+bars-found n mode text bars extent opens h e =
+    let some : Some bars ≡ Some (bars_found_at n (found_bars n mode text)) = h ∙ ap (λ b. option_map (bars_found_at n) (cond b (Some (found_bars n mode text)) None)) opens in
+    let same : bars ≡ bars_found_at n (found_bars n mode text) = cc in
+    ap (λ b. view (Err b.error) b.faults extent false) same
+    ∙ ap (λ x. view (Err (error_behind n bars_error)) (map (fault_behind n) (bars_faults text)) x false) e
+
+-- where bars stand, some are found
+pub bars-some : (n : ℕ) (mode : GapMode) (text : Text) → opens_bars text ≡ true → None ≡ option_map (bars_found_at n) (bars_at n mode text) → ⊥
+bars-some n mode text opens h =
+    let none : None ≡ Some (bars_found_at n (found_bars n mode text)) = h ∙ ap (λ b. option_map (bars_found_at n) (cond b (Some (found_bars n mode text)) None)) opens in
+    cc
+
+-- What takes no memory
+
+pub and-parts : (a b : Bool) → (a && b) ≡ true → (a ≡ true) × (b ≡ true)
+and-parts true b h = (refl, h)
+and-parts false b h = cc
+
+pub empty-none : {A : Type 0} → (items : List A) → is_empty items ≡ true → items ≡ []
+empty-none [] h = refl
+empty-none (item ∷ items) h = cc
+
+pub record IsFreeToken (opened : Opening) (text : Text) (s : Scanned TokenView) : Type 0 where
+  pub ok : is_ok s.value ≡ true
+  pub faults : s.faults ≡ []
+  pub none : asks_for_none opened text s ≡ true
+
+pub free-parts : (opened : Opening) (text : Text) (s : Scanned TokenView) → is_free_token opened text s ≡ true → IsFreeToken opened text s
+free-parts opened text s h =
+    let one = and-parts (is_ok s.value) _ h in
+    let two = and-parts (is_empty s.faults) _ one.1 in
+    record { ok = one.0; faults = empty-none s.faults two.0; none = two.1 }
+
+-- the token of a text that opens so takes no memory
+pub free-opened : (mode : Mode) (flag : Bool) (text : Text) (opened : Opening) → opened ≡ opening flag text → is_free_at mode flag text ≡ true → IsFreeToken opened text (read_opened opened mode text)
+free-opened mode flag text opened e h =
+    let free : is_free_token opened text (read_opened opened mode text) ≡ true = ap (λ o. is_free_token o text (read_opened o mode text)) e ∙ h in
+    free-parts opened text (read_opened opened mode text) free
+
+pub no-separator : (text : Text) (s : Scanned TokenView) → asks_for_none opens.Number text s ≡ true → list_any is_separator s.spelling ≡ false
+no-separator text s h = not-true (list_any is_separator s.spelling) h
+  where
+    not-true : (b : Bool) → not b ≡ true → b ≡ false
+    not-true true h = cc
+    not-true false h = refl
+
+-- a name that is borrowed
+pub borrowed-name : (text : Text) → is_borrowed_name (identifier_name text).value ≡ true → (name : AtomView) × ((identifier_name text).value ≡ Ok name) × (name.is_borrowed ≡ true)
+borrowed-name text h = go (identifier_name text).value refl h
+  where
+    go : (value : Result AtomView ErrorView) → (identifier_name text).value ≡ value → is_borrowed_name value ≡ true → (name : AtomView) × ((identifier_name text).value ≡ Ok name) × (name.is_borrowed ≡ true)
+    go (Ok name) e h = (name, e, h)
+    go (Err error) e h = cc
+
+-- a string that asks for none is a token whose texts are slices
+pub borrowed-token : (text : Text) (s : Scanned TokenView) → asks_for_none opens.String text s ≡ true → (token : TokenView) × (s.value ≡ Ok token) × (owns_nothing token ≡ true)
+borrowed-token text s h = go s.value refl h
+  where
+    go : (value : Result TokenView ErrorView) → s.value ≡ value → is_borrowed value ≡ true → (token : TokenView) × (s.value ≡ Ok token) × (owns_nothing token ≡ true)
+    go (Ok token) e h = (token, e, h)
+    go (Err error) e h = cc
+
+pub ok-accepted : (value : Result TokenView ErrorView) → is_ok value ≡ true → is_accepted value ≡ true
+ok-accepted (Ok token) h = refl
+ok-accepted (Err error) h = cc

@@ -44,6 +44,10 @@ with_fault context all f = disposed all f.error (disposition context f.blame)
 abbrev pub with_faults : Context → Errors → List Fault → Errors
 with_faults context all faults = fold (with_fault context) all faults
 
+-- the errors behind the taking of those that were recorded
+abbrev pub none_recorded : Errors → Errors
+none_recorded all = record { recorded = []; waiting = all.waiting }
+
 -- the errors behind the setting of a context: in module code what waits is recorded, behind what was recorded
 abbrev pub with_context : Context → Errors → Errors
 with_context context all =

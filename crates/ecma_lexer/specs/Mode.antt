@@ -2,14 +2,21 @@
 use Rattle.std.specs.Prelude.{Bool, true, false, not, ◌&&◌, Option, Some}
 use Rattle.ecma_syntax.specs.declared.settings.Syntax.{Syntax}
 use Rattle.ecma_syntax.specs.declared.settings.Syntax.TheVariants.{Es, Typescript}
+use Rattle.ecma_syntax.specs.declared.settings.EsVersion.{EsVersion}
+use Rattle.ecma_syntax.specs.declared.settings.EsVersion.TheVariants.{Es3}
 use Rattle.ecma_scan.specs.declared.gap.GapMode.{GapMode}
 use Rattle.ecma_lexer.specs.declared.mode.Mode.{Mode}
 use Rattle.ecma_lexer.specs.declared.token_context.TokenContext.{TokenContext}
 use Rattle.ecma_lexer.specs.declared.token_context.TokenContext.TheVariants.{Tpl, JSXExpr}
 
-abbrev is_typescript : Syntax → Bool
+abbrev pub is_typescript : Syntax → Bool
 is_typescript (Es es) = false
 is_typescript (Typescript ts) = true
+
+-- the fifth edition, or a later one
+abbrev pub is_since_es5 : EsVersion → Bool
+is_since_es5 Es3 = false
+is_since_es5 _ = true
 
 -- `<` and `>` stand among types
 abbrev pub type_mode : Mode → Bool

@@ -1,22 +1,34 @@
 -- One read: the gap, and then the end or the token at its place.
-use Rattle.std.specs.Prelude.{◌≡◌, ◌+◌, Bool, true, false, not, ◌||◌, List, [], ◌∷◌, Option, Some, None, length, map}
+use Rattle.std.specs.Prelude.{◌≡◌, ℕ, ◌+◌, Bool, true, false, ◌||◌, ◌&&◌, List, [], ◌∷◌, ◌++◌, Option, Some, None, codes, drop, encode_utf8_all, length, map}
 use Rattle.ecma_place.specs.Text.{Text, byte_len}
 use Rattle.ecma_place.specs.Cursor.{Cursor, rest, place, passed}
-use Rattle.ecma_token.specs.declared.kind.TokenKind.{TokenKind}
-use Rattle.ecma_token.specs.declared.kind.TokenKind.TheVariants.{Error}
-use Rattle.ecma_token.specs.Kinds.{kind_of}
-use Rattle.ecma_token.specs.View.{TokenView, SpannedView}
-use Rattle.ecma_scan.specs.Found.{Fault, Scanned, fault_behind, token_behind, span_of}
-use Rattle.ecma_scan.specs.Blanks.{gap_spelling, has_line_break}
+use Rattle.ecma_place.specs.declared.comment.Comment.{Comment}
+use Rattle.ecma_place.specs.Atom.{borrowed_atom}
+use Rattle.ecma_token.specs.View.{TokenView, SpannedView, plain_token}
+use Rattle.ecma_token.specs.declared.token.Token.{Shebang}
+use Rattle.ecma_scan.specs.Found.{Fault, Scanned, fault_behind, scanned, token_behind, span_of}
+use Rattle.ecma_scan.specs.Fronts.{line}
+use Rattle.ecma_scan.specs.Comments.{comments_at}
+use Rattle.ecma_scan.specs.Gaps.{gap_spelling, has_line_break, gap_faults_at}
+use Rattle.ecma_scan.specs.Shebangs.{opens_shebang}
 use Rattle.ecma_lexer.specs.Mode.{gap_mode}
-use Rattle.ecma_lexer.specs.TokenAt.{token_at, token_of}
+use Rattle.ecma_lexer.specs.TokenAt.{token_at, token_comments, token_of, is_empty, is_free_at}
 use Rattle.ecma_lexer.specs.declared.mode.Mode.{Mode}
 
--- What a read finds: a token, or the end with the flag before it, what is wrong, in order, and where it comes to
+-- What the gap before a token tells: whether no token came before or a line terminator stands in it, what is wrong, in
+-- order, and its comments, each with whether it is for the next token
+pub record GapView : Type 0 where
+  pub line_break : Bool
+  pub faults : List Fault
+  pub comments : List (Comment × Bool)
+
+-- What a read finds: a token, or the end with the flag before it, what is wrong, in order, the comments of the gap, and
+-- where it comes to
 pub record Reading : Type 0 where
   pub found : Option SpannedView
   pub end_flag : Bool
   pub faults : List Fault
+  pub comments : List (Comment × Bool)
   pub input : Cursor
 
 -- a token that is read at a cursor, with the flag of the gap before it
@@ -28,40 +40,82 @@ spanned_at flag here s =
       span = span_of (place here) (place here + byte_len s.spelling);
     }
 
-abbrev pub token_reading : Bool → Cursor → Scanned TokenView → Reading
-token_reading flag here s =
+-- the faults and comments of the gap stand before those of the token
+abbrev pub token_reading : GapView → Cursor → Scanned TokenView → List (Comment × Bool) → Reading
+token_reading gap here s comments =
     record {
-      found = Some (spanned_at flag here s);
-      end_flag = flag;
-      faults = map (fault_behind (place here)) s.faults;
+      found = Some (spanned_at gap.line_break here s);
+      end_flag = gap.line_break;
+      faults = gap.faults ++ map (fault_behind (place here)) s.faults;
+      comments = gap.comments ++ comments;
       input = passed (length s.spelling) here;
     }
 
+abbrev pub reading_token : Mode → GapView → Cursor → Text → Reading
+reading_token mode gap here text =
+    token_reading gap here (token_at mode gap.line_break text) (token_comments mode gap.line_break (place here) text)
+
 -- behind the gap, where this text is left
-abbrev pub reading_behind : Mode → Bool → Cursor → Text → Reading
-reading_behind mode flag here [] = record { found = None; end_flag = flag; faults = []; input = here }
-reading_behind mode flag here (c ∷ cs) = token_reading flag here (token_at mode (c ∷ cs))
+abbrev pub reading_behind : Mode → GapView → Cursor → Text → Reading
+reading_behind mode gap here [] =
+    record { found = None; end_flag = gap.line_break; faults = gap.faults; comments = gap.comments; input = here }
+reading_behind mode gap here (c ∷ cs) = reading_token mode gap here (c ∷ cs)
+
+-- what the gap tells with which a text at the place n begins
+abbrev pub gap_in : Mode → ℕ → Text → GapView
+gap_in mode n text =
+    record {
+      line_break = has_line_break (gap_mode mode) text;
+      faults = gap_faults_at n (gap_mode mode) text;
+      comments = comments_at n (gap_mode mode) text;
+    }
 
 -- the place behind the gap
 abbrev pub behind_gap : Mode → Cursor → Cursor
 behind_gap mode input = passed (length (gap_spelling (gap_mode mode) (rest input))) input
 
+-- A shebang stands where no token was given (12.5). Its flag is false, which is our own choice.
+
+abbrev pub no_gap : GapView
+no_gap = record { line_break = false; faults = []; comments = [] }
+
+abbrev pub stands_shebang : Mode → Text → Bool
+stands_shebang mode text = mode.none_given && opens_shebang text
+
+abbrev pub shebang_token : Text → Scanned TokenView
+shebang_token text =
+    scanned (plain_token (Shebang (borrowed_atom (encode_utf8_all (line (drop 2 text)))))) (codes "#!" ++ line (drop 2 text))
+
+abbrev pub shebang_reading : Cursor → Reading
+shebang_reading here = token_reading no_gap here (shebang_token (rest here)) []
+
+-- what a read finds where no shebang stands
+unfoldable pub reading_code : Mode → Cursor → Reading
+reading_code mode input =
+    reading_behind mode (gap_in mode (place input) (rest input)) (behind_gap mode input) (rest (behind_gap mode input))
+
+abbrev pub reading_if : Bool → Mode → Cursor → Reading
+reading_if true mode input = shebang_reading input
+reading_if false mode input = reading_code mode input
+
 -- what a read finds from a cursor on
-unfoldable pub reading : Mode → Cursor → Reading
-reading mode input =
-    reading_behind mode (has_line_break (gap_mode mode) (rest input)) (behind_gap mode input) (rest (behind_gap mode input))
+abbrev pub reading : Mode → Cursor → Reading
+reading mode input = reading_if (stands_shebang mode (rest input)) mode input
 
-abbrev pub is_error : TokenKind → Bool
-is_error Error = true
-is_error _ = false
+-- a read takes no memory where nothing is wrong in the gap, no comment is collected, and the token takes none
+abbrev pub is_free_behind : Mode → Bool → Text → Bool
+is_free_behind mode flag [] = true
+is_free_behind mode flag (c ∷ cs) = is_free_at mode flag (c ∷ cs)
 
-abbrev pub is_plain : Option SpannedView → Bool
-is_plain None = true
-is_plain (Some t) = not (is_error (kind_of t.token))
+abbrev pub is_free_code : Mode → Cursor → Bool
+is_free_code mode input =
+    is_empty (gap_in mode (place input) (rest input)).faults
+    && (is_empty (gap_in mode (place input) (rest input)).comments
+    && is_free_behind mode (has_line_break (gap_mode mode) (rest input)) (rest (behind_gap mode input)))
 
--- a read that gives no error token takes no memory
-abbrev pub is_free : Reading → Bool
-is_free r = is_plain r.found
+-- a shebang takes none
+abbrev pub is_free : Mode → Cursor → Bool
+is_free mode input = stands_shebang mode (rest input) || is_free_code mode input
 
 -- Laws
 
@@ -70,6 +124,7 @@ pub record IsSameReading (a b : Reading) : Type 0 where
   pub found : a.found ≡ b.found
   pub end_flag : a.end_flag ≡ b.end_flag
   pub faults : a.faults ≡ b.faults
+  pub comments : a.comments ≡ b.comments
   pub left : rest a.input ≡ rest b.input
   pub stands : place a.input ≡ place b.input
 

@@ -1,12 +1,13 @@
 -- What a list of steps answers, and where it comes to.
 use Rattle.std.specs.Prelude.{Bool, false, List, [], ◌∷◌, Option, Some, None, fold, is_none, option_map}
 use Rattle.ecma_place.specs.Cursor.{Cursor, place}
-use Rattle.ecma_token.specs.View.{SpannedView}
+use Rattle.ecma_token.specs.View.{SpannedView, ErrorView}
 use Rattle.ecma_syntax.specs.declared.context.Context.{Context}
+use Rattle.ecma_lexer.specs.Disposition.{Recorded, disposed, of_module_mode, no_errors, none_recorded, with_faults, with_context}
 use Rattle.ecma_lexer.specs.declared.mode.Mode.{Mode}
 use Rattle.ecma_lexer.specs.declared.settings.Settings.{Settings}
 use Rattle.ecma_lexer.specs.declared.step.Step.{Step}
-use Rattle.ecma_lexer.specs.declared.step.Step.TheVariants.{Read}
+use Rattle.ecma_lexer.specs.declared.step.Step.TheVariants.{Read, SetCtx, TakeErrors}
 use Rattle.ecma_lexer.specs.declared.token_context.TokenContext.{TokenContext}
 use Rattle.ecma_lexer.specs.declared.token_context.TokenContext.TheVariants.{BraceStmt}
 use Rattle.ecma_lexer.specs.Reading.{Reading, reading}
@@ -42,12 +43,30 @@ given_of r = given_in r.end_flag r.found
 
 -- the lexer behind a read
 abbrev pub state_behind : LexerState → Reading → LexerState
-state_behind l r = record l { input = r.input; seen = seeing l.seen (given_of r) }
+state_behind l r =
+    record l { input = r.input; errors = with_faults l.context l.errors r.faults; seen = seeing l.seen (given_of r) }
+
+-- the lexer in a context, and with the recorded errors taken
+abbrev pub state_in : Context → LexerState → LexerState
+state_in context l = record l { context = context; errors = with_context context l.errors }
+
+-- the lexer with one more error
+abbrev pub state_with_error : ErrorView → LexerState → LexerState
+state_with_error e l = record l { errors = disposed l.errors e Recorded }
+
+abbrev pub state_with_module_mode_error : ErrorView → LexerState → LexerState
+state_with_module_mode_error e l = record l { errors = disposed l.errors e (of_module_mode l.context) }
+
+abbrev pub state_without_errors : LexerState → LexerState
+state_without_errors l = record l { errors = none_recorded l.errors }
 
 -- what a step answers
 pub data Answer : Type 0 where
   Token' : SpannedView → Answer
   End : Answer
+  -- the step was taken, and there is nothing to tell
+  Done : Answer
+  Errors' : List ErrorView → Answer
 
 abbrev pub answer_in : Option SpannedView → Answer
 answer_in None = End
@@ -59,11 +78,18 @@ pub record Acted : Type 0 where
   pub answer : Answer
 
 abbrev pub acted_on : Session → Reading → Acted
-acted_on s r = record { after = record s { input = r.input; past = given_of r ∷ s.past }; answer = answer_in r.found }
+acted_on s r =
+    record {
+      after = record s { input = r.input; errors = with_faults s.context s.errors r.faults; past = given_of r ∷ s.past };
+      answer = answer_in r.found;
+    }
 
 -- one step
 abbrev pub act : Session → Step → Acted
 act s Read = acted_on s (reading_of (state_of s))
+act s (SetCtx context) =
+    record { after = record s { context = context; errors = with_context context s.errors }; answer = Done }
+act s TakeErrors = record { after = record s { errors = none_recorded s.errors }; answer = Errors' s.errors.recorded }
 
 -- no flag is set
 abbrev pub no_context : Context
@@ -104,10 +130,12 @@ abbrev pub start_of : Settings → Cursor → Session
 start_of settings input =
     record {
       settings = settings;
+      start = record { 0 = place input };
       input = input;
       context = no_context;
       contexts = BraceStmt ∷ [];
       opened = place input;
+      errors = no_errors;
       past = [];
     }
 

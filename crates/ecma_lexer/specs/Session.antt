@@ -5,7 +5,10 @@ use Rattle.ecma_token.specs.declared.kind.TokenKind.{TokenKind}
 use Rattle.ecma_token.specs.declared.kind.TokenKind.TheVariants.{Shebang}
 use Rattle.ecma_token.specs.Kinds.{kind_of}
 use Rattle.ecma_token.specs.View.{SpannedView}
+use Rattle.ecma_place.specs.declared.place.BytePos.{BytePos}
 use Rattle.ecma_syntax.specs.declared.context.Context.{Context}
+use Rattle.ecma_lexer.specs.Disposition.{Errors}
+use Rattle.ecma_lexer.specs.Errors.{ErrorsKept, errors_view}
 use Rattle.ecma_lexer.specs.declared.kept.Kept.{Kept}
 use Rattle.ecma_lexer.specs.declared.kept.Seen.{Seen}
 use Rattle.ecma_lexer.specs.declared.settings.Settings.{Settings}
@@ -60,12 +63,15 @@ kept_back (AtEnd flag ∷ past) = kept_back past
 -- What steps have come to
 pub record Session : Type 0 where
   pub settings : Settings
+  -- the place where the lexer began
+  pub start : BytePos
   pub input : Cursor
   pub context : Context
   -- the innermost first
   pub contexts : List TokenContext
   -- where the back quote stands that opened a template last
   pub opened : ℕ
+  pub errors : Errors
   pub past : Past
 
 -- What a lexer keeps of its answers
@@ -81,10 +87,12 @@ seeing seen (AtEnd flag) = record { first = seen.first; last = seen.last; flag =
 -- What a lexer is to its callers
 pub record LexerState : Type 0 where
   pub settings : Settings
+  pub start : BytePos
   pub input : Cursor
   pub context : Context
   pub contexts : List TokenContext
   pub opened : ℕ
+  pub errors : Errors
   pub seen : Seen
   -- whether memory was refused
   pub refused : Bool
@@ -94,10 +102,39 @@ abbrev pub state_of : Session → LexerState
 state_of s =
     record {
       settings = s.settings;
+      start = s.start;
       input = s.input;
       context = s.context;
       contexts = s.contexts;
       opened = s.opened;
+      errors = s.errors;
       seen = seen_of s.past;
       refused = false;
+    }
+
+-- the same with the errors as they are kept
+pub record LexerKept : Type 0 where
+  pub settings : Settings
+  pub start : BytePos
+  pub input : Cursor
+  pub context : Context
+  pub contexts : List TokenContext
+  pub opened : ℕ
+  pub errors : ErrorsKept
+  pub seen : Seen
+  pub refused : Bool
+
+-- how a lexer is seen
+abbrev pub lexer_state : LexerKept → LexerState
+lexer_state l =
+    record {
+      settings = l.settings;
+      start = l.start;
+      input = l.input;
+      context = l.context;
+      contexts = l.contexts;
+      opened = l.opened;
+      errors = errors_view l.errors;
+      seen = l.seen;
+      refused = l.refused;
     }

@@ -1,22 +1,29 @@
 -- The token at a place (ECMA-262 InputElementDiv, 12): which reader reads it, by its first characters.
-use Rattle.std.specs.Prelude.{Bool, true, false, [], ◌∷◌, Option, Some, None, Result, Ok, Err}
+use Rattle.std.specs.Prelude.{ℕ, Bool, true, false, not, ◌&&◌, List, [], ◌∷◌, Option, Some, None, Result, Ok, Err, is_ok}
+use Rattle.std.specs.List.{list_any}
+use Rattle.ecma_place.specs.Atom.{AtomView}
 use Rattle.ecma_place.specs.Text.{Text}
+use Rattle.ecma_place.specs.declared.comment.Comment.{Comment}
 use Rattle.ecma_syntax.specs.declared.word.Word.{Word}
 use Rattle.ecma_token.specs.declared.token.Token as token
 use Rattle.ecma_token.specs.declared.error.SyntaxError.{UnexpectedChar}
-use Rattle.ecma_token.specs.View.{TokenView, ErrorView, plain, plain_token, error_token}
+use Rattle.ecma_token.specs.View.{TokenView, ErrorView, plain, plain_token, error_token, owns_nothing}
+use Rattle.ecma_scan.specs.Bars as bars
 use Rattle.ecma_scan.specs.Found.{Scanned, error_at}
-use Rattle.ecma_scan.specs.DigitRuns as numbers
-use Rattle.ecma_scan.specs.PlainWords as words
+use Rattle.ecma_scan.specs.Numbers as numbers
+use Rattle.ecma_scan.specs.Words as words
 use Rattle.ecma_scan.specs.Punctuators as punctuators
-use Rattle.ecma_lexer.specs.Mode.{type_mode}
+use Rattle.ecma_scan.specs.Strings as strings
+use Rattle.ecma_lexer.specs.Mode.{gap_mode, type_mode, is_typescript, is_since_es5}
 use Rattle.ecma_lexer.specs.declared.mode.Mode.{Mode}
+use Rattle.ecma_lexer.specs.declared.opening.Opening.{Opening}
+use Rattle.ecma_lexer.specs.declared.opening.Opening.TheVariants as opens
 
-abbrev word_value : Result Word ErrorView → Result TokenView ErrorView
+abbrev pub word_value : Result Word ErrorView → Result TokenView ErrorView
 word_value (Ok word) = Ok (plain_token (token.Word word))
 word_value (Err error) = Err error
 
-abbrev as_token : Scanned Word → Scanned TokenView
+abbrev pub as_token : Scanned Word → Scanned TokenView
 as_token s = record { value = word_value s.value; faults = s.faults; spelling = s.spelling; line_break = s.line_break }
 
 abbrev pub word_token : Mode → Text → Scanned TokenView
@@ -34,32 +41,69 @@ punctuator_or_stray None text = stray text
 abbrev pub other_token : Mode → Text → Scanned TokenView
 other_token mode text = punctuator_or_stray (punctuators.punctuator_in (type_mode mode) text) text
 
--- what the first characters of a text open
-pub data Opening : Type 0 where
-  Number : Opening
-  Word' : Opening
-  Other : Opening
+-- what the first characters of a text open, by the first question that is answered so
+abbrev pub opening_from : Bool → Bool → Bool → Bool → Opening
+opening_from true string word bars = opens.Number
+opening_from false true word bars = opens.String
+opening_from false false true bars = opens.Word
+opening_from false false false true = opens.Bars
+opening_from false false false false = opens.Other
 
-abbrev pub opening_from : Bool → Bool → Opening
-opening_from true word = Number
-opening_from false true = Word'
-opening_from false false = Other
+-- bars open a marker only where the flag stands
+abbrev pub opening : Bool → Text → Opening
+opening flag text =
+    opening_from (numbers.opens_number text) (strings.opens_string text) (words.opens_word text) (flag && bars.opens_bars text)
 
-abbrev pub opening : Text → Opening
-opening text = opening_from (numbers.opens_number text) (words.opens_word text)
-
--- legacy octals are told of as TypeScript does; has no effect yet
+-- legacy octals are told of as TypeScript does, for targets from the fifth edition on
 abbrev pub ts1085 : Mode → Bool
-ts1085 mode = false
+ts1085 mode = is_typescript mode.settings.syntax && is_since_es5 mode.settings.target
 
 abbrev pub read_opened : Opening → Mode → Text → Scanned TokenView
-read_opened Number mode text = numbers.number (ts1085 mode) text
-read_opened Word' mode text = word_token mode text
-read_opened Other mode text = other_token mode text
+read_opened opens.Number mode text = numbers.number (ts1085 mode) text
+read_opened opens.String mode text = strings.string_literal text
+read_opened opens.Word mode text = word_token mode text
+read_opened opens.Bars mode text = bars.bars_token text
+read_opened opens.Other mode text = other_token mode text
 
--- the token at a text that isn't empty
-abbrev pub token_at : Mode → Text → Scanned TokenView
-token_at mode text = read_opened (opening text) mode text
+-- the token at a text that isn't empty, where the flag of the gap before stands or not
+abbrev pub token_at : Mode → Bool → Text → Scanned TokenView
+token_at mode flag text = read_opened (opening flag text) mode text
+
+-- the comments of a token: a marker of bars holds some
+abbrev pub comments_in : Opening → Mode → ℕ → Text → List (Comment × Bool)
+comments_in opens.Bars mode n text = bars.bars_comments_at n (gap_mode mode) text
+comments_in _ mode n text = []
+
+abbrev pub token_comments : Mode → Bool → ℕ → Text → List (Comment × Bool)
+token_comments mode flag n text = comments_in (opening flag text) mode n text
+
+-- all texts of the token are slices
+abbrev pub is_borrowed : Result TokenView ErrorView → Bool
+is_borrowed (Ok token) = owns_nothing token
+is_borrowed (Err error) = false
+
+abbrev pub is_borrowed_name : Result AtomView ErrorView → Bool
+is_borrowed_name (Ok text) = text.is_borrowed
+is_borrowed_name (Err error) = false
+
+-- nothing in a token asks for memory: no separator in a number, no escape in a string or a word
+abbrev pub asks_for_none : Opening → Text → Scanned TokenView → Bool
+asks_for_none opens.Number text s = not (list_any numbers.is_separator s.spelling)
+asks_for_none opens.String text s = is_borrowed s.value
+asks_for_none opens.Word text s = is_borrowed_name (words.identifier_name text).value
+asks_for_none opens.Bars text s = false
+asks_for_none opens.Other text s = true
+
+abbrev pub is_empty : {A : Type 0} → List A → Bool
+is_empty [] = true
+is_empty (item ∷ items) = false
+
+-- what is read takes no memory where nothing is wrong with it and it asks for none
+abbrev pub is_free_token : Opening → Text → Scanned TokenView → Bool
+is_free_token opened text s = is_ok s.value && (is_empty s.faults && asks_for_none opened text s)
+
+abbrev pub is_free_at : Mode → Bool → Text → Bool
+is_free_at mode flag text = is_free_token (opening flag text) text (token_at mode flag text)
 
 -- a refused text is a token too
 abbrev pub token_of : Result TokenView ErrorView → TokenView

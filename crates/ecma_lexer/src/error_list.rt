@@ -1,5 +1,5 @@
 //! Errors in order.
-ghost use Rattle.std.specs.Prelude.{◌≡◌, ◌++◌, ◌∷◌, ◌==◌, [], length, take, OnOk, OnErr, IfErr};
+ghost use Rattle.std.specs.Prelude.{◌≡◌, ◌++◌, ◌∷◌, ◌==◌, [], length, take, OnOk, OnErr, IfErr, IsOk};
 
 use ecma_token::Error;
 use std::alloc::{AllocError, Global};
@@ -70,7 +70,7 @@ impl<'a> ErrorList<'a> {
         }
     }
 
-    /// Moves the errors of another list to the end of this one.
+    /// Moves the errors of another list to the end of this one, which takes no memory where there are none.
     ///
     /// # Errors
     ///
@@ -80,7 +80,11 @@ impl<'a> ErrorList<'a> {
         ensures moved { OnOk result (other.new ≡ []) }
         ensures err { OnErr result (self.new ≡ self.old) }
         ensures kept { OnErr result (other.new ≡ other.old) }
+        ensures free { other.old ≡ [] → IsOk result }
     {
+        if other.is_empty() {
+            return Ok(());
+        }
         self.errors.append(&mut other.errors)
     }
 

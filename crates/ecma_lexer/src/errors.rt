@@ -1,9 +1,9 @@
 //! What becomes of what is wrong.
-ghost use Rattle.std.specs.Prelude.{◌≡◌, ◌++◌, [], length, map, take, OnOk, OnErr, IfErr};
+ghost use Rattle.std.specs.Prelude.{◌≡◌, ◌++◌, ◌≤◌, [], false, length, map, take, OnOk, OnErr, IfErr, IsOk};
 ghost use Rattle.ecma_token.specs.View.{error_view};
 ghost use Rattle.ecma_scan.specs.Found.{fault_view};
 ghost use Rattle.ecma_lexer.specs.Disposition as dispose;
-ghost use Rattle.ecma_lexer.specs.Errors.{errors_view};
+ghost use Rattle.ecma_lexer.specs.Errors.{errors_view, Begins};
 
 use crate::error_list::ErrorList;
 use ecma_scan::Blame;
@@ -11,6 +11,7 @@ use ecma_syntax::Context;
 use ecma_token::Error;
 use std::alloc::{AllocError, Global};
 use std::marker::Model;
+use std::mem;
 
 /// The errors that were recorded, and those that wait until the code is known to be a module.
 #[derive(Drop)]
@@ -53,6 +54,7 @@ impl<'a> ErrorLists<'a> {
         ensures ok { OnOk result (errors_view self.new ≡ dispose.disposed (errors_view self.old) (error_view error.entry) (dispose.of_recorded context.now)) }
         ensures err { OnErr result (self.new ≡ self.old) }
         ensures back { IfErr result (λ e. e ≡ error.entry) }
+        ensures begins { Begins self.old self.new }
     {
         if context.ignore_error {
             Ok(())
@@ -70,6 +72,7 @@ impl<'a> ErrorLists<'a> {
         ensures ok { OnOk result (errors_view self.new ≡ dispose.disposed (errors_view self.old) (error_view error.entry) (dispose.of_module_mode context.now)) }
         ensures err { OnErr result (self.new ≡ self.old) }
         ensures back { IfErr result (λ e. e ≡ error.entry) }
+        ensures begins { Begins self.old self.new }
     {
         if context.module {
             self.recorded.push(error)
@@ -92,6 +95,7 @@ impl<'a> ErrorLists<'a> {
         ensures ok { OnOk result (errors_view self.new ≡ dispose.disposed (errors_view self.old) (error_view error.entry) (dispose.disposition context.now blame)) }
         ensures err { OnErr result (self.new ≡ self.old) }
         ensures back { IfErr result (λ e. e ≡ error.entry) }
+        ensures begins { Begins self.old self.new }
     {
         match blame {
             Blame::Always => self.take_recorded(context, error),
@@ -100,7 +104,75 @@ impl<'a> ErrorLists<'a> {
         }
     }
 
-    /// Takes in a new context.
+    /// Takes in faults in order, or, where memory is refused, a beginning of them.
+    fn take_faults(
+        &mut self,
+        context: &Context,
+        faults: Vec<(Blame, Error<'a>)>,
+    ) -> Result<(), AllocError>
+        ensures ok { OnOk result (errors_view self.new ≡ dispose.with_faults context.now (errors_view self.old) (map fault_view faults.entry.items)) }
+        ensures kept { Begins self.old self.new }
+        ensures free { faults.entry.items ≡ [] → IsOk result }
+    {
+        'faults: for (blame, error) in faults {
+            if self.take_fault(context, blame, error).is_err() {
+                return Err(AllocError);
+            }
+        }
+        Ok(())
+    }
+
+    /// Takes in the faults of a gap, and then those of the token behind it.
+    fn take_both(
+        &mut self,
+        context: &Context,
+        of_gap: Vec<(Blame, Error<'a>)>,
+        of_token: Vec<(Blame, Error<'a>)>,
+    ) -> Result<(), AllocError>
+        ensures ok { OnOk result (errors_view self.new ≡ dispose.with_faults context.now (errors_view self.old) (map fault_view of_gap.entry.items ++ map fault_view of_token.entry.items)) }
+        ensures kept { Begins self.old self.new }
+        ensures free { of_gap.entry.items ≡ [] → of_token.entry.items ≡ [] → IsOk result }
+    {
+        self.take_faults(context, of_gap)?;
+        self.take_faults(context, of_token)
+    }
+
+    /// Takes in the faults of a read: those of the gap, and then those of the token.
+    ///
+    /// It takes no memory where there are none.
+    ///
+    /// # Errors
+    ///
+    /// `AllocError` where there is no memory for them. Nothing is then changed.
+    pub fn take_read(
+        &mut self,
+        context: &Context,
+        of_gap: Vec<(Blame, Error<'a>)>,
+        of_token: Vec<(Blame, Error<'a>)>,
+    ) -> Result<(), AllocError>
+        ensures ok { OnOk result (errors_view self.new ≡ dispose.with_faults context.now (errors_view self.old) (map fault_view of_gap.entry.items ++ map fault_view of_token.entry.items)) }
+        ensures err { OnErr result (self.new ≡ self.old) }
+        ensures free { map fault_view of_gap.entry.items ++ map fault_view of_token.entry.items ≡ [] → IsOk result }
+    {
+        let recorded = self.recorded.len();
+        let waiting = self.waiting.len();
+        let taken = self.take_both(context, of_gap, of_token);
+        if taken.is_err() {
+            self.recorded.truncate(recorded);
+            self.waiting.truncate(waiting);
+        }
+        taken
+    }
+
+    /// The errors that were recorded. None is recorded then.
+    pub fn take_recorded_list(&mut self, alloc: Global) -> ErrorList<'a>
+        ensures list { map error_view result ≡ (errors_view self.old).recorded }
+        ensures after { errors_view self.new ≡ dispose.none_recorded (errors_view self.old) }
+    {
+        mem::replace(&mut self.recorded, ErrorList::new(alloc))
+    }
+
+    /// Takes in a new context, which takes no memory outside of modules, nor where nothing waits.
     ///
     /// # Errors
     ///
@@ -108,6 +180,8 @@ impl<'a> ErrorLists<'a> {
     pub fn enter(&mut self, context: &Context) -> Result<(), AllocError>
         ensures ok { OnOk result (errors_view self.new ≡ dispose.with_context context.now (errors_view self.old)) }
         ensures err { OnErr result (self.new ≡ self.old) }
+        ensures outside { context.now.«module» ≡ false → IsOk result }
+        ensures none_waiting { (errors_view self.old).waiting ≡ [] → IsOk result }
     {
         if context.module {
             self.recorded.append(&mut self.waiting)

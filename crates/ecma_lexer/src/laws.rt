@@ -17,7 +17,7 @@ pub fn kept_and_gaps_tile()
     ensures { Tiles }
 {}
 
-/// Enough reads answer the end, and more of them keep the same tokens.
+/// Enough reads answer the end, from any session, and more of them keep the same tokens and errors.
 pub fn reads_end()
     ensures { ReadsOut }
 {}

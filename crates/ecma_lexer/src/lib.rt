@@ -1,23 +1,34 @@
 //! The lexer: what it reads by, the token at a place, and one read after another.
 #![tactic(auto)]
 
+mod attachment;
+pub mod comments_buffer;
 pub mod error_list;
 mod errors;
 pub mod kept;
 pub mod laws;
 pub mod lexer;
 pub mod mode;
+mod opening;
 mod read;
 pub mod settings;
+pub mod state;
 pub mod step;
 #[cfg(test)]
 mod tests;
 mod token_at;
 pub mod token_context;
+pub mod token_contexts;
+pub mod tokens;
+mod transition;
 
+pub use comments_buffer::{BufferedComment, BufferedCommentKind, CommentsBuffer};
 pub use error_list::ErrorList;
 pub use kept::Kept;
 pub use lexer::Lexer;
 pub use settings::Settings;
+pub use state::State;
 pub use step::Step;
 pub use token_context::TokenContext;
+pub use token_contexts::TokenContexts;
+pub use tokens::Tokens;

@@ -1,12 +1,13 @@
 //! What a read goes by besides the text.
 ghost use Rattle.std.specs.Prelude.{◌≡◌};
 ghost use Rattle.ecma_lexer.specs.Mode.{type_mode, gap_mode};
+ghost use Rattle.ecma_lexer.specs.TokenAt.{ts1085};
 
 use crate::settings::Settings;
 use crate::token_context::TokenContext;
 use ecma_place::BytePos;
 use ecma_scan::GapMode;
-use ecma_syntax::{Context, Syntax};
+use ecma_syntax::{Context, EsVersion, Syntax};
 use ecma_token::TokenKind;
 
 /// What a read goes by besides the text.
@@ -34,6 +35,14 @@ impl Mode {
         matches!(self.settings.syntax, Syntax::Typescript(_))
             && self.context.in_type
             && !self.context.should_not_lex_lt_or_gt_as_type
+    }
+
+    /// Whether legacy octals are told of as TypeScript does: for targets from the fifth edition on.
+    pub fn ts1085(&self) -> bool
+        ensures { result ≡ ts1085 self.now }
+    {
+        matches!(self.settings.syntax, Syntax::Typescript(_))
+            && !matches!(self.settings.target, EsVersion::Es3)
     }
 
     /// What the gap before the next token is read by.

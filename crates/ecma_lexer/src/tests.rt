@@ -1,5 +1,9 @@
 //! Rows of the lexer: what texts give from place 0, as ECMAScript with every option off.
+mod comments;
+mod contexts;
 mod error_lists;
+mod readers;
+mod states;
 
 use crate::kept::Kept;
 use crate::lexer::Lexer;
@@ -178,7 +182,7 @@ fn tells_words_apart(rt: HostRuntime) -> Result<(), Fail> {
 #[test]
 fn refuses_a_stray_character(rt: HostRuntime) -> Result<(), Fail> {
     let alloc = rt.alloc();
-    assert_rows(&rt, alloc, "\"", &[row(0, 1, true, TokenKind::Error)])?;
+    assert_rows(&rt, alloc, "\\", &[row(0, 1, true, TokenKind::Error)])?;
     let nul = [row(0, 1, true, TokenKind::Error), row(1, 2, false, NAME)];
     assert_rows(&rt, alloc, "\0a", &nul)?;
     let token = first(alloc, "\u{20ac}")?;

@@ -1,9 +1,10 @@
 //! What encloses the place that is read.
 
 /// What encloses the place that is read, as far as the lexer tells by itself.
-#[derive(Debug, Clone, Copy, PartialEq, Eq)]
+#[derive(Debug, Clone, Copy, PartialEq, Eq, Default)]
 pub enum TokenContext {
-    /// A block.
+    /// A block, and what encloses a whole text.
+    #[default]
     BraceStmt,
     /// An object literal.
     BraceExpr,

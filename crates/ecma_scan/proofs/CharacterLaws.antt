@@ -1,7 +1,7 @@
 -- No character of white space begins or goes on with a word.
 use Rattle.std.proofs.Common.{◌≡◌, ℕ, Bool, true, false, not, ◌||◌, ◌==◌, List, [], ◌∷◌, refl, ap, ◌∙◌, eqb-true, arith}
 use Rattle.std.specs.List.{list_all}
-use Rattle.std.proofs.lemmas.Bool.{and_parts}
+use Rattle.std.proofs.lemmas.Bool.{and_parts, not-true}
 use Rattle.std.proofs.lemmas.Bool.Decides.{nat_tests}
 use Rattle.unicode.proofs.IdentComputing.{unicode_ident}
 use Rattle.ecma_place.specs.Character.{is_ident_part, is_white_space, is_line_terminator}
@@ -33,9 +33,5 @@ no_part : list_all (λ c. not (is_ident_part c)) white ≡ true
 unfolding is_ident_part unicode_ident
 no_part = refl
 
-not_true : (a : Bool) → not a ≡ true → a ≡ false
-not_true true h = cc
-not_true false h = refl
-
 pub white-no_part : (c : ℕ) → is_white_space c ≡ true → is_ident_part c ≡ false
-white-no_part c h = not_true (is_ident_part c) (listed_passes (λ x. not (is_ident_part x)) white c no_part (is_listed c h))
+white-no_part c h = not-true (is_ident_part c) (listed_passes (λ x. not (is_ident_part x)) white c no_part (is_listed c h))

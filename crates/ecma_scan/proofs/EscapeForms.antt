@@ -24,7 +24,7 @@ use Rattle.ecma_scan.specs.declared.escape.Use.TheVariants as place
 use Rattle.ecma_scan.specs.Found.{error_at}
 use Rattle.ecma_scan.specs.EscapeAnswers.{answered, refusal_error, use_of, is_word, digit_front}
 use Rattle.ecma_scan.proofs.EscapeReading.{parsed-ok, parsed-err}
-use Rattle.ecma_scan.proofs.Fronts.{after_drop}
+use Rattle.ecma_scan.proofs.Fronts.{after_drop, first-cons}
 
 -- an escape that is answered so, and n characters long
 abbrev pub Answers : Use → Answer → ℕ → Escape → Type 0
@@ -152,10 +152,6 @@ hex-rest old now e = rest-behind old now _ e ∙ sym (after_drop is_hex_digit (r
 
 pub passed-both : (old one two : Cursor) (m n k : ℕ) → one ≡ passed m old → two ≡ passed n one → k ≡ m + n → two ≡ passed k old
 passed-both old one two m n k first more sum = more ∙ ap (passed n) first ∙ sym (passed-later-by old k n m sum)
-
-pub first-cons : (text : Text) (c : ℕ) → slice_get text 0 ≡ Some c → text ≡ c ∷ drop 1 text
-first-cons [] c e = cc
-first-cons (d ∷ cs) c e = ap (λ x. x ∷ cs) (let same : d ≡ c = cc in same)
 
 pub line_end-size : (c : ℕ) (cs : Text) (b : Bool) → (c == 13) ≡ true → b ≡ next_is 10 cs → length (line_end c cs) ≡ cond b 2 1
 line_end-size c cs b e is = rw (e, is) (go (next_is 10 cs))

@@ -151,7 +151,7 @@ three_again n t u h a = elim (cases_lt n 2) [
   | inr long ↦ take_front 3 is_octal_digit t u (agree_less 3 (suc n) t u (omega arith) a)
 ]
 
-octal_length : (t : Text) → length (take 2 (front is_octal_digit t)) ≤ length (octal_digits t)
+pub octal_length : (t : Text) → length (take 2 (front is_octal_digit t)) ≤ length (octal_digits t)
 octal_length t = go (nat_lt (digits_value 8 (take 3 (front is_octal_digit t))) 256) refl
   where
     go : (x : Bool) → nat_lt (digits_value 8 (take 3 (front is_octal_digit t))) 256 ≡ x → length (take 2 (front is_octal_digit t)) ≤ length (octal_digits t)

@@ -1,7 +1,7 @@
 -- The elements of a gap by rules: what is read is as they say, and what they say is read.
 use Rattle.std.proofs.Common.{◌≡◌, ◌≤◌, ◌<◌, ℕ, Bool, true, false, not, cond, ◌&&◌, ◌||◌, ◌==◌, List, [], ◌∷◌, ◌++◌, drop, length, Option, Some, None, refl, ap, ◌∙◌, sym, subst, append_assoc, append-nil, length-append, arith, eqb-true}
 use Rattle.std.specs.Prelude.{⊤, codes, replicate, option_map}
-use Rattle.std.proofs.lemmas.Bool.{and_parts}
+use Rattle.std.proofs.lemmas.Bool.{and_parts, not-true}
 use Rattle.ecma_place.specs.Text.{Text}
 use Rattle.ecma_place.specs.Character.{is_white_space, is_line_terminator}
 use Rattle.ecma_scan.specs.declared.gap.GapMode.{GapMode}
@@ -38,7 +38,7 @@ line_again : (text rest : Text) → IsLine text rest → line (text ++ rest) ≡
 line_again text rest is = front_run in_line text rest is.0 is.1
 
 -- a spelling and a line, at a text that begins with the spelling
-spelled_line : (needle text : Text) → begins_with needle text ≡ true
+pub spelled_line : (needle text : Text) → begins_with needle text ≡ true
     → ((needle ++ line (drop (length needle) text)) ++ behind_line (drop (length needle) text) ≡ text)
 spelled_line needle text e = rw append_assoc (ap (λ l. needle ++ l) (line_front (drop (length needle) text)) ∙ begins_with-front needle text e)
 
@@ -161,7 +161,7 @@ abbrev pub RuledIf : Bool → Bool → Option Element → Text → Type 0
 RuledIf type_mode flag None text = ⊤
 RuledIf type_mode flag (Some e) text = (rest : Text) × (element_text e ++ rest ≡ text) × IsElement type_mode flag e rest
 
-block_ruled : (type_mode flag : Bool) (text : Text) → begins_with (codes "/*") text ≡ true → RuledIf type_mode flag (Some (block_of (comment_body (drop 2 text)) (drop 2 text))) text
+pub block_ruled : (type_mode flag : Bool) (text : Text) → begins_with (codes "/*") text ≡ true → RuledIf type_mode flag (Some (block_of (comment_body (drop 2 text)) (drop 2 text))) text
 block_ruled type_mode flag text e = go (comment_body (drop 2 text)) refl (body_front (drop 2 text))
   where
     whole : codes "/*" ++ drop 2 text ≡ text
@@ -188,15 +188,11 @@ marker_ruled type_mode (c ∷ cs) = go (is_marker type_mode c (c ∷ cs)) refl
 special_ruled : (type_mode flag : Bool) (text : Text) → RuledIf type_mode flag (special_element type_mode flag text) text
 special_ruled type_mode flag text = go (begins_with (codes "<!--") text && not type_mode) flag (begins_with (codes "-->") text) refl refl (marker_ruled type_mode text)
   where
-    not_true : (a : Bool) → not a ≡ true → a ≡ false
-    not_true true h = cc
-    not_true false h = refl
-
     go : (x flag z : Bool) → (begins_with (codes "<!--") text && not type_mode) ≡ x → begins_with (codes "-->") text ≡ z → RuledIf type_mode true (marker type_mode text) text
         → RuledIf type_mode flag (cond x (Some (HtmlOpening (line (drop 4 text)))) (cond flag (cond z (Some (HtmlClosing (line (drop 3 text)))) (marker type_mode text)) None)) text
     go true flag z e f h =
         let (begins, code) = and_parts (begins_with (codes "<!--") text) (not type_mode) e in
-        (behind_line (drop 4 text), spelled_line (codes "<!--") text begins, (not_true type_mode code, line_is (drop 4 text)))
+        (behind_line (drop 4 text), spelled_line (codes "<!--") text begins, (not-true type_mode code, line_is (drop 4 text)))
     go false true true e f h = (behind_line (drop 3 text), spelled_line (codes "-->") text f, (refl, line_is (drop 3 text)))
     go false true false e f h = h
     go false false z e f h = tt

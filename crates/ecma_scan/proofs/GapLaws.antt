@@ -1,5 +1,6 @@
 -- The elements of a gap and what follows them tile the text.
 use Rattle.std.proofs.Common.{◌≡◌, ℕ, Bool, true, false, not, cond, ◌&&◌, ◌||◌, ◌==◌, List, [], ◌∷◌, ◌++◌, drop, length, Option, Some, None, refl, ap, ◌∙◌, sym}
+use Rattle.std.proofs.lemmas.Bool.{and_right, not-true}
 use Rattle.std.specs.Prelude.{codes, replicate}
 use Rattle.std.specs.List.{list_any}
 use Rattle.std.proofs.Math.Bool.{or_assoc}
@@ -57,18 +58,10 @@ not_or true b h = cc
 not_or false true h = cc
 not_or false false h = (refl, refl)
 
-not_true : (a : Bool) → not a ≡ true → a ≡ false
-not_true true h = cc
-not_true false h = refl
-
-and_none : (a b : Bool) → b ≡ false → (a && b) ≡ false
-and_none true b e = e
-and_none false b e = refl
-
 marker_none : (type_mode : Bool) (c : ℕ) (cs : Text) → (c == 61) ≡ false → (c == 60) ≡ false → (c == 62) ≡ false → marker type_mode (c ∷ cs) ≡ None
 marker_none type_mode c cs equals less greater =
     let no : (c == 61 || (((c == 60 || c == 62) && not type_mode) && next_is 32 (drop 6 cs))) ≡ false = rw (equals, less, greater) in
-    cond_false (is_marker type_mode c (c ∷ cs)) (Some (Marker c (line (drop 6 cs)))) None (and_none (begins_with (replicate 7 c) (c ∷ cs)) _ no)
+    cond_false (is_marker type_mode c (c ∷ cs)) (Some (Marker c (line (drop 6 cs)))) None (and_right (begins_with (replicate 7 c) (c ∷ cs)) _ no)
 
 pub special_none : (type_mode flag : Bool) (c : ℕ) (cs : Text) → (c == 45) ≡ false → (c == 61) ≡ false → (c == 60) ≡ false → (c == 62) ≡ false
     → special_element type_mode flag (c ∷ cs) ≡ None
@@ -86,7 +79,7 @@ no_element mode flag c cs h =
     let d = not_or _ (c == 45) b.0 in
     let e = not_or _ (c == 60) d.0 in
     let f = not_or _ (c == 47) e.0 in
-    cond_false _ _ _ (not_true _ f.0)
+    cond_false _ _ _ (not-true _ f.0)
     ∙ cond_false _ _ _ (ap (λ x. x && begins_with (codes "/") cs) f.1)
     ∙ cond_false _ _ _ (ap (λ x. x && begins_with (codes "*") cs) f.1)
     ∙ special_none mode.type_mode flag c cs d.1 b.1 e.1 a.1

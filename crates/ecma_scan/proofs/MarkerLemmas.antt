@@ -1,20 +1,11 @@
 -- Conflict markers, by the texts that their reader looks for.
-use Rattle.std.proofs.Common.{◌≡◌, ℕ, Bool, true, false, ◌&&◌, ◌==◌, [], ◌∷◌, ◌++◌, drop, length, refl, sym, ap, ◌∙◌, nat_eq, codes, arith}
+use Rattle.std.proofs.Common.{◌≡◌, ℕ, Bool, true, false, ◌&&◌, ◌==◌, [], ◌∷◌, ◌++◌, drop, length, refl, sym, ◌∙◌, nat_eq, codes}
 use Rattle.std.specs.List.{starts_with}
-use Rattle.std.proofs.lemmas.Bool.Decides.{nat_tests}
 use Rattle.std.specs.Str.{chars}
 use Rattle.ecma_place.specs.Text.{Text}
 use Rattle.ecma_scan.specs.Fronts.{begins_with, next_is}
 use Rattle.ecma_scan.specs.Gaps.{is_marker}
-
-eq-sym : (x c : ℕ) → (x == c) ≡ (c == x)
-eq-sym x c = grind (arith, nat_tests)
-
-starts-begins : (needle text : Text) → starts_with nat_eq text needle ≡ begins_with needle text
-starts-begins [] [] = refl
-starts-begins [] (c ∷ cs) = refl
-starts-begins (x ∷ xs) [] = refl
-starts-begins (x ∷ xs) (c ∷ cs) = ap (λ b. (x == c) && b) (starts-begins xs cs) ∙ ap (λ b. b && begins_with xs cs) (eq-sym x c)
+use Rattle.ecma_scan.proofs.SignLemmas.{starts-begins}
 
 and-true : (b : Bool) → (b && true) ≡ b
 and-true true = refl

@@ -4,7 +4,7 @@ use Rattle.std.specs.Prelude.{is_some, option_map}
 use lib.Utf8.{encode}
 use Rattle.std.specs.List.{list_all, list_any}
 use Rattle.std.specs.Str.Parse.{digits_value}
-use Rattle.std.proofs.lemmas.Bool.{and_parts}
+use Rattle.std.proofs.lemmas.Bool.{and_parts, and_right}
 use Rattle.std.proofs.lemmas.Bool.Decides.{nat_tests}
 use Rattle.std.proofs.lemmas.List.{drop_at}
 use Rattle.ecma_place.specs.Text.{Text, byte_len}
@@ -100,10 +100,6 @@ stops_at_n Octal = refl
 stops_at_n Decimal = refl
 stops_at_n Hex = refl
 
-and_none : (a b : Bool) → b ≡ false → (a && b) ≡ false
-and_none true b e = e
-and_none false b e = refl
-
 -- a number with a prefix is read again
 
 suffix_stops : (radix : Radix) (run suffix tail : Text) → IsSuffix radix run suffix → separates tail ≡ true → next_passes (in_run radix) (suffix ++ tail) ≡ false
@@ -111,7 +107,7 @@ suffix_stops radix run suffix tail (inl e) h = rw e (separated (in_run radix) ta
 suffix_stops radix run suffix tail (inr e) h = rw e.0 (stops_at_n radix)
 
 suffix_back : (radix : Radix) (run suffix tail : Text) → IsSuffix radix run suffix → separates tail ≡ true → suffix_of (is_big radix run (suffix ++ tail)) ≡ suffix
-suffix_back radix run suffix tail (inl e) h = rw e (rw (and_none (list_any (digit radix) run) (next_is 110 tail) (separated (is 110) tail refl refl h)))
+suffix_back radix run suffix tail (inl e) h = rw e (rw (and_right (list_any (digit radix) run) (next_is 110 tail) (separated (is 110) tail refl refl h)))
 suffix_back radix run suffix tail (inr e) h = rw e.0 (rw e.1)
 
 prefixed_back : (radix : Radix) (letter : ℕ) (run suffix tail : Text) → IsRun radix run → IsSuffix radix run suffix → separates tail ≡ true
@@ -204,7 +200,7 @@ number_back (Prefixed radix letter run suffix) tail h free = rw h.0 (prefixed_ba
 number_back (BigRun run) tail h free = rw append_assoc (rw (number_decimal run (110 ∷ tail) h.0 refl refl) (rw h.1))
 number_back (OctalRun run) tail h free =
     rw (number_decimal run tail h.0 (separated (in_run Decimal) tail refl refl free) (separated is_letter tail refl refl free))
-    (rw (and_none (list_any (digit Decimal) run) (next_is 110 tail) (separated (is 110) tail refl refl free), h.1))
+    (rw (and_right (list_any (digit Decimal) run) (next_is 110 tail) (separated (is 110) tail refl refl free), h.1))
 number_back (DecimalRun run f e) tail h free =
     let x = exponent_text e ++ tail in
     let stop : next_passes (in_run Decimal) (fraction_text f ++ x) ≡ false = parts_begin (in_run Decimal) f e tail h.3 free refl refl refl refl refl in
@@ -213,7 +209,7 @@ number_back (DecimalRun run f e) tail h free =
     let stop_e : next_passes (in_run Decimal) x ≡ false = exponent_begins (in_run Decimal) e tail h.3 free refl refl refl refl in
     let dot : next_is 46 x ≡ false = exponent_begins (is 46) e tail h.3 free refl refl refl refl in
     rw (append_assoc run (fraction_text f ++ exponent_text e) tail, append_assoc (fraction_text f) (exponent_text e) tail, number_decimal run (fraction_text f ++ x) h.0 stop letter)
-    (rw (and_none (list_any (digit Decimal) run) _ no_n, h.1, fraction_back f x h.2 stop_e dot, drop_at (fraction_text f) x _ refl, exponent_back e tail h.3 free))
+    (rw (and_right (list_any (digit Decimal) run) _ no_n, h.1, fraction_back f x h.2 stop_e dot, drop_at (fraction_text f) x _ refl, exponent_back e tail h.3 free))
 
 -- what is written of a number is a front of the text
 
@@ -334,7 +330,7 @@ whole_fits (DecimalRun run (Point digits) e') value e = cc
 
 -- separators
 
-no_digit : (radix : Radix) → digit radix 95 ≡ false
+pub no_digit : (radix : Radix) → digit radix 95 ≡ false
 no_digit Binary = refl
 no_digit Octal = refl
 no_digit Decimal = refl

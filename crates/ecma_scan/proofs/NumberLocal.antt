@@ -1,5 +1,6 @@
 -- What follows a number that is read cleanly may be replaced by any separator, and a number is not empty.
 use Rattle.std.proofs.Common.{◌≡◌, ℕ, ◌<◌, Bool, true, false, not, ◌&&◌, ◌||◌, ◌==◌, [], ◌∷◌, ◌++◌, length, Option, Some, None, refl, ap, ◌∙◌, sym, arith, eqb-true}
+use Rattle.std.proofs.lemmas.Bool.{and_right}
 use Rattle.std.proofs.lemmas.List.{drop_at}
 use Rattle.std.proofs.lemmas.Bool.Decides.{nat_tests}
 use Rattle.ecma_place.specs.Text.{Text, byte_len}
@@ -43,12 +44,8 @@ part_refusal_none (BigRun run) rest r h = refl
 part_refusal_none (OctalRun run) rest r h = refl
 part_refusal_none (DecimalRun run f e) rest r h = exponent_refusal_none (byte_len (run ++ fraction_text f)) e rest r h
 
-and_none : (a b : Bool) → b ≡ false → (a && b) ≡ false
-and_none true b e = e
-and_none false b e = refl
-
 name_refusal_none : (n : Number) (r : Text) → next_passes is_ident_start r ≡ false → name_refusal n r ≡ None
-name_refusal_none n r stop = rw (and_none (not (is_big_number n)) (next_passes is_ident_start r) stop)
+name_refusal_none n r stop = rw (and_right (not (is_big_number n)) (next_passes is_ident_start r) stop)
 
 first_none : (a b : Option ErrorView) → or_else a b ≡ None → a ≡ None
 first_none None b h = refl
@@ -64,7 +61,7 @@ clean_none : (ts1085 : Bool) (n : Number) (o : Option ErrorView) → is_clean (f
 clean_none ts1085 n None h = refl
 clean_none ts1085 n (Some e) h = cc
 
-spelling_is : (ts1085 : Bool) (n : Number) (o : Option ErrorView) → (found_number ts1085 n o).spelling ≡ number_text n
+pub spelling_is : (ts1085 : Bool) (n : Number) (o : Option ErrorView) → (found_number ts1085 n o).spelling ≡ number_text n
 spelling_is ts1085 n None = refl
 spelling_is ts1085 n (Some e) = refl
 
@@ -102,7 +99,7 @@ decimal_some c cs opens = go (in_run Decimal c) refl
     go true e = rw e (some_run _ _ c (run_of Decimal cs) (behind_run Decimal cs))
     go false e = rw e (some_point c cs (is_point (digit Decimal c) (c == 95) (c == 46) (next_passes (digit Decimal) cs) e opens))
 
-parts_some : (text : Text) → opens_number text ≡ true → 0 < length (number_text (number_parts text))
+pub parts_some : (text : Text) → opens_number text ≡ true → 0 < length (number_text (number_parts text))
 parts_some [] opens = cc
 parts_some (c ∷ cs) opens = go (prefix (c ∷ cs))
   where

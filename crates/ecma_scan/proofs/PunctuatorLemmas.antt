@@ -15,15 +15,12 @@ use Rattle.ecma_scan.specs.Fronts.{begins_with}
 use Rattle.ecma_scan.specs.Punctuators.{Punctuator, spells, punctuators, first_of, token_in, count_behind, spelling_in, is_lone, begins_more, angle, angle_in, longest, alone_or, punctuator_in}
 use Rattle.ecma_scan.specs.Numbers.{opens_fraction}
 use Rattle.ecma_scan.specs.Found.{token_behind}
+use Rattle.ecma_scan.proofs.Fronts.{first-cons}
 
 pub passed-zero : (c : Cursor) → passed 0 c ≡ c
 passed-zero c = let same : c.at + 0 ≡ c.at = omega arith in ap (λ n. moved_to n c) same
 
 pub ruleset eating = (passed-zero)
-
-first-cons : (text : Text) (c : ℕ) → slice_get text 0 ≡ Some c → text ≡ c ∷ drop 1 text
-first-cons [] c e = cc
-first-cons (d ∷ cs) c e = ap (λ x. x ∷ cs) (let same : d ≡ c = cc in same)
 
 -- a punctuator that is found whatever follows its first character
 pub first_of-lone : (text : Text) (c : ℕ) (t : Token) → slice_get text 0 ≡ Some c → ((behind : Text) → first_of punctuators (c ∷ behind) ≡ Some (spells (c ∷ []) t))

@@ -141,7 +141,7 @@ in_order_again (piece ∷ more) r s q p h =
       in_order_again more r s q p h.1,
     )
 
-abbrev is_at_end : TemplateEnd → Bool
+abbrev pub is_at_end : TemplateEnd → Bool
 is_at_end AtEnd = true
 is_at_end AtBackQuote = false
 is_at_end AtDollarBrace = false
@@ -252,7 +252,7 @@ text_front ps rest AtEnd = (rest, refl)
 text_front ps rest AtBackQuote = (rest, refl)
 text_front ps rest AtDollarBrace = (rest, refl)
 
-mark_front : (text : Text) → template_piece text ≡ None → IsFrontOf (mark_of (template_end text)).spelling text
+pub mark_front : (text : Text) → template_piece text ≡ None → IsFrontOf (mark_of (template_end text)).spelling text
 mark_front [] h = ([], refl)
 mark_front (c ∷ []) h = go (c == 96) (c == 36) (c == 92) (is_line_terminator c) refl h
   where
@@ -350,13 +350,13 @@ template_is_ended after_template b behind token value kind extent = go after_tem
 
 -- text without escapes and CR means what is written
 
-no_refusal : (n : ℕ) (ps : List TemplatePiece) → list_all is_verbatim ps ≡ true → last_refusal n None ps ≡ None
+pub no_refusal : (n : ℕ) (ps : List TemplatePiece) → list_all is_verbatim ps ≡ true → last_refusal n None ps ≡ None
 no_refusal n [] h = refl
 no_refusal n (spec.Plain c ∷ more) h = no_refusal (n + byte_len (c ∷ [])) more h
 no_refusal n (Break spelling ∷ more) h = no_refusal (n + byte_len spelling) more (and_parts (is_verbatim (Break spelling)) (list_all is_verbatim more) h).1
 no_refusal n (Escaped e ∷ more) h = cc
 
-same_text : (ps : List TemplatePiece) → list_all is_verbatim ps ≡ true → cooked_text ps ≡ spelled template_cutter ps
+pub same_text : (ps : List TemplatePiece) → list_all is_verbatim ps ≡ true → cooked_text ps ≡ spelled template_cutter ps
 same_text [] h = refl
 same_text (spec.Plain c ∷ more) h = ap (λ l. c ∷ l) (same_text more h)
 same_text (Break spelling ∷ more) h =

@@ -1,19 +1,11 @@
 //! Block comments.
-ghost use Rattle.std.specs.Prelude.{◌≡◌, ◌∷◌, [], true, length, encode_utf8_all, unwrap_or};
+ghost use Rattle.std.specs.Prelude.{◌≡◌, length, encode_utf8_all};
 ghost use Rattle.std.specs.List.{list_any};
 ghost use Rattle.ecma_place.specs.Character.{is_line_terminator};
 ghost use Rattle.ecma_place.specs.Cursor.{rest, passed};
-ghost use Rattle.ecma_scan.specs.Fronts.{begins_with};
 ghost use Rattle.ecma_scan.specs.Gaps as grammar;
 
 use ecma_place::{ByteClass, CharExt, StringInput};
-
-/// Whether the two characters stand at the cursor.
-pub(crate) fn stand(input: &StringInput, first: char, second: char) -> bool
-    ensures { result ≡ begins_with (first ∷ second ∷ []) (rest input.now) }
-{
-    input.cur() == Some(first) && input.peek() == Some(second)
-}
 
 /// Moves to the first `*/` or the end, and says whether a line terminator was passed.
 #[tactic(auto, using(crate::proofs::BodyLemmas::bodies))]
@@ -24,7 +16,7 @@ fn skip_body(input: &mut StringInput) -> bool
     let mut terminator = false;
     input.bump_bytes(input.run_bytes(ByteClass::Block) as usize);
     'chars: while let Some(c) = input.cur() {
-        if stand(input, '*', '/') {
+        if input.is_str("*/") {
             break;
         }
         terminator |= c.is_line_terminator();

@@ -5,13 +5,18 @@ ghost use Rattle.ecma_place.specs.Cursor.{rest, passed};
 ghost use Rattle.ecma_place.specs.Text.{Text};
 ghost use Rattle.ecma_scan.specs.Fronts.{next_passes, after};
 ghost use Rattle.ecma_scan.specs.Escapes as grammar;
-ghost use Rattle.std.specs.Prelude.{IfOk, encode_utf8_all, [], ◌∷◌};
-ghost use Rattle.ecma_place.specs.Atom.{owned_atom};
-ghost use Rattle.ecma_token.specs.View.{kind_view};
-ghost use Rattle.ecma_scan.specs.EscapeAnswers.{refusal_kind, use_of, answered, is_digit_in, digit_front, is_word, opens_escape};
+ghost use Rattle.std.specs.Prelude.{ℕ, ◌^◌, IfOk, OnOk, IsOk, Ok, encode_utf8_all, [], ◌∷◌, ◌++◌, ◌+◌, map, option_map, string_bytes};
+ghost use Rattle.ecma_place.specs.Cursor.{place};
+ghost use Rattle.ecma_token.specs.View.{kind_view, error_view};
+ghost use Rattle.ecma_scan.specs.Found.{found_view, found_at, placeless, fault_view, fault_behind, error_behind, span_behind};
+ghost use Rattle.ecma_scan.specs.EscapeAnswers.{refusal_kind, refusal_error, use_of, answered, is_digit_in, digit_front, is_word, opens_escape};
+ghost use Rattle.ecma_scan.specs.EscapeParts.{escape_value, escape_faults, escape_refusal, answer_value, answer_faults, use_in};
+ghost use Rattle.ecma_scan.specs.declared.escape.Refusal.TheVariants.{NoBrace};
+ghost use Rattle.ecma_scan.specs.declared.escape.Answer.TheVariants.{Nothing, Octal};
 
-use ecma_place::{Atom, CharExt, StringInput};
-use ecma_token::SyntaxError;
+use crate::found::{Blame, Found, push_fault};
+use ecma_place::{Atom, BytePos, CharExt, Span, StringInput};
+use ecma_token::{Error, SyntaxError};
 use std::alloc::{AllocError, Global};
 
 /// Where an escape stands.
@@ -318,7 +323,7 @@ pub(crate) fn read_escape(input: &mut StringInput, within: Use) -> Answer
 }
 
 /// The kind of error of a refusal.
-fn refusal_kind<'a>(refusal: Refusal) -> SyntaxError<'a>
+pub(crate) fn refusal_kind<'a>(refusal: Refusal) -> SyntaxError<'a>
     ensures { kind_view result ≡ refusal_kind refusal }
 {
     match refusal {
@@ -341,11 +346,173 @@ fn refusal_kind<'a>(refusal: Refusal) -> SyntaxError<'a>
     }
 }
 
-/// The text of one character.
-fn character_atom<'a>(alloc: Global, c: char) -> Result<Atom<'a>, AllocError>
-    ensures { IfOk result (λ atom. atom ≡ owned_atom (encode_utf8_all (c ∷ []))) }
+/// Whether a backslash stands at the cursor.
+pub(crate) fn at_escape(input: &StringInput) -> bool
+    ensures { result ≡ opens_escape (rest input.now) }
 {
+    input.is_byte(b'\\')
+}
+
+/// Where the error of a refused escape lies; the escape reaches from `start` to `end`.
+fn refusal_span(refusal: Refusal, within: Use, start: BytePos, end: BytePos) -> Span
+    requires order { start.0 ≤ end.0 }
+    requires brace { is_word within ≡ true → refusal ≡ NoBrace → start.0 + 3 ≤ end.0 }
+    ensures { result ≡ span_behind start.0 (refusal_error (use_of within) refusal (end.0 - start.0)).span }
+{
+    match refusal {
+        Refusal::NoCodePoint | Refusal::AtEnd => Span::new(start, start),
+        Refusal::TwoDigits | Refusal::Octal => Span::new(start, end),
+        Refusal::NoBrace if is_word(within) => Span::new(BytePos(start.0 + 3), end),
+        _ if is_word(within) => Span::new(end, end),
+        _ => Span::new(start, end),
+    }
+}
+
+/// The error of a refused escape that reaches from `start` to `end`.
+pub(crate) fn refusal_error<'a>(
+    alloc: Global,
+    refusal: Refusal,
+    within: Use,
+    start: BytePos,
+    end: BytePos,
+) -> Result<Error<'a>, AllocError>
+    requires order { start.0 ≤ end.0 }
+    requires brace { is_word within ≡ true → refusal ≡ NoBrace → start.0 + 3 ≤ end.0 }
+    ensures { IfOk result (λ e. error_view e ≡ error_behind start.0 (refusal_error (use_of within) refusal (end.0 - start.0))) }
+{
+    let span = refusal_span(refusal, within, start, end);
+    Error::new(alloc, span, refusal_kind(refusal))
+}
+
+/// Adds what an escape stands for, which is written so. An escape that stands for nothing takes no memory.
+pub(crate) fn push_value(
+    text: &mut String,
+    answer: Answer,
+    spelling: &str,
+) -> Result<(), AllocError>
+    ensures text { OnOk result (string_bytes text.new ≡ string_bytes text.old ++ answer_value spelling.now answer) }
+    ensures free { answer ≡ Nothing → IsOk result }
+{
+    match answer {
+        Answer::Nothing | Answer::Refused(_) => Ok(()),
+        Answer::Character(c) | Answer::Octal(c) => text.push(c),
+        Answer::Spelling => text.push_str(spelling),
+    }
+}
+
+/// Adds what is wrong with an escape at `start` in a string or a template.
+fn push_octal_fault<'a>(
+    alloc: Global,
+    faults: &mut Vec<(Blame, Error<'a>)>,
+    answer: Answer,
+    start: BytePos,
+) -> Result<(), AllocError>
+    requires { (c : ℕ) → answer ≡ Octal c → start.0 + 2 < 2 ^ 32 }
+    ensures faults { OnOk result (map fault_view faults.new.items ≡ map fault_view faults.old.items
+        ++ map (fault_behind start.0) (answer_faults answer)) }
+    ensures free { answer_faults answer ≡ [] → IsOk result }
+{
+    if let Answer::Octal(_) = answer {
+        let span = Span::new(start, BytePos(start.0 + 2));
+        push_fault(alloc, faults, Blame::Strict, span, SyntaxError::LegacyOctal)?;
+    }
+    Ok(())
+}
+
+/// Moves behind the escape at the cursor. What it stands for is added to the text, and what is wrong with it to the
+/// faults; the error of one that is refused is answered.
+///
+/// A backslash stands at the cursor, in a string or a template. An escape that stands for nothing takes no memory.
+pub(crate) fn push_escape<'a>(
+    alloc: Global,
+    input: &mut StringInput<'a>,
+    within: Use,
+    text: &mut String,
+    faults: &mut Vec<(Blame, Error<'a>)>,
+) -> Result<Option<Error<'a>>, AllocError>
+    requires opens { opens_escape (rest input.old) ≡ true }
+    requires within { is_word within ≡ false }
+    ensures refusal { IfOk result (λ r. option_map error_view r
+        ≡ option_map (error_behind (place input.old)) (escape_refusal (grammar.escape (use_of within) (rest input.old)))) }
+    ensures text { OnOk result (string_bytes text.new
+        ≡ string_bytes text.old ++ encode_utf8_all (escape_value (grammar.escape (use_of within) (rest input.old)))) }
+    ensures faults { OnOk result (map fault_view faults.new.items ≡ map fault_view faults.old.items
+        ++ map (fault_behind (place input.old)) (escape_faults (grammar.escape (use_of within) (rest input.old)))) }
+    ensures moved { OnOk result (input.new
+        ≡ passed (length (grammar.escape_spelling (grammar.escape (use_of within) (rest input.old)))) input.old) }
+    ensures free { escape_value (grammar.escape (use_of within) (rest input.old)) ≡ []
+        → escape_refusal (grammar.escape (use_of within) (rest input.old)) ≡ None → IsOk result }
+{
+    let start = input.cur_pos();
+    let answer = read_escape(input, within);
+    if let Answer::Refused(refusal) = answer {
+        let error = refusal_error(alloc, refusal, within, start, input.cur_pos())?;
+        return Ok(Some(error));
+    }
+    push_value(text, answer, input.slice(start, input.cur_pos()))?;
+    push_octal_fault(alloc, faults, answer, start)?;
+    Ok(None)
+}
+
+/// The text of an escape's value, if it is not empty.
+fn value_atom<'a>(text: String) -> Option<Atom<'a>>
+    ensures { (value : Text) → string_bytes text ≡ encode_utf8_all value → result ≡ grammar.value_atom value }
+{
+    if text.is_empty() {
+        None
+    } else {
+        Some(Atom::from(text))
+    }
+}
+
+/// Where an escape by itself stands.
+fn use_in(in_template: bool) -> Use
+    ensures place { use_of result ≡ use_in in_template }
+    ensures other { is_word result ≡ false }
+{
+    if in_template {
+        Use::InTemplate
+    } else {
+        Use::InString
+    }
+}
+
+/// Reads the escape at the cursor (ECMA-262 EscapeSequence, 12.9.4, with LegacyOctalEscapeSequence of Annex B), in a
+/// string or in a template.
+///
+/// A backslash stands at the cursor. The value is the text that the escape stands for: nothing for a line terminator,
+/// and for a surrogate, which is no character, all that is written of the escape (our own choice). An octal escape in
+/// a string is a fault of strict code. A refused escape is read up to where reading goes on: `\x` without two
+/// hexadecimal digits and `\u` without four, or without one to 10FFFF in braces, up to behind the digits that are
+/// there, an octal escape in a template up to behind its first digit, a backslash that ends the text with nothing more.
+/// An escape that stands for nothing takes no memory.
+///
+/// # Errors
+///
+/// `AllocError` where there is no memory for the value or an error; the cursor then stands behind the escape.
+pub fn scan_escape<'a>(
+    alloc: Global,
+    input: &mut StringInput<'a>,
+    in_template: bool,
+) -> Result<Found<'a, Option<Atom<'a>>>, AllocError>
+    requires { opens_escape (rest input.old) ≡ true }
+    ensures found { IfOk result (λ f. found_view (λ value. value) f ≡
+        found_at placeless (place input.old) (grammar.scanned_escape (use_in in_template) (rest input.old))) }
+    ensures moved { OnOk result (input.new
+        ≡ passed (length (grammar.scanned_escape (use_in in_template) (rest input.old)).spelling) input.old) }
+    ensures free { (grammar.scanned_escape (use_in in_template) (rest input.old)).value ≡ Ok None → IsOk result }
+{
+    let start = input.cur_pos();
     let mut text = String::new(alloc);
-    text.push(c)?;
-    Ok(Atom::from(text))
+    let mut faults = Vec::new(alloc);
+    let value = match push_escape(alloc, input, use_in(in_template), &mut text, &mut faults)? {
+        None => Ok(value_atom(text)),
+        Some(error) => Err(error),
+    };
+    Ok(Found {
+        value,
+        faults,
+        extent: Span::new(start, input.cur_pos()),
+        line_break: false,
+    })
 }

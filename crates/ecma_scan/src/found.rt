@@ -1,7 +1,11 @@
 //! What a reader found.
+ghost use Rattle.std.specs.Prelude.{◌≡◌, ◌++◌, ◌∷◌, [], map, OnOk};
+ghost use Rattle.ecma_token.specs.View.{kind_view};
+ghost use Rattle.ecma_scan.specs.Found.{fault_view};
 
 use ecma_place::Span;
-use ecma_token::Error;
+use ecma_token::{Error, SyntaxError};
+use std::alloc::{AllocError, Global};
 
 /// When a fault counts.
 #[derive(Debug, Clone, Copy, PartialEq, Eq, Hash)]
@@ -25,4 +29,20 @@ pub struct Found<'a, T> {
     pub extent: Span,
     /// Whether a line terminator stands in the text as itself.
     pub line_break: bool,
+}
+
+/// Adds a fault.
+pub(crate) fn push_fault<'a>(
+    alloc: Global,
+    faults: &mut Vec<(Blame, Error<'a>)>,
+    blame: Blame,
+    span: Span,
+    kind: SyntaxError<'a>,
+) -> Result<(), AllocError>
+    ensures { OnOk result (map fault_view faults.new.items ≡ map fault_view faults.old.items
+        ++ record { blame = blame; error = record { kind = kind_view kind.entry; span = span } } ∷ []) }
+{
+    let error = Error::new(alloc, span, kind)?;
+    faults.push((blame, error))?;
+    Ok(())
 }

@@ -1,13 +1,18 @@
 //! Gaps: what stands before a token.
-ghost use Rattle.std.specs.Prelude.{◌≡◌, ◌||◌, [], length, map, IfOk, IsOk, OnOk};
-ghost use Rattle.std.specs.List.{prefix_len, take_while, list_any};
+ghost use Rattle.std.specs.Prelude.{◌≡◌, [], false, length, map, is_some, if◌then◌else◌, IfOk, IsOk, OnOk};
 ghost use Rattle.ecma_place.specs.Cursor.{rest, place, passed};
-ghost use Rattle.ecma_place.specs.Character.{is_white_space, is_line_terminator};
-ghost use Rattle.ecma_scan.specs.Blanks as grammar;
+ghost use Rattle.ecma_scan.specs.Comments.{comments_at};
+ghost use Rattle.ecma_scan.specs.Found.{fault_view};
+ghost use Rattle.ecma_scan.specs.Gaps as grammar;
+ghost use Rattle.ecma_scan.specs.Pieces.{spelled};
+ghost use Rattle.ecma_scan.specs.Readings.{gap_view, found_with, nothing_read, IsEmpty};
 
+use crate::element::{read_element, stands_html_opening};
 use crate::found::Blame;
-use ecma_place::character::is_white_space;
-use ecma_place::{CharExt, Comment, StringInput};
+use crate::marker::stands_conflict;
+use crate::reading::Reading;
+use crate::white_space::skip_white_space;
+use ecma_place::{Comment, StringInput};
 use ecma_token::{Error, TokenKind};
 use std::alloc::{AllocError, Global};
 
@@ -39,55 +44,73 @@ pub struct Gap<'a> {
     pub faults: Vec<(Blame, Error<'a>)>,
 }
 
-#[tactic(auto, using(ecma_place::proofs::RunLemmas::runs))]
-/// Moves behind the white space at the cursor, and says whether it held a line terminator.
-pub(crate) fn skip_white_space(input: &mut StringInput) -> bool
-    ensures terminator { result ≡ list_any is_line_terminator (take_while is_white_space (rest input.old)) }
-    ensures moved { input.new ≡ passed (prefix_len is_white_space (rest input.old)) input.old }
+/// Whether an HTML-like comment or a conflict marker stands at the cursor. `flag` says whether `-->` and markers may.
+fn stands_special(input: &StringInput, type_mode: bool, flag: bool) -> bool
+    ensures { result ≡ is_some (grammar.special_element type_mode flag (rest input.now)) }
 {
-    let mut terminator = false;
-    'chars: while let Some(c) = input.cur() {
-        if !is_white_space(c) {
-            break;
-        }
-        terminator |= c.is_line_terminator();
-        input.bump();
-    }
-    terminator
+    stands_html_opening(input, type_mode)
+        || (flag && (input.is_str("-->") || stands_conflict(input, type_mode)))
 }
 
-/// Moves behind the gap at the cursor, and says whether it held a line terminator.
-#[tactic(auto, using(crate::proofs::GapLemmas::gaps))]
-fn skip_gap(input: &mut StringInput, mode: &GapMode) -> bool
-    ensures terminator { result ≡ list_any is_line_terminator (grammar.gap_spelling mode.now (rest input.old)) }
-    ensures moved { input.new ≡ passed (length (grammar.gap_spelling mode.now (rest input.old))) input.old }
+/// Whether there is a gap at all: none stands before the text of a template, nor, where space is kept, before what is
+/// neither an HTML-like comment nor a marker.
+fn may_stand(input: &StringInput, mode: &GapMode) -> bool
+    ensures { grammar.gap mode.now (rest input.now) ≡ (if result then grammar.elements mode.now (rest input.now) else []) }
 {
-    if mode.template || mode.keeps_space {
-        false
-    } else {
-        skip_white_space(input)
-    }
+    !mode.template && (!mode.keeps_space || stands_special(input, mode.type_mode, mode.first))
 }
 
-/// Reads what stands before the next token: white space and line terminators (ECMA-262, 12.2 and 12.3).
+/// Reads the elements at the cursor, as many as there are.
+fn read_elements<'a>(
+    alloc: Global,
+    input: &mut StringInput<'a>,
+    mode: &GapMode,
+) -> Result<Gap<'a>, AllocError>
+    ensures gap { IfOk result (λ gap. gap_view gap ≡
+        found_with mode.now (place input.old) (rest input.old) (grammar.elements mode.now (rest input.old)) (nothing_read mode.now.first)) }
+    ensures moved { OnOk result (input.new ≡
+        passed (length (spelled (grammar.gap_cutter mode.now) (grammar.elements mode.now (rest input.old)))) input.old) }
+    ensures free { IsEmpty (found_with mode.now (place input.old) (rest input.old) (grammar.elements mode.now (rest input.old))
+        (nothing_read mode.now.first)) → IsOk result }
+{
+    let mut reading = Reading::new(alloc, mode.first);
+    let mut more = true;
+    'elements: while more {
+        reading.line_break |= skip_white_space(input);
+        more = read_element(alloc, input, mode, &mut reading)?;
+    }
+    reading.into_gap(alloc, input.cur_pos())
+}
+
+/// Reads what stands before the next token (ECMA-262 WhiteSpace, LineTerminator and Comment, 12.2 to 12.4, and the
+/// HTML-like comments of Annex B.1.1). Conflict markers, and which spans faults have, are our own choice.
 ///
-/// A gap without faults and collected comments takes no memory.
+/// The cursor then stands behind the gap. A gap without faults and collected comments takes no memory.
+///
+/// # Errors
+///
+/// `AllocError` where there is no memory for a fault or a comment; the cursor then stands somewhere in the text.
 pub fn scan_gap<'a>(
     alloc: Global,
     input: &mut StringInput<'a>,
     mode: &GapMode,
 ) -> Result<Gap<'a>, AllocError>
     ensures line_break { IfOk result (λ gap. gap.line_break ≡ grammar.has_line_break mode.now (rest input.old)) }
-    ensures comments { IfOk result (λ gap. gap.comments.items ≡ []) }
-    ensures faults { IfOk result (λ gap. gap.faults.items ≡ []) }
+    ensures comments { IfOk result (λ gap. gap.comments.items ≡ comments_at (place input.old) mode.now (rest input.old)) }
+    ensures faults { IfOk result (λ gap. map fault_view gap.faults.items ≡
+        grammar.gap_faults_at (place input.old) mode.now (rest input.old)) }
     ensures moved { OnOk result
         (input.new ≡ passed (length (grammar.gap_spelling mode.now (rest input.old))) input.old) }
-    ensures free { IsOk result }
+    ensures free { comments_at (place input.old) mode.now (rest input.old) ≡ []
+        → grammar.gap_faults_at (place input.old) mode.now (rest input.old) ≡ [] → IsOk result }
 {
-    let terminator = skip_gap(input, mode);
-    Ok(Gap {
-        line_break: mode.first || terminator,
-        comments: Vec::new(alloc),
-        faults: Vec::new(alloc),
-    })
+    if may_stand(input, mode) {
+        read_elements(alloc, input, mode)
+    } else {
+        Ok(Gap {
+            line_break: mode.first,
+            comments: Vec::new(alloc),
+            faults: Vec::new(alloc),
+        })
+    }
 }

@@ -1,7 +1,7 @@
 //! Conflict markers. They are our own choice; ECMA-262 knows none.
-ghost use Rattle.std.specs.Prelude.{◌≡◌};
+ghost use Rattle.std.specs.Prelude.{◌≡◌, is_some};
 ghost use Rattle.ecma_place.specs.Cursor.{rest};
-ghost use Rattle.ecma_scan.specs.Gaps.{is_marker};
+ghost use Rattle.ecma_scan.specs.Gaps.{is_marker, marker};
 
 use ecma_place::StringInput;
 
@@ -16,5 +16,15 @@ pub(crate) fn stands_marker(input: &StringInput, type_mode: bool, first: char) -
         '<' => !type_mode && input.is_str("<<<<<<< "),
         '>' => !type_mode && input.is_str(">>>>>>> "),
         _ => false,
+    }
+}
+
+/// Whether a marker stands at the cursor.
+pub(crate) fn stands_conflict(input: &StringInput, type_mode: bool) -> bool
+    ensures { result ≡ is_some (marker type_mode (rest input.now)) }
+{
+    match input.cur() {
+        Some(first) => stands_marker(input, type_mode, first),
+        None => false,
     }
 }

@@ -357,8 +357,11 @@ fn angle<'a>(type_mode: bool, first: char) -> Option<Token<'a>>
 fn opens_fraction(input: &StringInput) -> bool
     ensures { result ≡ opens_fraction (rest input.now) }
 {
+    if !input.is_byte(b'.') {
+        return false;
+    }
     match input.peek() {
-        Some(second) => input.cur() == Some('.') && second.is_digit(10),
+        Some(second) => second.is_digit(10),
         None => false,
     }
 }

@@ -5,7 +5,7 @@ ghost use Rattle.std.specs.List.{take_while, list_any};
 ghost use Rattle.ecma_place.specs.Text.{byte_len};
 ghost use Rattle.ecma_place.specs.Character.{is_white_space, is_line_terminator};
 
-use crate::gap::skip_white_space;
+use crate::white_space::skip_white_space;
 use ecma_place::{BytePos, StringInput};
 
 /// A way over the white space and line terminators of a text (ECMA-262, 12.2 and 12.3), by bytes.

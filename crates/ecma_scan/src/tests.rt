@@ -1,4 +1,12 @@
 //! Each reader once on its happy path, and every punctuator.
+
+mod expressions;
+mod gaps;
+mod numbers;
+mod strings;
+mod templates;
+mod words;
+
 use crate::found::Found;
 use crate::gap::{GapMode, scan_gap};
 use crate::number::scan_number;

@@ -1,37 +1,98 @@
 //! Words.
-ghost use Rattle.std.specs.Prelude.{◌≡◌, true, length, IfOk, IsOk, OnOk};
-ghost use Rattle.std.specs.List.{prefix_len};
-ghost use Rattle.ecma_place.specs.Character.{is_ident_part};
+ghost use Rattle.std.specs.Prelude.{◌≡◌, true, length, string_bytes, Result, Ok, Err, IfOk, IsOk, OnOk};
+ghost use Rattle.ecma_place.specs.Atom.{AtomView, owned_atom};
 ghost use Rattle.ecma_place.specs.Cursor.{rest, place, passed};
-ghost use Rattle.ecma_scan.specs.Found.{found_view, found_at, placeless};
-ghost use Rattle.ecma_scan.specs.PlainWords as grammar;
-ghost use Rattle.std.specs.Prelude.{encode_utf8_all};
+ghost use Rattle.ecma_syntax.specs.Reserved.{is_reserved};
+ghost use Rattle.ecma_syntax.specs.Word.{word_of, word_kind};
+ghost use Rattle.ecma_scan.specs.Found.{found_view, found_at, placeless, value_view};
+ghost use Rattle.ecma_scan.specs.NameParts.{cow_atom, escaped_word_at, word_at};
+ghost use Rattle.ecma_scan.specs.Words as grammar;
 
 use crate::found::Found;
-use ecma_place::{ByteClass, CharExt, Span, StringInput};
-use ecma_syntax::{Context, Word};
+use crate::name::read_name;
+use ecma_place::{Atom, Span, StringInput};
+use ecma_syntax::{Context, IdentKind, IdentLike, Word, WordKind};
+use ecma_token::{Error, SyntaxError};
 use std::alloc::{AllocError, Global};
+use std::borrow::CowStr;
 
-/// Moves behind the part characters at the cursor, and answers their text.
-#[tactic(auto, using(ecma_place::proofs::ClassLemmas::word_runs))]
-fn part_characters<'a>(input: &mut StringInput<'a>) -> &'a str
-    ensures text { result.now ≡ encode_utf8_all (grammar.word_spelling (rest input.old)) }
-    ensures moved { input.new ≡ passed (prefix_len is_ident_part (rest input.old)) input.old }
+/// The row of the table of words for this text.
+fn kind_of(text: &str) -> WordKind
+    ensures { result ≡ word_kind (word_of text.now) }
 {
-    let start = input.cur_pos();
-    input.bump_bytes(input.run_bytes(ByteClass::Part) as usize);
-    'chars: while let Some(c) = input.cur() {
-        if !c.is_ident_part() {
-            break;
-        }
-        input.bump();
-    }
-    input.slice(start, input.cur_pos())
+    let word = Word::from_str(text);
+    word.kind()
 }
 
-/// Reads the word at the cursor (ECMA-262 IdentifierName): the longest run of part characters.
+/// The word with this text, which an other name owns.
+#[tactic(auto, using(crate::proofs::WordReading::rows))]
+fn owned_word<'a>(text: String) -> Word<'a>
+    ensures { result ≡ grammar.owned_word (word_of (string_bytes text)) }
+{
+    match kind_of(text.as_str()) {
+        WordKind::Keyword(keyword) => Word::Keyword(keyword),
+        WordKind::Null => Word::Null,
+        WordKind::True => Word::True,
+        WordKind::False => Word::False,
+        WordKind::Ident(IdentKind::Known(known)) => Word::Ident(IdentLike::Known(known)),
+        WordKind::Ident(IdentKind::Other) => Word::Ident(IdentLike::Other(Atom::from(text))),
+    }
+}
+
+/// Whether the word with this text is reserved.
+fn is_reserved(context: &Context, text: &str) -> bool
+    ensures { result ≡ is_reserved context.now (word_of text.now) }
+{
+    context.is_reserved(&Word::from_str(text))
+}
+
+/// The word with this text that is written with an escape over this span: none that is reserved (12.7.2).
+fn escaped_word<'a>(
+    alloc: Global,
+    context: &Context,
+    text: String,
+    span: Span,
+) -> Result<Result<Word<'a>, Error<'a>>, AllocError>
+    ensures { IfOk result (λ r. value_view (λ w. w) r ≡ escaped_word_at context.now span (owned_atom (string_bytes text))) }
+{
+    if is_reserved(context, text.as_str()) {
+        let kind = SyntaxError::EscapeInReservedWord {
+            word: Atom::from(text),
+        };
+        return Ok(Err(Error::new(alloc, span, kind)?));
+    }
+    Ok(Ok(owned_word(text)))
+}
+
+/// The word of a name over this span. A name that borrows its text takes no memory.
+fn word_of_name<'a>(
+    alloc: Global,
+    context: &Context,
+    name: Result<CowStr<'a>, Error<'a>>,
+    span: Span,
+) -> Result<Result<Word<'a>, Error<'a>>, AllocError>
+    ensures word { IfOk result (λ r. value_view (λ w. w) r ≡ word_at context.now span (value_view cow_atom name.entry)) }
+    ensures free { (text : AtomView) → value_view cow_atom name.entry ≡ Ok text → text.is_borrowed ≡ true → IsOk result }
+{
+    match name {
+        Err(error) => Ok(Err(error)),
+        Ok(CowStr::Borrowed(text)) => Ok(Ok(Word::from_str(text))),
+        Ok(CowStr::Owned(text)) => escaped_word(alloc, context, text, span),
+    }
+}
+
+/// Reads the word at the cursor (ECMA-262 IdentifierName, 12.7): part characters and escapes of code points, as many
+/// as there are.
 ///
-/// The cursor stands at a start character. A word without an escape takes no memory.
+/// The cursor stands at a start character or a backslash. The word is the row of the table of words for its unescaped
+/// text, which an other name borrows from the source where it holds no escape. A word that is written with an escape
+/// and is reserved in the context is refused (12.7.2). An escaped character that may not stand in a name, or not first,
+/// is a fault over its escape, and stays (our own choice). A refused escape refuses all from the word's start up to
+/// where reading goes on. A word without an escape takes no memory.
+///
+/// # Errors
+///
+/// `AllocError` where there is no memory for the text or an error; the cursor then stands somewhere in the text.
 pub fn scan_word<'a>(
     alloc: Global,
     input: &mut StringInput<'a>,
@@ -42,14 +103,19 @@ pub fn scan_word<'a>(
         found_at placeless (place input.old) (grammar.word context.now (rest input.old))) }
     ensures moved { OnOk result
         (input.new ≡ passed (length (grammar.word context.now (rest input.old)).spelling) input.old) }
-    ensures free { IsOk result }
+    ensures free { (text : AtomView) → (grammar.identifier_name (rest input.old)).value ≡ Ok text → text.is_borrowed ≡ true → IsOk result }
 {
-    let start = input.cur_pos();
-    let text = part_characters(input);
+    let Found {
+        value,
+        faults,
+        extent,
+        line_break,
+    } = read_name(alloc, input)?;
+    let value = word_of_name(alloc, context, value, extent)?;
     Ok(Found {
-        value: Ok(Word::from_str(text)),
-        faults: Vec::new(alloc),
-        extent: Span::new(start, input.cur_pos()),
-        line_break: false,
+        value,
+        faults,
+        extent,
+        line_break,
     })
 }

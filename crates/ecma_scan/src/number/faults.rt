@@ -1,37 +1,22 @@
 //! What is wrong with a number that is read all the same.
 ghost use Rattle.std.specs.Prelude.{◌≡◌, ◌<◌, ◌+◌, ◌^◌, ◌++◌, ◌∷◌, [], false, length, map, OnOk, IsOk, if◌then◌else◌};
 ghost use Rattle.std.specs.List.{list_any};
-ghost use Rattle.ecma_token.specs.View.{kind_view};
 ghost use Rattle.ecma_scan.specs.Found.{fault_view, fault_behind};
 ghost use Rattle.ecma_token.specs.declared.token.Radix.TheVariants.{Decimal};
 ghost use Rattle.ecma_scan.specs.Fronts.{next_passes};
-ghost use Rattle.ecma_scan.specs.WrittenNumbers.{fraction_of, exponent_of};
-ghost use Rattle.ecma_scan.specs.Numbers.{DecimalRun};
+ghost use Rattle.ecma_scan.specs.WrittenNumbers.{number_of, fraction_of, exponent_of};
+ghost use Rattle.ecma_scan.specs.Numbers.{OctalRun, DecimalRun};
 ghost use Rattle.ecma_scan.specs.Numbers as grammar;
 
-use crate::found::Blame;
+use crate::found::{Blame, push_fault};
 use crate::number::digits::has_separator;
-use crate::number::parts::{WrittenExponent, WrittenFraction, is_legacy};
+use crate::number::parts::{
+    WrittenExponent, WrittenFraction, WrittenNumber, fraction_len, is_legacy,
+};
 use crate::number::runs::is_digit;
 use ecma_place::{BytePos, Span};
 use ecma_token::{Error, Radix, SyntaxError};
 use std::alloc::{AllocError, Global};
-
-/// Adds a fault.
-fn push_fault<'a>(
-    alloc: Global,
-    faults: &mut Vec<(Blame, Error<'a>)>,
-    blame: Blame,
-    span: Span,
-    kind: SyntaxError<'a>,
-) -> Result<(), AllocError>
-    ensures { OnOk result (map fault_view faults.new.items ≡ map fault_view faults.old.items
-        ++ record { blame = blame; error = record { kind = kind_view kind.entry; span = span } } ∷ []) }
-{
-    let error = Error::new(alloc, span, kind)?;
-    faults.push((blame, error))?;
-    Ok(())
-}
 
 /// Adds the fault of a separator behind `count` bytes of its run, if it is faulty.
 fn push_separator<'a>(
@@ -195,17 +180,6 @@ fn push_exponent_faults<'a>(
     }
 }
 
-/// How many bytes the fraction has.
-fn fraction_len(fraction: WrittenFraction) -> usize
-    requires { length (grammar.fraction_text (fraction_of fraction)) < 2 ^ 32 }
-    ensures { result ≡ length (grammar.fraction_text (fraction_of fraction.entry)) }
-{
-    match fraction {
-        WrittenFraction::Pointless => 0,
-        WrittenFraction::Pointed(run) => run.len() + 1,
-    }
-}
-
 /// Adds what is wrong with a decimal number without `n` that starts at the place.
 fn push_decimal_faults<'a>(
     alloc: Global,
@@ -220,8 +194,12 @@ fn push_decimal_faults<'a>(
     requires run { grammar.IsRun Decimal run.now }
     requires fraction { grammar.IsFraction (fraction_of fraction) }
     requires exponent { grammar.IsExponent (exponent_of exponent) }
-    ensures { OnOk result (map fault_view faults.new.items ≡ map fault_view faults.old.items
+    ensures faults { OnOk result (map fault_view faults.new.items ≡ map fault_view faults.old.items
         ++ map (fault_behind start.0) (grammar.part_faults (DecimalRun run.now (fraction_of fraction.entry) (exponent_of exponent.entry)))) }
+    ensures free { list_any grammar.is_separator run.now ≡ false
+        → list_any grammar.is_separator (grammar.fraction_text (fraction_of fraction.entry)) ≡ false
+        → list_any grammar.is_separator (grammar.exponent_text (exponent_of exponent.entry)) ≡ false
+        → grammar.is_legacy run.now ≡ false → IsOk result }
 {
     push_run_faults(alloc, faults, run, Radix::Decimal, start)?;
     push_legacy_fault(alloc, faults, run, start)?;
@@ -230,4 +208,77 @@ fn push_decimal_faults<'a>(
     let last = BytePos(behind.0 + fraction_len(fraction) as u32);
     push_exponent_faults(alloc, faults, exponent, last)?;
     Ok(())
+}
+
+/// Adds what is wrong with the parts of a number that starts at the place. Where they hold no separator and nothing is
+/// wrong, no memory is taken.
+pub(super) fn push_part_faults<'a>(
+    alloc: Global,
+    faults: &mut Vec<(Blame, Error<'a>)>,
+    number: WrittenNumber,
+    start: BytePos,
+) -> Result<(), AllocError>
+    requires fits { start.0 + length (grammar.number_text (number_of number)) < 2 ^ 32 }
+    requires form { grammar.IsNumber (number_of number) }
+    ensures faults { OnOk result (map fault_view faults.new.items ≡ map fault_view faults.old.items
+        ++ map (fault_behind start.0) (grammar.part_faults (number_of number.entry))) }
+    ensures free { list_any grammar.is_separator (grammar.number_text (number_of number.entry)) ≡ false
+        → grammar.part_faults (number_of number.entry) ≡ [] → IsOk result }
+{
+    match number {
+        WrittenNumber::Radixed { radix, run, .. } => {
+            push_run_faults(alloc, faults, run, radix, BytePos(start.0 + 2))
+        }
+        WrittenNumber::Big(run) => push_run_faults(alloc, faults, run, Radix::Decimal, start),
+        WrittenNumber::Legacy(run) => push_run_faults(alloc, faults, run, Radix::Decimal, start),
+        WrittenNumber::Plain {
+            run,
+            fraction,
+            exponent,
+        } => push_decimal_faults(alloc, faults, run, fraction, exponent, start),
+    }
+}
+
+/// Adds what is said of a legacy octal at the place: that there is none in strict code, and before that, where the flag
+/// asks for it, that TypeScript has none.
+fn push_octal_run_faults<'a>(
+    alloc: Global,
+    faults: &mut Vec<(Blame, Error<'a>)>,
+    run: &str,
+    start: BytePos,
+    ts1085: bool,
+) -> Result<(), AllocError>
+    requires fits { start.0 + length run.now < 2 ^ 32 }
+    requires run { grammar.IsRun Decimal run.now }
+    ensures { OnOk result (map fault_view faults.new.items ≡ map fault_view faults.old.items
+        ++ map (fault_behind start.0) (grammar.octal_faults ts1085 (OctalRun run.now))) }
+{
+    let span = Span::new(start, BytePos(start.0 + run.len() as u32));
+    if ts1085 {
+        push_fault(alloc, faults, Blame::Always, span, SyntaxError::TS1085)?;
+    }
+    push_fault(alloc, faults, Blame::Strict, span, SyntaxError::LegacyOctal)?;
+    Ok(())
+}
+
+/// Adds what is said of a number at the place that is not refused, if it is a legacy octal.
+pub(super) fn push_octal_faults<'a>(
+    alloc: Global,
+    faults: &mut Vec<(Blame, Error<'a>)>,
+    number: WrittenNumber,
+    start: BytePos,
+    ts1085: bool,
+) -> Result<(), AllocError>
+    requires fits { start.0 + length (grammar.number_text (number_of number)) < 2 ^ 32 }
+    requires form { grammar.IsNumber (number_of number) }
+    ensures faults { OnOk result (map fault_view faults.new.items ≡ map fault_view faults.old.items
+        ++ map (fault_behind start.0) (grammar.octal_faults ts1085 (number_of number.entry))) }
+    ensures free { grammar.octal_faults ts1085 (number_of number.entry) ≡ [] → IsOk result }
+{
+    match number {
+        WrittenNumber::Radixed { .. } => Ok(()),
+        WrittenNumber::Big(_) => Ok(()),
+        WrittenNumber::Legacy(run) => push_octal_run_faults(alloc, faults, run, start, ts1085),
+        WrittenNumber::Plain { .. } => Ok(()),
+    }
 }

@@ -1,5 +1,5 @@
 //! The parts of a number (ECMA-262 NumericLiteral, 12.9.3), as they are read.
-ghost use Rattle.std.specs.Prelude.{◌≡◌, Some, None, length, drop};
+ghost use Rattle.std.specs.Prelude.{◌≡◌, ◌<◌, ◌^◌, Some, None, length, drop};
 ghost use Rattle.std.specs.List.{list_any};
 ghost use Rattle.ecma_place.specs.Cursor.{rest, passed};
 ghost use Rattle.ecma_scan.specs.Numbers as grammar;
@@ -208,5 +208,27 @@ pub(super) fn read_parts<'a>(input: &mut StringInput<'a>) -> WrittenNumber<'a>
     match prefix(input) {
         Some((radix, letter)) => read_radixed(input, radix, letter),
         None => read_decimal(input),
+    }
+}
+
+/// How many bytes the fraction has.
+pub(super) fn fraction_len(fraction: WrittenFraction) -> usize
+    requires { length (grammar.fraction_text (fraction_of fraction)) < 2 ^ 32 }
+    ensures { result ≡ length (grammar.fraction_text (fraction_of fraction.entry)) }
+{
+    match fraction {
+        WrittenFraction::Pointless => 0,
+        WrittenFraction::Pointed(run) => run.len() + 1,
+    }
+}
+
+/// Whether the number is a big integer.
+pub(super) fn is_big(number: &WrittenNumber) -> bool
+    ensures { result ≡ grammar.is_big_number (number_of number.now) }
+{
+    match number {
+        WrittenNumber::Radixed { big, .. } => *big,
+        WrittenNumber::Big(_) => true,
+        _ => false,
     }
 }

@@ -1,15 +1,16 @@
 //! Why a number is refused.
-ghost use Rattle.std.specs.Prelude.{◌≡◌, ◌<◌, ◌+◌, ◌^◌, ◌↔◌, IsTrue, None, length, option_map, IfOk, IsOk};
-ghost use Rattle.ecma_place.specs.Character.{is_ident_start};
-ghost use Rattle.ecma_place.specs.Cursor.{rest};
+ghost use Rattle.std.specs.Prelude.{◌≡◌, ◌<◌, ◌+◌, ◌^◌, ◌↔◌, ℕ, IsTrue, None, length, option_map, IfOk, IsOk};
+ghost use Rattle.ecma_place.specs.Text.{byte_len};
+ghost use Rattle.ecma_place.specs.Cursor.{rest, place};
 ghost use Rattle.ecma_token.specs.View.{error_view};
-ghost use Rattle.ecma_scan.specs.Fronts.{next_passes};
+ghost use Rattle.ecma_scan.specs.Found.{error_behind};
 ghost use Rattle.ecma_scan.specs.Numbers as grammar;
 ghost use Rattle.ecma_scan.specs.WrittenNumbers.{number_of, exponent_of};
 
-use crate::number::parts::{WrittenExponent, WrittenNumber};
+use crate::name::begins_name;
+use crate::number::parts::{WrittenExponent, WrittenNumber, fraction_len, is_big};
 use crate::number::runs::has_digit;
-use ecma_place::{BytePos, CharExt, Span, StringInput};
+use ecma_place::{BytePos, Span, StringInput};
 use ecma_token::{Error, Radix, SyntaxError};
 use std::alloc::{AllocError, Global};
 
@@ -72,23 +73,72 @@ fn exponent_refusal<'a>(
     }
 }
 
-/// Whether the number is a big integer.
-fn is_big(number: &WrittenNumber) -> bool
-    ensures { result ≡ grammar.is_big_number (number_of number.now) }
+/// The refusal of the parts of a number that starts at the place, behind which the cursor stands.
+fn part_refusal<'a>(
+    alloc: Global,
+    number: WrittenNumber,
+    start: BytePos,
+    input: &StringInput,
+) -> Result<Option<Error<'a>>, AllocError>
+    requires fits { start.0 + length (grammar.number_text (number_of number)) < 2 ^ 32 }
+    requires form { grammar.IsNumber (number_of number) }
+    ensures value { IfOk result (λ r. option_map error_view r ≡
+        option_map (error_behind start.0) (grammar.part_refusal (number_of number.entry) (rest input.now))) }
+    ensures free { grammar.part_refusal (number_of number.entry) (rest input.now) ≡ None → IsOk result }
 {
     match number {
-        WrittenNumber::Radixed { big, .. } => *big,
-        WrittenNumber::Big(_) => true,
-        _ => false,
+        WrittenNumber::Radixed { radix, run, .. } => {
+            digit_refusal(alloc, run, radix, BytePos(start.0 + 2))
+        }
+        WrittenNumber::Big(_) => Ok(None),
+        WrittenNumber::Legacy(_) => Ok(None),
+        WrittenNumber::Plain {
+            run,
+            fraction,
+            exponent,
+        } => {
+            let behind = BytePos(start.0 + (run.len() + fraction_len(fraction)) as u32);
+            exponent_refusal(alloc, exponent, behind, input)
+        }
     }
 }
 
-/// Whether a name begins at the cursor.
-fn begins_name(input: &StringInput) -> bool
-    ensures { result ≡ next_passes is_ident_start (rest input.now) }
+/// The refusal of a name that begins at the cursor, right behind a number that is no big integer.
+fn name_refusal<'a>(
+    alloc: Global,
+    number: &WrittenNumber,
+    input: &StringInput,
+) -> Result<Option<Error<'a>>, AllocError>
+    ensures value { (start : ℕ) → start + byte_len (grammar.number_text (number_of number.now)) ≡ place input.now →
+        IfOk result (λ r. option_map error_view r ≡
+        option_map (error_behind start) (grammar.name_refusal (number_of number.now) (rest input.now))) }
+    ensures free { grammar.name_refusal (number_of number.now) (rest input.now) ≡ None → IsOk result }
 {
-    match input.cur() {
-        Some(c) => c.is_ident_start(),
-        None => false,
+    if is_big(number) || !begins_name(input) {
+        return Ok(None);
+    }
+    let here = input.cur_pos();
+    let error = Error::new(alloc, Span::new(here, here), SyntaxError::IdentAfterNum)?;
+    Ok(Some(error))
+}
+
+/// Why a number that starts at the place is refused, if it is: by its parts, else by the name that begins behind it,
+/// where the cursor stands. A number that is not refused takes no memory.
+pub(super) fn refusal<'a>(
+    alloc: Global,
+    number: WrittenNumber,
+    start: BytePos,
+    input: &StringInput,
+) -> Result<Option<Error<'a>>, AllocError>
+    requires fits { start.0 + length (grammar.number_text (number_of number)) < 2 ^ 32 }
+    requires form { grammar.IsNumber (number_of number) }
+    requires behind { start.0 + byte_len (grammar.number_text (number_of number)) ≡ place input.now }
+    ensures value { IfOk result (λ r. option_map error_view r ≡
+        option_map (error_behind start.0) (grammar.refusal (number_of number.entry) (rest input.now))) }
+    ensures free { grammar.refusal (number_of number.entry) (rest input.now) ≡ None → IsOk result }
+{
+    match part_refusal(alloc, number, start, input)? {
+        Some(error) => Ok(Some(error)),
+        None => name_refusal(alloc, &number, input),
     }
 }

@@ -2,13 +2,14 @@
 use Rattle.std.proofs.Common.{◌≡◌, ℕ, length, map}
 use Rattle.ecma_place.specs.Cursor.{rest}
 use Rattle.ecma_lexer.proofs.EndingLemmas.{ReadSoFar, read_tokens}
-use Rattle.ecma_lexer.specs.Session.{kept_of}
-use Rattle.ecma_lex.specs.Lines.{lines, settings, whole}
+use Rattle.ecma_lexer.specs.Session.{kept_of, lexer_state}
+use Rattle.ecma_lex.specs.Begin.{begin}
+use Rattle.ecma_lex.specs.Lines.{lines}
 use Rattle.ecma_lex.proofs.lines.tokens_text.Given as goal
 
 abbrev pub invariant-tokens : goal.invariant-tokens
 invariant-tokens l =
-    (k : ℕ) × ReadSoFar settings (whole l.text) k l.lexer × (l.out.items ≡ lines l.text (map kept_of (read_tokens settings (whole l.text) k)))
+    (k : ℕ) × ReadSoFar (begin l.fn.options l.text) k (lexer_state l.lexer) × (l.out.items ≡ lines l.text (map kept_of (read_tokens (begin l.fn.options l.text) k)))
 
 abbrev pub decreases-tokens : goal.decreases-tokens
 decreases-tokens l = length (rest l.lexer.input)

@@ -1,24 +1,66 @@
-use Rattle.std.proofs.Common.{◌≡◌, sym, ap, ◌∙◌, refl}
+use Rattle.std.proofs.Common.{ℕ, ◌+◌, length, sym, ap, ◌∙◌, encode_utf8_all}
 use Rattle.ecma_place.specs.Cursor.{rest, passed}
+use Rattle.ecma_place.specs.Text.{byte_len}
+use Rattle.ecma_place.specs.declared.place.Span.{Span}
 use Rattle.ecma_place.proofs.MoveLemmas.{place-passed-le, span-passed}
-use Rattle.ecma_scan.specs.DigitRuns.{digit_run, is_decimal_digit, whole_value}
-use Rattle.ecma_scan.proofs.Fronts.{length-take_while, take_while-front}
-use Rattle.ecma_scan.proofs.NumberLemmas.{digit_run-bytes, digit_run-digits, digit_run-some, whole_value-parsed}
+use Rattle.ecma_place.proofs.RunLemmas.{text-passed}
+use Rattle.ecma_scan.specs.Found.{span_of}
+use Rattle.ecma_scan.specs.Numbers.{number_parts, number_text, behind_number, refusal}
+use Rattle.ecma_scan.specs.WrittenNumbers.{number_of}
+use Rattle.ecma_scan.proofs.NumberDigits.{number-some}
+use Rattle.ecma_scan.proofs.NumberForms.{number-bytes}
+use Rattle.ecma_scan.proofs.NumberFound.{front-taken, on_any, free-number}
+use Rattle.ecma_scan.proofs.NumberLaws.{number_sound, number_tiles}
+use Rattle.ecma_scan.proofs.NumberLocal.{spelling_is}
+use Rattle.ecma_scan.proofs.NumberReading.{rest-on}
 use Rattle.ecma_scan.proofs.number.scan_number.Goals as goal
 
-pub new-requires-2 : goal.new-requires-2
-new-requires-2 c = rw (c.cur_pos-start.ensures, c.cur_pos.ensures) (place-passed-le _ _ _ c.digit_run-text.ensures.moved)
+pub new-extent-requires : goal.new-extent-requires
+new-extent-requires c = rw (c.cur_pos-start.ensures, c.cur_pos.ensures) (place-passed-le _ _ _ c.read_parts-number.ensures.moved)
+
+pub slice-raw-requires-clause-in_order : goal.slice-raw-requires-clause-in_order
+slice-raw-requires-clause-in_order c =
+    rw (c.new-extent.ensures, c.cur_pos-start.ensures, c.cur_pos.ensures) (place-passed-le _ _ _ c.read_parts-number.ensures.moved)
+
+pub found_number-requires-clause-form : goal.found_number-requires-clause-form
+found_number-requires-clause-form c = rw c.read_parts-number.ensures.value (number_sound (rest c.args.input.now))
+
+pub found_number-requires-clause-raw : goal.found_number-requires-clause-raw
+found_number-requires-clause-raw c =
+    let text = rest c.args.input.now in
+    let number = number_parts text in
+    let from = ap (λ (s : Span). s.lo.0) c.new-extent.ensures ∙ c.cur_pos-start.ensures in
+    let to = ap (λ (s : Span). s.hi.0) c.new-extent.ensures ∙ c.cur_pos.ensures in
+    let cut = front-taken (number_text number) (behind_number number text) text (number_tiles text) in
+    c.slice-raw.ensures ∙ text-passed _ _ (length (number_text number)) _ _ c.read_parts-number.ensures.moved from to
+    ∙ ap encode_utf8_all cut ∙ number-bytes number (number_sound text) ∙ ap number_text (sym c.read_parts-number.ensures.value)
+
+pub found_number-requires-clause-extent : goal.found_number-requires-clause-extent
+found_number-requires-clause-extent c =
+    let text = rest c.args.input.now in
+    let number = number_parts text in
+    let from = ap (λ (s : Span). s.lo.0) c.new-extent.ensures ∙ c.cur_pos-start.ensures in
+    let cut = front-taken (number_text number) (behind_number number text) text (number_tiles text) in
+    let extent = c.new-extent.ensures ∙ span-passed c.args.input.now _ (number_text number) _ _ cut c.read_parts-number.ensures.moved c.cur_pos-start.ensures c.cur_pos.ensures in
+    rw c.read_parts-number.ensures.value (extent ∙ ap (λ (p : ℕ). span_of p (p + byte_len (number_text number))) (sym from))
+
+pub found_number-requires-clause-some : goal.found_number-requires-clause-some
+found_number-requires-clause-some c =
+    λ none. number-some (number_of c.read_parts-number.result) (rest c.args.input.now) _ c.read_parts-number.ensures.value c.requires none
 
 pub returns-clause-moved : goal.returns-clause-moved
 returns-clause-moved c =
-    c.digit_run-text.ensures.moved ∙ ap (λ n. passed n c.args.input.now) (sym (length-take_while is_decimal_digit (rest c.args.input.now)))
-
-pub returns-clause-found : goal.returns-clause-found
-returns-clause-found c =
     let text = rest c.args.input.now in
-    let bytes : c.digit_run-text.result.now ≡ digit_run text = c.digit_run-text.ensures.text ∙ digit_run-bytes text in
-    let parsed = rw bytes at c.from_str_radix.ensures.value in
-    let whole : c.ok.result ≡ whole_value 10 (digit_run text) =
-    c.ok.ensures.value ∙ whole_value-parsed (digit_run text) c.from_str_radix.result parsed (digit_run-digits text) (digit_run-some text c.requires) in
-    let extent = c.new-2.ensures ∙ span-passed c.args.input.now _ (digit_run text) _ _ (take_while-front is_decimal_digit text) (returns-clause-moved c) c.cur_pos-start.ensures c.cur_pos.ensures in
-    rw (c.from.ensures, c.from-2.ensures, bytes, whole, c.new.ensures.items, extent, digit_run-bytes text) refl
+    let number = number_parts text in
+    let same = spelling_is c.args.ts1085 number (refusal number (behind_number number text)) in
+    on_any c.found_number.result (c.read_parts-number.ensures.moved ∙ ap (λ s. passed (length s) c.args.input.now) (sym same))
+
+pub returns-clause-free : goal.returns-clause-free
+returns-clause-free c =
+    let text = rest c.args.input.now in
+    let number = number_parts text in
+    let value = c.read_parts-number.ensures.value in
+    let follows = rest-on _ _ _ c.read_parts-number.ensures.moved in
+    λ plain accepted clean.
+    let parts = free-number c.args.ts1085 number (refusal number (behind_number number text)) plain accepted clean in
+    c.found_number.ensures.free (rw value parts.0) (rw (value, follows) parts.1) (rw value parts.2)

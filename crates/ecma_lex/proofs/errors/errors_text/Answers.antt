@@ -1,0 +1,21 @@
+use Rattle.std.proofs.Common.{sym, ◌∙◌}
+use Rattle.ecma_lexer.specs.Session.{lexer_state}
+use Rattle.ecma_lex.proofs.Listing.{errors-end, errors-less, errors-next}
+use Rattle.ecma_lex.proofs.errors.errors_text.Goals as goal
+
+pub tokens-smaller : goal.tokens-smaller
+tokens-smaller c =
+    let read = c.in_ok-push_next.ensures in
+    errors-less (lexer_state c.tokens.lexer) (lexer_state c.push_next.new.lexer) (sym read.more ∙ c.if-branch.true) read.after
+
+pub tokens-preserved : goal.tokens-preserved
+tokens-preserved c =
+    let read = c.in_ok-push_next.ensures in
+    errors-next c.args.options c.args.text.now (lexer_state c.tokens.lexer) (lexer_state c.push_next.new.lexer) c.tokens.out.items c.push_next.new.out.items
+    c.tokens.invariant (sym read.more ∙ c.if-branch.true) read.after read.lines
+
+pub returns : goal.returns
+returns c =
+    let read = c.in_ok-push_next.ensures in
+    errors-end c.args.options c.args.text.now (lexer_state c.tokens.lexer) (lexer_state c.push_next.new.lexer) c.tokens.out.items c.push_next.new.out.items c.push_lists.new.out.items
+    c.tokens.invariant (sym read.more ∙ c.if-branch.false) read.after read.lines c.in_ok-push_lists.ensures

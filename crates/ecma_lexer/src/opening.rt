@@ -1,0 +1,55 @@
+//! What the first characters of a text open.
+ghost use Rattle.std.specs.Prelude.{◌≡◌, Some, slice_get};
+ghost use Rattle.ecma_place.specs.Cursor.{rest};
+ghost use Rattle.ecma_scan.specs.Bars.{opens_bars};
+ghost use Rattle.ecma_scan.specs.Numbers.{opens_number};
+ghost use Rattle.ecma_lexer.specs.TokenAt as grammar;
+
+use ecma_place::{CharExt, StringInput};
+
+/// What the first characters of a text open.
+#[derive(Debug, Clone, Copy, PartialEq, Eq)]
+pub enum Opening {
+    Number,
+    String,
+    Word,
+    /// A marker of bars, which is our own choice.
+    Bars,
+    /// A punctuator, or nothing.
+    Other,
+}
+
+/// Whether a number stands at the cursor, which stands before the character `c`.
+fn stands_number(input: &StringInput, c: char) -> bool
+    requires { slice_get (rest input.now) 0 ≡ Some c }
+    ensures { result ≡ opens_number (rest input.now) }
+{
+    c.is_digit(10) || c == '.' && matches!(input.peek(), Some('0'..='9'))
+}
+
+/// Whether a marker of bars stands at the cursor.
+fn stands_bars(input: &StringInput) -> bool
+    ensures { result ≡ opens_bars (rest input.now) }
+{
+    input.is_str("||||||| ")
+}
+
+impl Opening {
+    /// What stands at the cursor, which stands before the character `c`, behind a gap whose flag stands or not.
+    pub fn at(input: &StringInput, flag: bool, c: char) -> Opening
+        requires { slice_get (rest input.now) 0 ≡ Some c }
+        ensures { result ≡ grammar.opening flag (rest input.now) }
+    {
+        if stands_number(input, c) {
+            Opening::Number
+        } else if c == '"' || c == '\'' {
+            Opening::String
+        } else if c.is_ident_start() || c == '\\' {
+            Opening::Word
+        } else if flag && stands_bars(input) {
+            Opening::Bars
+        } else {
+            Opening::Other
+        }
+    }
+}

@@ -1,0 +1,64 @@
+//! What is asked of the state between two reads.
+use crate::state::State;
+use ecma_place::BytePos;
+use ecma_syntax::{BinOpToken, IdentKind, Syntax, WordKind};
+use ecma_token::TokenKind;
+use std::alloc::{AllocError, Global};
+use std::test::Fail;
+
+const NAME: TokenKind = TokenKind::Word(WordKind::Ident(IdentKind::Other));
+
+/// What is answered of space, line comments, block comments and template texts.
+type Answers = (bool, bool, bool, bool);
+
+fn answers(state: &State) -> Answers {
+    (
+        state.can_skip_space(),
+        state.can_have_trailing_line_comment(),
+        state.can_have_trailing_comment(),
+        state.last_was_tpl_element(),
+    )
+}
+
+/// The answers behind a token that a text begins with.
+fn answers_behind(alloc: Global, kind: TokenKind) -> Result<Answers, AllocError> {
+    let mut state = State::new(alloc, Syntax::default(), BytePos(0));
+    state.take(kind, true, BytePos(1))?;
+    Ok(answers(&state))
+}
+
+#[test]
+fn answers_go_by_the_token_before(rt: HostRuntime) -> Result<(), Fail> {
+    let alloc = rt.alloc();
+    let fresh = State::new(alloc, Syntax::default(), BytePos(7));
+    assert_eq!(rt; answers(&fresh), (true, true, false, false));
+    assert_eq!(rt; fresh.end, BytePos(7));
+    assert_eq!(rt; answers_behind(alloc, NAME)?, (true, true, true, false));
+    assert_eq!(rt;
+        answers_behind(alloc, TokenKind::BackQuote)?,
+        (false, true, false, false)
+    );
+    assert_eq!(rt;
+        answers_behind(alloc, TokenKind::Template)?,
+        (true, true, false, true)
+    );
+    let plus = TokenKind::BinOp(BinOpToken::Add);
+    assert_eq!(rt; answers_behind(alloc, plus)?, (true, false, false, false));
+    assert_eq!(rt;
+        answers_behind(alloc, TokenKind::Semi)?,
+        (true, true, true, false)
+    );
+    Ok(())
+}
+
+#[test]
+fn a_copy_stays_behind(rt: HostRuntime) -> Result<(), Fail> {
+    let mut state = State::new(rt.alloc(), Syntax::default(), BytePos(0));
+    state.take(TokenKind::BackQuote, true, BytePos(1))?;
+    let copy = state.copy()?;
+    state.take(TokenKind::BackQuote, false, BytePos(2))?;
+    assert!(rt; state.can_skip_space());
+    assert!(rt; !copy.can_skip_space());
+    assert_eq!(rt; copy.end, BytePos(1));
+    Ok(())
+}

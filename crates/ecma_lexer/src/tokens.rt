@@ -1,0 +1,72 @@
+//! What the layer above asks of what it reads tokens from.
+ghost use Rattle.std.specs.Prelude.{◌≡◌, [], false, map, IsOk, OnOk, OnErr, IfErr};
+ghost use Rattle.ecma_token.specs.View.{error_view};
+ghost use Rattle.ecma_lexer.specs.Session.{LexerState};
+ghost use Rattle.ecma_lexer.specs.Run.{state_in, state_with_error, state_with_module_mode_error, state_without_errors};
+
+use crate::error_list::ErrorList;
+use ecma_place::BytePos;
+use ecma_syntax::{Context, EsVersion, Syntax};
+use ecma_token::Error;
+use std::alloc::AllocError;
+
+/// What the layer above asks of what it reads tokens from.
+pub trait Tokens<'a> {
+    ghost state: { Self → LexerState };
+
+    /// Sets the flags of the code that is being read.
+    ///
+    /// Where they say that it is a module, the errors that waited are recorded behind those that were, in order;
+    /// else, and where none waited, this takes no memory.
+    ///
+    /// # Errors
+    ///
+    /// `AllocError` where there is no memory for the errors that waited. Nothing is then changed.
+    fn set_ctx(&mut self, ctx: Context) -> Result<(), AllocError>
+        ensures ok { OnOk result (state self.new ≡ state_in ctx (state self.old)) }
+        ensures err { OnErr result (state self.new ≡ state self.old) }
+        ensures outside { ctx.«module» ≡ false → IsOk result }
+        ensures none_waiting { (state self.old).errors.waiting ≡ [] → IsOk result };
+
+    /// The flags of the code that is being read.
+    fn ctx(&self) -> Context
+        ensures { result ≡ (state self.now).context };
+
+    /// The settings of the language.
+    fn syntax(&self) -> Syntax
+        ensures { result ≡ (state self.now).settings.syntax };
+
+    /// The version of ECMAScript that the code is for.
+    fn target(&self) -> EsVersion
+        ensures { result ≡ (state self.now).settings.target };
+
+    /// The place where the text begins.
+    fn start_pos(&self) -> BytePos
+        ensures { result ≡ (state self.now).start };
+
+    /// Records an error, also where errors are ignored.
+    ///
+    /// # Errors
+    ///
+    /// The error itself where there is no memory for it. Nothing is then changed.
+    fn add_error(&mut self, error: Error<'a>) -> Result<(), Error<'a>>
+        ensures ok { OnOk result (state self.new ≡ state_with_error (error_view error.entry) (state self.old)) }
+        ensures err { OnErr result (state self.new ≡ state self.old) }
+        ensures back { IfErr result (λ e. e ≡ error.entry) };
+
+    /// Takes in an error that counts in module code: it is recorded in a module, also where errors are ignored, and
+    /// else waits.
+    ///
+    /// # Errors
+    ///
+    /// The error itself where there is no memory for it. Nothing is then changed.
+    fn add_module_mode_error(&mut self, error: Error<'a>) -> Result<(), Error<'a>>
+        ensures ok { OnOk result (state self.new ≡ state_with_module_mode_error (error_view error.entry) (state self.old)) }
+        ensures err { OnErr result (state self.new ≡ state self.old) }
+        ensures back { IfErr result (λ e. e ≡ error.entry) };
+
+    /// The errors that were recorded, in order. None is recorded then; it takes no memory.
+    fn take_errors(&mut self) -> ErrorList<'a>
+        ensures errors { map error_view result ≡ (state self.old).errors.recorded }
+        ensures after { state self.new ≡ state_without_errors (state self.old) };
+}

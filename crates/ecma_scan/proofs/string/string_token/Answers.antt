@@ -1,0 +1,55 @@
+use Rattle.std.proofs.Common.{ap, sym, ◌∙◌, refl, arith, map, Ok}
+use Rattle.ecma_place.specs.Atom.{borrowed_atom}
+use Rattle.ecma_place.proofs.MoveLemmas.{place-passed-le}
+use Rattle.ecma_token.specs.View.{error_view, plain_token}
+use Rattle.ecma_token.specs.declared.token.Token.{Str}
+use Rattle.ecma_scan.specs.Found.{fault_view, value_view}
+use Rattle.ecma_scan.proofs.StringFound.{literal-refused, literal-accepted, accepted-order, literal-raw, free-value, free-close}
+use Rattle.ecma_scan.proofs.string.string_token.Goals as goal
+
+pub returns-in_err-error-clause-free : goal.returns-in_err-error-clause-free
+returns-in_err-error-clause-free c = λ token h o none.
+    let free = free-value c.opening_quote-quote.result c.args.input.now c.opening_quote-quote.new.input token c.opening_quote-quote.ensures.quote c.opening_quote-quote.ensures.moved h o in
+    let bad = c.in_err-error.ensures.free free.0 free.1 free.2 in
+    cc
+
+pub close_string-requires : goal.close_string-requires
+close_string-requires c =
+    let value = sym (ap (value_view (λ a. a)) c.in-Ok.is) ∙ c.in_ok-error.ensures.value in
+    let order = accepted-order c.opening_quote-quote.result c.args.input.now c.opening_quote-quote.new.input c.string_value.new.input c.in-Ok.value c.opening_quote-quote.ensures.quote c.opening_quote-quote.ensures.moved value c.in_ok-error.ensures.moved in
+    omega (arith, order, c.cur_pos-start.ensures)
+
+pub returns-in_err-close_string-in-Ok-clause-free : goal.returns-in_err-close_string-in-Ok-clause-free
+returns-in_err-close_string-in-Ok-clause-free c = λ token h o none.
+    let value = sym (ap (value_view (λ a. a)) c.in-Ok.is) ∙ c.in_ok-error.ensures.value in
+    let closed = free-close c.opening_quote-quote.result c.args.input.now c.opening_quote-quote.new.input c.string_value.new.input c.in-Ok.value c.opening_quote-quote.ensures.quote c.opening_quote-quote.ensures.moved value c.in_ok-error.ensures.moved none in
+    let bad = c.in_err-close_string-in-Ok.ensures.free closed in
+    cc
+
+pub slice-requires-clause-in_order : goal.slice-requires-clause-in_order
+slice-requires-clause-in_order c =
+    let value = sym (ap (value_view (λ a. a)) c.in-Ok.is) ∙ c.in_ok-error.ensures.value in
+    let all = literal-accepted c.opening_quote-quote.result c.args.input.now c.opening_quote-quote.new.input c.string_value.new.input c.close_string.new.input c.in-Ok.value (map fault_view c.args.faults.now.items) _ _ c.cur_pos-start.result.0
+    c.opening_quote-quote.ensures.quote c.opening_quote-quote.ensures.moved value c.in_ok-error.ensures.faults c.in_ok-error.ensures.moved c.cur_pos-start.ensures c.in_ok-close_string-in-Ok.ensures.faults c.in_ok-close_string-in-Ok.ensures.moved in
+    let order = place-passed-le c.args.input.now c.close_string.new.input _ all.moved in
+    omega (arith, order, c.cur_pos-start.ensures, c.cur_pos.ensures)
+
+pub returns-in-Err : goal.returns-in-Err
+returns-in-Err c =
+    let value = sym (ap (value_view (λ a. a)) c.in-Err.is) ∙ c.in_ok-error.ensures.value in
+    let all = literal-refused c.opening_quote-quote.result c.args.input.now c.opening_quote-quote.new.input c.string_value.new.input (error_view c.in-Err.error) (map fault_view c.args.faults.now.items) _
+    c.opening_quote-quote.ensures.quote c.opening_quote-quote.ensures.moved value c.in_ok-error.ensures.faults c.in_ok-error.ensures.moved in
+    record { value = all.value; faults = all.faults; moved = all.moved; free = λ token h o none. refl }
+
+pub returns-in_ok-close_string-in-Ok : goal.returns-in_ok-close_string-in-Ok
+returns-in_ok-close_string-in-Ok c =
+    let value = sym (ap (value_view (λ a. a)) c.in-Ok.is) ∙ c.in_ok-error.ensures.value in
+    let all = literal-accepted c.opening_quote-quote.result c.args.input.now c.opening_quote-quote.new.input c.string_value.new.input c.close_string.new.input c.in-Ok.value (map fault_view c.args.faults.now.items) _ _ c.cur_pos-start.result.0
+    c.opening_quote-quote.ensures.quote c.opening_quote-quote.ensures.moved value c.in_ok-error.ensures.faults c.in_ok-error.ensures.moved c.cur_pos-start.ensures c.in_ok-close_string-in-Ok.ensures.faults c.in_ok-close_string-in-Ok.ensures.moved in
+    let raw = c.slice.ensures ∙ literal-raw c.args.input.now c.close_string.new.input _ _ all.moved c.cur_pos-start.ensures c.cur_pos.ensures in
+    record {
+      value = ap (λ a. Ok (plain_token (Str c.in-Ok.value a))) (c.from-raw.ensures ∙ ap borrowed_atom raw) ∙ all.value;
+      faults = all.faults;
+      moved = all.moved;
+      free = λ token h o none. refl;
+    }
