@@ -1,3 +1,4 @@
+pub mod Gathering
 pub mod Halting
 pub mod Listing
 pub mod Messages

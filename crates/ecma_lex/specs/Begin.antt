@@ -16,10 +16,13 @@ use Rattle.ecma_lex.specs.declared.command.Options.{Options}
 abbrev typescript : Syntax
 typescript = Typescript (record { tsx = false; decorators = false; dts = false; no_early_errors = false; disallow_ambiguous_jsx_like = false })
 
--- for the fifth edition, without comments
-abbrev pub settings : Options → Settings
-settings o =
-    record { syntax = if o.typescript then typescript else default_of.syntax; target = default_of.version; comments = false }
+abbrev pub syntax : Options → Syntax
+syntax o = if o.typescript then typescript else default_of.syntax
+
+-- for the fifth edition; the first part says whether comments are collected
+abbrev pub settings : Bool → Options → Settings
+settings comments o =
+    record { syntax = syntax o; target = default_of.version; comments = comments }
 
 abbrev pub context : Options → Context
 context o = record no_context { «module» = o.«module»; strict = o.strict }
@@ -33,5 +36,5 @@ abbrev pub begin_if : Bool → Options → Session → Session
 begin_if true o s = act_on s (SetCtx (context o))
 begin_if false o s = s
 
-abbrev pub begin : Options → List ℕ → Session
-begin o bytes = begin_if (o.«module» || o.strict) o (start_of (settings o) (whole bytes))
+abbrev pub begin : Bool → Options → List ℕ → Session
+begin comments o bytes = begin_if (o.«module» || o.strict) o (start_of (settings comments o) (whole bytes))

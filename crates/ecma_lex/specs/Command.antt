@@ -2,7 +2,7 @@
 use Rattle.std.specs.Prelude.{ℕ, Bool, true, false, List, [], ◌∷◌, Option, Some, None, if◌then◌else◌, codes, nat_eq}
 use Rattle.std.specs.Cmp.Lexicographic.{pointwise}
 use Rattle.ecma_lex.specs.declared.command.Command.{Command}
-use Rattle.ecma_lex.specs.declared.command.Command.TheVariants.{Tokens, Errors}
+use Rattle.ecma_lex.specs.declared.command.Command.TheVariants.{Tokens, Errors, Comments}
 use Rattle.ecma_lex.specs.declared.command.Options.{Options}
 use Rattle.ecma_lex.specs.declared.command.Request.{Request}
 
@@ -11,7 +11,8 @@ abbrev pub named_command : List ℕ → Option Command
 named_command word =
     if pointwise nat_eq word (codes "tokens") then Some Tokens
     else (if pointwise nat_eq word (codes "errors") then Some Errors
-    else None)
+    else (if pointwise nat_eq word (codes "comments") then Some Comments
+    else None))
 
 -- options that were given before are bad
 abbrev pub once : Bool → Options → Option Options

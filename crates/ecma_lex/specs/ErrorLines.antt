@@ -1,5 +1,5 @@
 -- What is written of the errors of a text: a line each. The form of the lines is our own choice.
-use Rattle.std.specs.Prelude.{ℕ, List, [], ◌∷◌, ◌++◌, Option, Some, None, codes, decimal, flat_map}
+use Rattle.std.specs.Prelude.{ℕ, false, List, [], ◌∷◌, ◌++◌, Option, Some, None, codes, decimal, flat_map}
 use Rattle.ecma_place.specs.declared.place.Span.{Span}
 use Rattle.ecma_token.specs.View.{ErrorView, SpannedView, TokenView, error_token}
 use Rattle.ecma_lexer.specs.Disposition as lists
@@ -38,4 +38,4 @@ abbrev pub list_lines : lists.Errors → List ℕ
 list_lines errors = error_lines (codes "recorded") errors.recorded ++ error_lines (codes "waiting") errors.waiting
 
 abbrev pub errors_text : Options → List ℕ → List ℕ
-errors_text options bytes = flat_map token_lines (tokens_of (begin options bytes)) ++ list_lines (errors_of (begin options bytes))
+errors_text options bytes = flat_map token_lines (tokens_of (begin false options bytes)) ++ list_lines (errors_of (begin false options bytes))

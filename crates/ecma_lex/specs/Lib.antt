@@ -1,5 +1,6 @@
 pub mod Begin
 pub mod Command
+pub mod CommentLines
 pub mod ErrorLines
 pub mod Lines
 pub mod MessageView

@@ -81,4 +81,4 @@ lines bytes tokens = flat_map (line bytes) tokens
 
 -- what is written of the tokens of a text
 abbrev pub tokens_text : Options → List ℕ → List ℕ
-tokens_text options bytes = lines bytes (map kept_of (tokens_of (begin options bytes)))
+tokens_text options bytes = lines bytes (map kept_of (tokens_of (begin false options bytes)))

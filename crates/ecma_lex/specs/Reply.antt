@@ -2,12 +2,13 @@
 use Rattle.std.specs.Prelude.{ℕ, List, [], ◌∷◌, ◌++◌, Option, Some, None, Result, Ok, Err, nat_lt, if◌then◌else◌, length, codes}
 use Rattle.std.specs.Str.{is_utf8}
 use Rattle.ecma_lex.specs.declared.command.Command.{Command}
-use Rattle.ecma_lex.specs.declared.command.Command.TheVariants.{Tokens, Errors}
+use Rattle.ecma_lex.specs.declared.command.Command.TheVariants.{Tokens, Errors, Comments}
 use Rattle.ecma_lex.specs.declared.command.Options.{Options}
 use Rattle.ecma_lex.specs.declared.command.Request.{Request}
 use Rattle.ecma_lex.specs.declared.fault.Fault.{Fault}
 use Rattle.ecma_lex.specs.declared.fault.Fault.TheVariants.{BadWords, NotUtf8, TooLong, OutOfMemory}
 use Rattle.ecma_lex.specs.Command.{request_of}
+use Rattle.ecma_lex.specs.CommentLines.{comments_text}
 use Rattle.ecma_lex.specs.ErrorLines.{errors_text}
 use Rattle.ecma_lex.specs.Lines.{tokens_text}
 
@@ -28,6 +29,7 @@ fault_status OutOfMemory = 5
 abbrev pub command_text : Command → Options → List ℕ → List ℕ
 command_text Tokens options bytes = tokens_text options bytes
 command_text Errors options bytes = errors_text options bytes
+command_text Comments options bytes = comments_text options bytes
 
 abbrev pub program_text : Request → List ℕ → List ℕ
 program_text request bytes = command_text request.command request.options bytes

@@ -10,7 +10,7 @@ use ecma_syntax::{Context, EsVersion, Syntax, TsSyntax};
 use std::alloc::{AllocError, Global};
 
 fn syntax(options: Options) -> Syntax
-    ensures { result ≡ (grammar.settings options).syntax }
+    ensures { result ≡ grammar.syntax options }
 {
     if options.typescript {
         Syntax::Typescript(TsSyntax::default())
@@ -29,13 +29,24 @@ fn context(options: Options) -> Context
     }
 }
 
-/// The lexer of a text that starts at the place 0.
-pub fn begin<'a>(alloc: Global, options: Options, text: &'a str) -> Result<Lexer<'a>, AllocError>
+/// The lexer of a text that starts at the place 0. `comments` says whether comments are collected.
+pub fn begin<'a>(
+    alloc: Global,
+    comments: bool,
+    options: Options,
+    text: &'a str,
+) -> Result<Lexer<'a>, AllocError>
     requires { length text.now < 2 ^ 32 }
-    ensures { IfOk result (λ lexer. lexer_state lexer ≡ state_of (grammar.begin options text.now)) }
+    ensures { IfOk result (λ lexer. lexer_state lexer ≡ state_of (grammar.begin comments options text.now)) }
 {
     let input = StringInput::new(text, BytePos(0));
-    let mut lexer = Lexer::new(alloc, syntax(options), EsVersion::default(), input, false);
+    let mut lexer = Lexer::new(
+        alloc,
+        syntax(options),
+        EsVersion::default(),
+        input,
+        comments,
+    );
     if options.module || options.strict {
         lexer.set_ctx(context(options))?;
     }

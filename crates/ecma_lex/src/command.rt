@@ -3,6 +3,7 @@ ghost use Rattle.std.specs.Prelude.{◌≡◌, ◌^◌, ◌<◌, Some, IfOk, len
 ghost use Rattle.ecma_lex.specs.Reply.{program_text};
 ghost use Rattle.ecma_lex.specs.Command.{named_command, once, options_behind, request_of, with_option, no_options};
 
+use crate::comments::comments_text;
 use crate::errors::errors_text;
 use crate::lines::tokens_text;
 use std::alloc::{AllocError, Global};
@@ -14,6 +15,8 @@ pub enum Command {
     Tokens,
     /// The errors, a line each.
     Errors,
+    /// The comments, a line each.
+    Comments,
 }
 
 impl Command {
@@ -24,6 +27,7 @@ impl Command {
         match word {
             "tokens" => Some(Command::Tokens),
             "errors" => Some(Command::Errors),
+            "comments" => Some(Command::Comments),
             _ => None,
         }
     }
@@ -116,6 +120,7 @@ impl Request {
         match self.command {
             Command::Tokens => tokens_text(alloc, self.options, text),
             Command::Errors => errors_text(alloc, self.options, text),
+            Command::Comments => comments_text(alloc, self.options, text),
         }
     }
 }

@@ -99,7 +99,7 @@ pub fn errors_text(alloc: Global, options: Options, text: &str) -> Result<Vec<u8
     requires { length text.now < 2 ^ 32 }
     ensures { IfOk result (λ out. out.items ≡ grammar.errors_text options text.now) }
 {
-    let mut lexer = begin(alloc, options, text)?;
+    let mut lexer = begin(alloc, false, options, text)?;
     let mut out = Vec::new(alloc);
     'tokens: while push_next(alloc, &mut out, &mut lexer)? {}
     push_lists(alloc, &mut out, &mut lexer)?;

@@ -137,7 +137,7 @@ pub fn tokens_text(alloc: Global, options: Options, text: &str) -> Result<Vec<u8
     requires { length text.now < 2 ^ 32 }
     ensures { IfOk result (λ out. out.items ≡ grammar.tokens_text options text.now) }
 {
-    let mut lexer = begin(alloc, options, text)?;
+    let mut lexer = begin(alloc, false, options, text)?;
     let mut out = Vec::new(alloc);
     'tokens: while let Some(token) = next_kept(&mut lexer)? {
         push_line(alloc, &mut out, text.as_bytes(), token)?;

@@ -3,6 +3,7 @@
 
 mod begin;
 mod command;
+mod comments;
 mod errors;
 mod fault;
 mod input;

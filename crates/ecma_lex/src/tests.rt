@@ -1,4 +1,6 @@
 //! Rows of the program, and readers and writers that fail in the middle.
+use crate::command::Options;
+use crate::comments::comments_text;
 use crate::fault::Halt;
 use crate::input::read_all;
 use crate::program::run;
@@ -178,7 +180,10 @@ fn judges_the_words(rt: HostRuntime) -> Result<(), Fail> {
         0,
         b"0 1 lf Semi ;\n",
     )?;
-    assert_bad(&rt, alloc, &["comments"])?;
+    assert_words(&rt, alloc, &["comments"], b";", 0, b"")?;
+    assert_bad(&rt, alloc, &["comments", "tokens"])?;
+    assert_bad(&rt, alloc, &["comments", "comments"])?;
+    assert_bad(&rt, alloc, &["comment"])?;
     assert_bad(&rt, alloc, &["Tokens"])?;
     assert_bad(&rt, alloc, &[""])?;
     assert_bad(&rt, alloc, &["ts"])?;
@@ -265,6 +270,57 @@ fn writes_the_lists(rt: HostRuntime) -> Result<(), Fail> {
 }
 
 #[test]
+fn writes_the_tokens_of_templates(rt: HostRuntime) {
+    let lines =
+        b"0 1 lf BackQuote `\n1 2 - Template a\n2 4 - DollarLBrace ${\n4 5 - Ident b\n5 6 - RBrace }\n6 7 - Template c\n7 8 - BackQuote `\n";
+    assert_run(&rt, rt.alloc(), &[], b"`a${b}c`", 0, lines);
+}
+
+/// Asserts what `comments` writes of a text.
+fn assert_comments(
+    rt: &impl Abort,
+    alloc: Global,
+    input: &[u8],
+    output: &[u8],
+) -> Result<(), Fail> {
+    assert_words(rt, alloc, &["comments"], input, 0, output)
+}
+
+#[test]
+fn writes_the_comments(rt: HostRuntime) -> Result<(), Fail> {
+    let alloc = rt.alloc();
+    assert_comments(&rt, alloc, b"", b"")?;
+    assert_comments(&rt, alloc, b"a", b"")?;
+    assert_comments(&rt, alloc, b"/**/a", b"leading 4 0 4 block \n")?;
+    let lines = b"trailing 3 10 13 line b\ntrailing 3 4 9 block a\n";
+    assert_comments(&rt, alloc, b"f() /*a*/ //b", lines)?;
+    assert_comments(&rt, alloc, b"a; /*b*/ c", b"trailing 2 3 8 block b\n")?;
+    assert_comments(&rt, alloc, b"a + /*b*/;", b"trailing 3 4 9 block b\n")?;
+    assert_comments(&rt, alloc, b"/*a*/", b"leading 0 0 5 block a\n")?;
+    assert_comments(&rt, alloc, b"#!x\n//c", b"trailing 3 4 7 line c\n")
+}
+
+#[test]
+fn writes_legacy_comments(rt: HostRuntime) -> Result<(), Fail> {
+    let alloc = rt.alloc();
+    assert_comments(&rt, alloc, b"a\n-->x\nb", b"leading 7 5 6 line x\n")?;
+    assert_comments(&rt, alloc, b"x<!--y\nz", b"trailing 1 2 6 line y\n")?;
+    assert_comments(&rt, alloc, b"a\n=======\nb", b"leading 10 5 9 line \n")?;
+    assert_comments(&rt, alloc, b"\n<<<<<<< x\ny", b"leading 11 3 10 line  x\n")?;
+    assert_comments(&rt, alloc, b"\n>>>>>>> x\ny", b"leading 11 4 10 line x\n")
+}
+
+#[test]
+fn writes_comments_escaped(rt: HostRuntime) -> Result<(), Fail> {
+    assert_comments(
+        &rt,
+        rt.alloc(),
+        b"/*a\\\r\nb*/c",
+        b"leading 9 0 9 block a\\\\\\r\\nb\n",
+    )
+}
+
+#[test]
 fn fails_where_a_read_fails(rt: HostRuntime) {
     for kind in [io::ErrorKind::Other, io::ErrorKind::Interrupted] {
         let script = [Call::Gives(b'a'), Call::Fails(kind), Call::Gives(b'b')];
@@ -328,5 +384,17 @@ fn answers_whole_or_out_of_memory(rt: HostRuntime) {
     } else {
         assert_eq!(rt; status, 5);
         assert_eq!(rt; writer.held(), b"out of memory\n".as_slice());
+    }
+}
+
+/// No allocation here is the test's own, as above.
+#[test]
+fn gathers_all_comments_or_is_refused(rt: HostRuntime) {
+    let gathered = comments_text(rt.alloc(), Options::default(), "a /*b*/; /*c*/ d");
+    if let Ok(lines) = gathered {
+        assert_eq!(rt;
+            lines.as_slice(),
+            b"trailing 1 2 7 block b\ntrailing 8 9 14 block c\n".as_slice()
+        );
     }
 }

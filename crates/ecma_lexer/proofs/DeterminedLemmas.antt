@@ -1,14 +1,15 @@
 -- What a read finds depends on the mode, on what is left, and on the place of that alone.
-use Rattle.std.proofs.Common.{◌≡◌, ℕ, ◌+◌, ◌||◌, Bool, true, false, [], ◌∷◌, ◌++◌, length, take, drop, map, Some, refl, sym, ap, subst, ◌∙◌}
+use Rattle.std.proofs.Common.{◌≡◌, ℕ, ◌+◌, Bool, true, false, [], ◌∷◌, ◌++◌, length, take, drop, Some, refl, sym, ap, subst, ◌∙◌}
 use Rattle.std.proofs.lemmas.List.{drop-drop}
 use Rattle.ecma_place.specs.Cursor.{Cursor, rest, place, passed}
 use Rattle.ecma_place.specs.Text.{Text, byte_len}
 use Rattle.ecma_place.proofs.MoveLemmas.{place-passed}
 use Rattle.ecma_scan.specs.Gaps.{gap_spelling}
-use Rattle.ecma_scan.specs.Found.{fault_behind, token_behind, span_of}
+use Rattle.ecma_scan.specs.Found.{found_at, token_behind}
+use Rattle.ecma_scan.specs.Readings.{GapView}
 use Rattle.ecma_lexer.specs.Mode.{gap_mode}
-use Rattle.ecma_lexer.specs.Reading.{GapView, IsSameReading, ReadingIsDetermined, gap_in, no_gap, reading, reading_behind, reading_code, reading_if, reading_token, shebang_reading, shebang_token, stands_shebang, token_reading}
-use Rattle.ecma_lexer.specs.TokenAt.{token_at, token_comments, token_of}
+use Rattle.ecma_lexer.specs.Reading.{IsSameReading, ReadingIsDetermined, gap_in, no_gap, reading, reading_behind, reading_code, reading_if, reading_token, shebang_reading, shebang_token, spanned, stands_shebang, token_reading}
+use Rattle.ecma_lexer.specs.TokenAt.{token_at, token_comments, token_found}
 use Rattle.ecma_lexer.specs.declared.mode.Mode.{Mode}
 
 -- cursors before which the same stands in the same place
@@ -37,9 +38,9 @@ same_token mode gap a b text h =
     let s = token_at mode gap.line_break text in
     let behind = alike_passed (length s.spelling) a b h in
     record {
-      found = ap (λ p. Some record { token = token_behind p (token_of s.value); had_line_break = gap.line_break || s.line_break; span = span_of p (p + byte_len s.spelling) }) h.stands;
+      found = ap (λ p. Some (spanned gap.line_break (token_found mode gap.line_break p text))) h.stands;
       end_flag = refl;
-      faults = ap (λ p. gap.faults ++ map (fault_behind p) s.faults) h.stands;
+      faults = ap (λ p. gap.faults ++ (token_found mode gap.line_break p text).faults) h.stands;
       comments = ap (λ p. gap.comments ++ token_comments mode gap.line_break p text) h.stands;
       left = behind.left;
       stands = behind.stands;
@@ -66,16 +67,16 @@ shebang_is_determined a b h =
     let s = shebang_token (rest a) in
     let same : shebang_token (rest b) ≡ s = ap shebang_token (sym h.left) in
     let behind = alike_passed (length s.spelling) a b h in
-    let there : IsSameReading (shebang_reading a) (token_reading no_gap b s []) =
+    let there : IsSameReading (shebang_reading a) (token_reading no_gap (found_at token_behind (place b) s) [] (passed (length s.spelling) b)) =
     record {
-      found = ap (λ p. Some record { token = token_behind p (token_of s.value); had_line_break = false; span = span_of p (p + byte_len s.spelling) }) h.stands;
+      found = ap (λ p. Some (spanned false (found_at token_behind p s))) h.stands;
       end_flag = refl;
       faults = refl;
       comments = refl;
       left = behind.left;
       stands = behind.stands;
     } in
-    subst (λ t. IsSameReading (shebang_reading a) (token_reading no_gap b t [])) (sym same) there
+    subst (λ t. IsSameReading (shebang_reading a) (token_reading no_gap (found_at token_behind (place b) t) [] (passed (length t.spelling) b))) (sym same) there
 
 pub reading_is_determined : ReadingIsDetermined
 reading_is_determined mode a b left stands =

@@ -1,19 +1,25 @@
 -- A text is read to its end by enough reads.
-use Rattle.std.proofs.Common.{◌≡◌, ◌∙◌, ℕ, zero, suc, ◌+◌, ◌-◌, ◌<◌, ◌≤◌, Bool, true, List, [], ◌∷◌, ◌++◌, Option, Some, None, length, refl, sym, ap, arith, reverse}
+use Rattle.std.proofs.Common.{subst, ◌≡◌, ◌∙◌, ℕ, zero, suc, ◌+◌, ◌-◌, ◌<◌, ◌≤◌, Bool, true, List, [], ◌∷◌, ◌++◌, append-nil, Option, Some, None, length, refl, sym, ap, arith, reverse}
 use Rattle.std.specs.Prelude.{fold, option_map, Result, Ok, Err, IfOk, OnOk}
 use Rattle.std.proofs.lemmas.Grind.{reverse_onto}
 use Rattle.ecma_place.specs.Text.{Text, byte_len}
-use Rattle.ecma_place.specs.Cursor.{rest}
+use Rattle.ecma_place.specs.Cursor.{Cursor, place, rest}
 use Rattle.ecma_place.proofs.CursorLemmas.{byte_len-cons}
 use Rattle.std.proofs.lemmas.Str.{len_utf8_bounds}
+use Rattle.ecma_token.specs.Kinds.{kind_of}
 use Rattle.ecma_token.specs.View.{SpannedView}
 use Rattle.ecma_scan.specs.Gaps.{has_line_break}
+use Rattle.ecma_lexer.specs.declared.kept.Kept.{Kept}
+use Rattle.ecma_lexer.specs.declared.mode.Mode.{Mode}
 use Rattle.ecma_lexer.specs.declared.step.Step.TheVariants.{Read}
+use Rattle.ecma_lexer.specs.Besides.{OpensBehind}
+use Rattle.ecma_lexer.specs.Reading.{reading}
 use Rattle.ecma_lexer.specs.Mode.{gap_mode}
-use Rattle.ecma_lexer.specs.Session.{Session, LexerState, AtEnd, has_ended, kept_back, seen_of, seeing, state_of}
+use Rattle.ecma_lexer.specs.Session.{AtEnd, LexerState, Past, Session, has_ended, kept_back, kept_in, seen_of, state_of}
+use Rattle.ecma_lexer.specs.State.{previous, seen_behind}
 use Rattle.ecma_lexer.specs.Run.{act_on, acted_on, given_in, mode_of, reading_of, state_behind}
-use Rattle.ecma_lexer.specs.Ending.{ReadsOut, behind_reads, reads, enough, errors_of, tokens_of}
-use Rattle.ecma_lexer.proofs.EndLemmas.{reading-on, reading-end, reading-less}
+use Rattle.ecma_lexer.specs.Ending.{ReadsOut, TokensRunOut, behind_reads, comments_of, enough, errors_of, most_tokens, reads, tokens_of}
+use Rattle.ecma_lexer.proofs.EndLemmas.{reading-end, reading-less, reading-on, room-le}
 
 -- At the end
 
@@ -22,7 +28,9 @@ abbrev end_flag : Session → Bool
 end_flag s = has_line_break (gap_mode (mode_of (state_of s))) (rest s.input)
 
 act-end : (s : Session) → rest s.input ≡ [] → act_on s Read ≡ record s { past = AtEnd (end_flag s) ∷ s.past }
-act-end s e = ap (λ r. (acted_on s r).after) (reading-end (mode_of (state_of s)) s.input e)
+act-end s e =
+    ap (λ r. (acted_on s r).after) (reading-end (mode_of (state_of s)) s.input e)
+    ∙ ap (λ comments. record s { comments = comments; past = AtEnd (end_flag s) ∷ s.past }) (append-nil s.comments)
 
 -- nothing is kept of reads there, and the end is answered
 pub record Stays (s t : Session) : Type 0 where
@@ -30,12 +38,13 @@ pub record Stays (s t : Session) : Type 0 where
   pub kept : kept_back t.past ≡ kept_back s.past
   pub ended : has_ended s.past ≡ true → has_ended t.past ≡ true
   pub errors : t.errors ≡ s.errors
+  pub comments : t.comments ≡ s.comments
 
 stays-read : (s : Session) → rest s.input ≡ [] → Stays s (act_on s Read)
-stays-read s e = rw (act-end s e) record { input = refl; kept = refl; ended = λ _. refl; errors = refl }
+stays-read s e = rw (act-end s e) record { input = refl; kept = refl; ended = λ _. refl; errors = refl; comments = refl }
 
 pub stays : (n : ℕ) (s : Session) → rest s.input ≡ [] → Stays s (fold act_on s (reads n))
-stays zero s e = record { input = refl; kept = refl; ended = λ h. h; errors = refl }
+stays zero s e = record { input = refl; kept = refl; ended = λ h. h; errors = refl; comments = refl }
 stays (suc n) s e =
     let one = stays-read s e in
     let there : rest (act_on s Read).input ≡ [] = ap rest one.input ∙ e in
@@ -45,6 +54,7 @@ stays (suc n) s e =
       kept = more.kept ∙ one.kept;
       ended = λ h. more.ended (one.ended h);
       errors = more.errors ∙ one.errors;
+      comments = more.comments ∙ one.comments;
     }
 
 -- Before the end
@@ -58,17 +68,37 @@ ends-now n s none =
     let more = stays n (act_on s Read) there in
     (more.ended ended, ap rest more.input ∙ there)
 
-ends : (n : ℕ) (s : Session) → length (rest s.input) < n → (has_ended (fold act_on s (reads n)).past ≡ true) × (rest (fold act_on s (reads n)).input ≡ [])
-ends zero s h = absurd (omega arith)
+-- a token leaves fewer that may come
+
+pub tokens_run_out : TokensRunOut
+tokens_run_out l t found =
+    let kind : previous (state_behind l (reading_of l)).state.seen ≡ Some (kind_of t.token) = ap (λ o. previous (seen_behind l.state.seen (reading_of l).end_flag (kept_in o))) found in
+    rw kind (reading-less (mode_of l) l.input t found)
+
+-- a lexer that has come to a session, behind one more read
+
+seen-behind : (past : Past) (flag : Bool) (found : Option SpannedView) → seen_of (given_in flag found ∷ past) ≡ seen_behind (seen_of past) flag (kept_in found)
+seen-behind past flag None = refl
+seen-behind past flag (Some t) = refl
+
+state-behind : (s : Session) → state_of (act_on s Read) ≡ state_behind (state_of s) (reading_of (state_of s))
+state-behind s =
+    let now = state_of (act_on s Read) in
+    let r = reading_of (state_of s) in
+    ap (λ seen. record now { state = record now.state { seen = seen } }) (seen-behind s.past r.end_flag r.found)
+
+ends : (n : ℕ) (s : Session) → most_tokens (state_of s) < n → (has_ended (fold act_on s (reads n)).past ≡ true) × (rest (fold act_on s (reads n)).input ≡ [])
+ends zero s h = absurd (omega (arith, h))
 ends (suc n) s h = go (reading_of (state_of s)).found refl (ends n (act_on s Read))
   where
     go : (found : Option SpannedView) → (reading_of (state_of s)).found ≡ found
-        → (length (rest (act_on s Read).input) < n → (has_ended (fold act_on (act_on s Read) (reads n)).past ≡ true) × (rest (fold act_on (act_on s Read) (reads n)).input ≡ []))
+        → (most_tokens (state_of (act_on s Read)) < n → (has_ended (fold act_on (act_on s Read) (reads n)).past ≡ true) × (rest (fold act_on (act_on s Read) (reads n)).input ≡ []))
         → (has_ended (fold act_on (act_on s Read) (reads n)).past ≡ true) × (rest (fold act_on (act_on s Read) (reads n)).input ≡ [])
     go None e more = ends-now n s e
     go (Some t) e more =
-        let less : length (rest (act_on s Read).input) < length (rest s.input) = reading-less (mode_of (state_of s)) s.input t e in
-        more (omega (arith, less))
+        let less = tokens_run_out (state_of s) t e in
+        let same = ap most_tokens (state-behind s) in
+        more (omega (arith, h, less, same))
 
 -- Counting
 
@@ -83,12 +113,17 @@ fold-reads zero n s = ap (λ k. fold act_on s (reads k)) (let same : 0 + n ≡ n
 fold-reads (suc m) n s =
     ap (λ k. fold act_on s (reads k)) (let same : suc m + n ≡ suc (m + n) = omega arith in same) ∙ fold-reads m n (act_on s Read)
 
+-- enough reads are more than all tokens
+most-enough : (s : Session) → most_tokens (state_of s) < enough s.input
+most-enough s =
+    let bound = length-le-byte_len (rest s.input) in
+    omega (arith, bound, room-le (previous (seen_of s.past)))
+
 -- more reads than enough keep what enough keep
 pub reads_out : ReadsOut
 reads_out s n h =
     let k : ℕ = enough s.input in
-    let bound = length-le-byte_len (rest s.input) in
-    let first = ends k s (omega (arith, bound)) in
+    let first = ends k s (most-enough s) in
     let count : k + (n - k) ≡ n = omega arith in
     let split : behind_reads n s ≡ behind_reads (n - k) (behind_reads k s) = ap (λ m. behind_reads m s) (sym count) ∙ fold-reads k (n - k) s in
     let more = stays (n - k) (behind_reads k s) first.1 in
@@ -97,6 +132,7 @@ reads_out s n h =
       nothing_left = rw split (ap rest more.input ∙ first.1);
       same_tokens = rw split more.kept;
       same_errors = rw split more.errors;
+      same_comments = rw split more.comments;
     }
 
 -- For a loop that reads to the end
@@ -104,7 +140,7 @@ reads_out s n h =
 -- a lexer behind k reads from a session, which all gave a token
 pub record ReadSoFar (begin : Session) (k : ℕ) (l : LexerState) : Type 0 where
   pub state : l ≡ state_of (behind_reads k begin)
-  pub left : k + length (rest l.input) ≤ length (rest begin.input)
+  pub left : k + most_tokens l ≤ most_tokens (state_of begin)
 
 pub so_far-start : (begin : Session) → ReadSoFar begin 0 (state_of begin)
 so_far-start begin = record { state = refl; left = omega arith }
@@ -112,14 +148,6 @@ so_far-start begin = record { state = refl; left = omega arith }
 one_more : (k : ℕ) (s : Session) → fold act_on s (reads (suc k)) ≡ act_on (fold act_on s (reads k)) Read
 one_more zero s = refl
 one_more (suc k) s = one_more k (act_on s Read)
-
-state-behind : (s : Session) → state_of (act_on s Read) ≡ state_behind (state_of s) (reading_of (state_of s))
-state-behind s = go (reading_of (state_of s)).found
-  where
-    go : (found : Option SpannedView) → state_of (record (act_on s Read) { past = given_in (reading_of (state_of s)).end_flag found ∷ s.past })
-        ≡ record (state_of (act_on s Read)) { seen = seeing (seen_of s.past) (given_in (reading_of (state_of s)).end_flag found) }
-    go None = refl
-    go (Some t) = refl
 
 -- the tokens that were read so far, in order
 abbrev pub read_tokens : Session → ℕ → List SpannedView
@@ -132,23 +160,20 @@ so_far-token begin k l next t so found moved =
     let gives : (reading_of (state_of s)).found ≡ Some t = ap (λ x. (reading_of x).found) (sym so.state) ∙ found in
     let more = one_more k begin in
     let behind : next ≡ state_of (act_on s Read) = moved ∙ ap (λ x. state_behind x (reading_of x)) so.state ∙ sym (state-behind s) in
-    let less = reading-less (mode_of l) l.input t found in
-    let input_is : next.input ≡ (reading_of l).input = ap (λ x. x.input) moved in
-    let shorter : length (rest next.input) < length (rest l.input) = rw input_is less in
+    let less : most_tokens next < most_tokens l = rw moved (tokens_run_out l t found) in
     let kept : kept_back (act_on s Read).past ≡ t ∷ kept_back s.past = ap (λ o. kept_back (given_in (reading_of (state_of s)).end_flag o ∷ s.past)) gives in (
-      record { state = behind ∙ ap state_of (sym more); left = omega (arith, so.left, shorter) },
+      record { state = behind ∙ ap state_of (sym more); left = omega (arith, so.left, less) },
       ap (λ x. reverse (kept_back x.past)) more ∙ ap reverse kept ∙ reverse_onto (kept_back s.past) t [],
     )
 
--- the read that answers the end: the tokens are all that there are, and the errors too
+-- the read that answers the end: the tokens are all that there are, and the errors and comments too
 pub so_far-end : (begin : Session) (k : ℕ) (l next : LexerState) → ReadSoFar begin k l → (reading_of l).found ≡ None → next ≡ state_behind l (reading_of l)
-    → (read_tokens begin k ≡ tokens_of begin) × (next.errors ≡ errors_of begin)
-unfolding tokens_of errors_of
+    → (read_tokens begin k ≡ tokens_of begin) × (next.errors ≡ errors_of begin) × (next.comments ≡ comments_of begin)
+unfolding tokens_of errors_of comments_of
 so_far-end begin k l next so none moved =
     let s = behind_reads k begin in
-    let bound = length-le-byte_len (rest begin.input) in
     let n : ℕ = enough begin.input in
-    let room : k + 1 ≤ n = omega (arith, so.left, bound) in
+    let room : k + 1 ≤ n = omega (arith, so.left, most-enough begin) in
     let count : k + suc (n - (k + 1)) ≡ n = omega arith in
     let ends : (reading_of (state_of s)).found ≡ None = ap (λ x. (reading_of x).found) (sym so.state) ∙ none in
     let there : rest (act_on s Read).input ≡ [] = (reading-on (mode_of (state_of s)) s.input).ending ends in
@@ -159,7 +184,27 @@ so_far-end begin k l next so none moved =
     let behind : next ≡ state_of (act_on s Read) = moved ∙ ap (λ x. state_behind x (reading_of x)) so.state ∙ sym (state-behind s) in (
       sym (ap (λ x. reverse (kept_back x.past)) split ∙ ap reverse (more.kept ∙ kept)),
       ap (λ x. x.errors) behind ∙ sym (ap (λ x. x.errors) split ∙ more.errors),
+      ap (λ x. x.comments) behind ∙ sym (ap (λ x. x.comments) split ∙ more.comments),
     )
+
+-- a token that was found does not begin behind what was read
+pub opens-behind : (l : LexerState) (answer : Option Kept) (found : Option SpannedView) (input : Cursor) → answer ≡ kept_in found → found ≡ (reading_of l).found → input ≡ (reading_of l).input
+    → OpensBehind answer input
+opens-behind l answer found input kept finds moved = subst (λ a. OpensBehind a input) (sym kept) (go found finds)
+  where
+    go : (found : Option SpannedView) → found ≡ (reading_of l).found → OpensBehind (kept_in found) input
+    go None e = tt
+    go (Some t) e =
+        let at = (reading-on (mode_of l) l.input).token t (sym e) in
+        let stands : place input ≡ place (reading_of l).input = ap place moved in
+        let within = at.1 in let ends = at.2 in omega (arith, within, ends, stands)
+
+-- the cursor is not before the place where a template was opened
+pub opened-kept : (mode : Mode) (input now : Cursor) (opened : ℕ) → opened ≤ place input → now ≡ (reading mode input).input → opened ≤ place now
+opened-kept mode input now opened before moved =
+    let further = (reading-on mode input).further in
+    let stands : place now ≡ place (reading mode input).input = ap place moved in
+    omega (arith, before, further, stands)
 
 -- once the end was answered, it is answered again
 pub end_answered_again : (l next : LexerState) → (reading_of l).found ≡ None → next ≡ state_behind l (reading_of l) → (reading_of next).found ≡ None

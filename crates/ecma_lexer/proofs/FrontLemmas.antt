@@ -1,5 +1,5 @@
 -- A token is a front of the text that it is read from, and not empty.
-use Rattle.std.proofs.Common.{◌≡◌, ℕ, ◌<◌, Bool, true, false, cond, ◌||◌, ◌&&◌, ◌==◌, List, [], ◌∷◌, ◌++◌, drop, length, length-append, take, Option, Some, None, refl, sym, ap, ◌∙◌, arith}
+use Rattle.std.proofs.Common.{◌≡◌, ℕ, ◌<◌, Bool, true, false, cond, ◌||◌, ◌&&◌, ◌==◌, List, [], ◌∷◌, drop, length, length-append, take, Option, Some, None, refl, sym, ap, ◌∙◌, arith}
 use Rattle.std.proofs.Math.Seq.{take-append_seam}
 use Rattle.ecma_place.specs.Text.{Text}
 use Rattle.ecma_place.specs.Character.{is_ident_part, is_ident_start}
@@ -20,12 +20,13 @@ use Rattle.ecma_scan.proofs.NumberLocal.{number_some}
 use Rattle.ecma_scan.proofs.PieceLemmas.{pieces_more, pieces_none}
 use Rattle.ecma_scan.proofs.PunctuatorLemmas.{punctuator-front, punctuator-some}
 use Rattle.ecma_scan.proofs.StringLaws.{string_front}
+use Rattle.ecma_scan.proofs.TemplateLaws.{template_front}
 use Rattle.ecma_scan.proofs.WordLaws.{name_front, word_is_cutter}
 use Rattle.ecma_scan.specs.Found.{scanned}
 use Rattle.ecma_scan.specs.Fronts.{line}
 use Rattle.ecma_scan.specs.Shebangs.{found_shebang, opens_shebang, shebang}
 use Rattle.ecma_scan.proofs.ShebangLemmas as shebangs
-use Rattle.ecma_lexer.specs.Mode.{type_mode}
+use Rattle.ecma_lexer.specs.Mode.{is_template, is_tpl_element, type_mode}
 use Rattle.ecma_lexer.specs.Reading.{shebang_token}
 use Rattle.ecma_lexer.specs.TokenAt.{token_at, ts1085, opening_from, read_opened, punctuator_or_stray}
 use Rattle.ecma_lexer.specs.declared.mode.Mode.{Mode}
@@ -61,14 +62,16 @@ bars-stand false text h = cc
 
 -- a token is a front of the text
 pub token_at-front : (mode : Mode) (flag : Bool) (text : Text) → IsFront (token_at mode flag text).spelling text
-token_at-front mode flag text = go (opens_number text) (opens_string text) (opens_word text) (flag && opens_bars text) refl
+token_at-front mode flag text =
+    go (is_template mode.top) (opens_number text) (opens_string text) (opens_word text) (flag && opens_bars text) refl
   where
-    go : (number' string word bars : Bool) → (flag && opens_bars text) ≡ bars → IsFront (read_opened (opening_from number' string word bars) mode text).spelling text
-    go true string word bars e = number-front (ts1085 mode) text
-    go false true word bars e = front-of _ text (string_front text)
-    go false false true bars e = front-of _ text (name_front text)
-    go false false false true e = bars-front text (bars-stand flag text e)
-    go false false false false e = other-front (punctuator_in (type_mode mode) text) text (punctuator-front (type_mode mode) text)
+    go : (template number' string word bars : Bool) → (flag && opens_bars text) ≡ bars → IsFront (read_opened (opening_from template number' string word bars) mode text).spelling text
+    go true number' string word bars e = front-of _ text (template_front (is_tpl_element mode.previous) text)
+    go false true string word bars e = number-front (ts1085 mode) text
+    go false false true word bars e = front-of _ text (string_front text)
+    go false false false true bars e = front-of _ text (name_front text)
+    go false false false false true e = bars-front text (bars-stand flag text e)
+    go false false false false false e = other-front (punctuator_in (type_mode mode) text) text (punctuator-front (type_mode mode) text)
 
 -- a word is not empty: it has a piece, or a refused escape begins it
 
@@ -130,16 +133,19 @@ other-some : (found : Option Punctuator) (c : ℕ) (cs : Text) → ((p : Punctua
 other-some (Some p) c cs some = some p refl
 other-some None c cs some = omega arith
 
--- and not empty
-pub token_at-some : (mode : Mode) (flag : Bool) (c : ℕ) (cs : Text) → 0 < length (token_at mode flag (c ∷ cs)).spelling
-token_at-some mode flag c cs = go (opens_number (c ∷ cs)) (opens_string (c ∷ cs)) (opens_word (c ∷ cs)) (flag && opens_bars (c ∷ cs)) refl refl
+-- and, outside of templates, not empty
+pub token_at-some : (mode : Mode) (flag : Bool) (c : ℕ) (cs : Text) → is_template mode.top ≡ false → 0 < length (token_at mode flag (c ∷ cs)).spelling
+token_at-some mode flag c cs code =
+    go (is_template mode.top) (opens_number (c ∷ cs)) (opens_string (c ∷ cs)) (opens_word (c ∷ cs)) (flag && opens_bars (c ∷ cs)) code refl refl
   where
-    go : (number' string word bars : Bool) → opens_number (c ∷ cs) ≡ number' → opens_word (c ∷ cs) ≡ word → 0 < length (read_opened (opening_from number' string word bars) mode (c ∷ cs)).spelling
-    go true string word bars n w = number_some (ts1085 mode) (c ∷ cs) n
-    go false true word bars n w = string-some c cs
-    go false false true bars n w = word-some c cs w
-    go false false false true n w = omega arith
-    go false false false false n w = other-some (punctuator_in (type_mode mode) (c ∷ cs)) c cs (punctuator-some (type_mode mode) (c ∷ cs))
+    go : (template number' string word bars : Bool) → template ≡ false → opens_number (c ∷ cs) ≡ number' → opens_word (c ∷ cs) ≡ word
+        → 0 < length (read_opened (opening_from template number' string word bars) mode (c ∷ cs)).spelling
+    go true number' string word bars t n w = cc
+    go false true string word bars t n w = number_some (ts1085 mode) (c ∷ cs) n
+    go false false true word bars t n w = string-some c cs
+    go false false false true bars t n w = word-some c cs w
+    go false false false false true t n w = omega arith
+    go false false false false false t n w = other-some (punctuator_in (type_mode mode) (c ∷ cs)) c cs (punctuator-some (type_mode mode) (c ∷ cs))
 
 -- a shebang is a front of the text that it opens
 pub shebang-front : (text : Text) → opens_shebang text ≡ true → IsFront (shebang_token text).spelling text

@@ -1,10 +1,13 @@
 pub mod AttachmentRows
+pub mod CollectingLemmas
 pub mod DeterminedLemmas
+pub mod EmptyLemmas
 pub mod EndLemmas
 pub mod EndingLemmas
 pub mod ErrorLemmas
 pub mod FrontLemmas
 pub mod OpeningLemmas
+pub mod ProgressLemmas
 pub mod ReadingLemmas
 pub mod TilingLemmas
 pub mod TokenLemmas

@@ -1,18 +1,21 @@
 -- What a read finds, from what its readers found.
-use Rattle.std.proofs.Common.{◌≡◌, ℕ, ◌+◌, Bool, true, false, cond, List, [], ◌∷◌, ◌++◌, ◌||◌, ◌&&◌, Some, None, Result, Ok, Err, drop, map, slice_get, refl, sym, ap, ◌∙◌}
+use Rattle.std.proofs.Common.{◌≡◌, ℕ, ◌+◌, Bool, true, false, cond, List, [], ◌∷◌, ◌++◌, ◌||◌, ◌&&◌, Some, None, Ok, Err, drop, map, slice_get, refl, sym, ap, ◌∙◌}
 use Rattle.std.specs.Prelude.{option_map}
 use Rattle.ecma_place.specs.Text.{Text, byte_len}
 use Rattle.ecma_place.specs.declared.place.Span.{Span}
 use Rattle.ecma_place.specs.Cursor.{Cursor, rest, place}
 use Rattle.ecma_token.specs.View.{TokenView, ErrorView, SpannedView}
-use Rattle.ecma_scan.specs.Found.{Fault, Scanned, fault_behind, FoundView, found_at, scanned, span_of, token_behind, value_behind}
-use Rattle.ecma_lexer.specs.Reading.{GapView, reading, reading_behind, behind_gap, gap_in, reading_code, reading_if, reading_token, shebang_reading, shebang_token, spanned_at, stands_shebang, is_free, is_free_behind, is_free_code}
+use Rattle.ecma_scan.specs.Found.{Fault, Scanned, fault_behind, found_at, scanned, span_of, token_behind}
+use Rattle.ecma_scan.specs.Readings.{GapView}
+use Rattle.ecma_lexer.specs.Reading.{reading, reading_behind, behind_gap, gap_in, reading_code, reading_if, reading_token, shebang_reading, shebang_token, spanned, stands_shebang, is_free, is_free_behind, is_free_code}
 use Rattle.ecma_scan.specs.Gaps.{has_line_break}
 use Rattle.ecma_scan.specs.Fronts.{line}
 use Rattle.ecma_scan.specs.Shebangs.{found_shebang, opens_shebang, shebang}
 use Rattle.ecma_lexer.specs.Mode.{gap_mode}
-use Rattle.ecma_lexer.specs.TokenAt.{token_at, token_of, opening, is_empty, is_free_at}
+use Rattle.ecma_lexer.specs.TokenAt.{asks_for_none, comments_in, token_at, token_comments, token_found, token_of, opening, placed, is_empty, is_free_at}
 use Rattle.ecma_lexer.specs.declared.mode.Mode.{Mode}
+use Rattle.ecma_lexer.specs.declared.opening.Opening.{Opening}
+use Rattle.ecma_lexer.specs.declared.opening.Opening.TheVariants as opens
 use Rattle.ecma_lexer.proofs.TokenLemmas.{and-parts, empty-none, free-parts, view}
 
 reading_behind-some : (mode : Mode) (gap : GapView) (here : Cursor) (text : Text) (x : ℕ) → slice_get text 0 ≡ Some x
@@ -27,18 +30,6 @@ unfolding reading_code
 reading-some mode input here x gap e =
     ap (λ there. reading_behind mode (gap_in mode (place input) (rest input)) there (rest there)) (sym gap)
     ∙ reading_behind-some mode (gap_in mode (place input) (rest input)) here (rest here) x e
-
-token_of-behind : (n : ℕ) (value : Result TokenView ErrorView) → token_of (value_behind token_behind n value) ≡ token_behind n (token_of value)
-token_of-behind n (Ok token) = refl
-token_of-behind n (Err error) = refl
-
--- the token with its span, from what was found at its place
-pub spanned-found : (flag : Bool) (here : Cursor) (s : Scanned TokenView) (found : FoundView TokenView) → found ≡ found_at token_behind (place here) s
-    → let spanned : SpannedView = record { token = token_of found.value; had_line_break = flag || found.line_break; span = found.extent } in spanned ≡ spanned_at flag here s
-spanned-found flag here s found e =
-    let spanned : FoundView TokenView → SpannedView = λ f. record { token = token_of f.value; had_line_break = flag || f.line_break; span = f.extent } in
-    let with_token : TokenView → SpannedView = λ t. record (spanned_at flag here s) { token = t } in
-    ap spanned e ∙ ap with_token (token_of-behind (place here) s.value)
 
 -- a read that takes no memory has no faults before the token, collects no comment, and its token takes none
 pub record IsFree (mode : Mode) (input : Cursor) : Type 0 where
@@ -60,6 +51,14 @@ free-token mode flag (c ∷ cs) x e h = h
 
 -- such a read has no faults
 
+placed-faults : (opening : Opening) (mode : Mode) (n : ℕ) (s : Scanned TokenView) → (placed opening mode n s).faults ≡ map (fault_behind n) s.faults
+placed-faults opens.Template mode n s = refl
+placed-faults opens.Number mode n s = refl
+placed-faults opens.String mode n s = refl
+placed-faults opens.Word mode n s = refl
+placed-faults opens.Bars mode n s = refl
+placed-faults opens.Other mode n s = refl
+
 free-code : (mode : Mode) (input : Cursor) → is_free_code mode input ≡ true → (reading_code mode input).faults ≡ []
 unfolding reading_code
 free-code mode input h =
@@ -71,9 +70,11 @@ free-code mode input h =
     go [] none free = none
     go (c ∷ cs) none free =
         let flag = has_line_break (gap_mode mode) (rest input) in
+        let n = place (behind_gap mode input) in
         let s = token_at mode flag (c ∷ cs) in
-        ap (λ faults. faults ++ map (fault_behind (place (behind_gap mode input))) s.faults) none
-        ∙ ap (map (fault_behind (place (behind_gap mode input)))) (free-parts (opening flag (c ∷ cs)) (c ∷ cs) s free).faults
+        ap (λ faults. faults ++ (token_found mode flag n (c ∷ cs)).faults) none
+        ∙ placed-faults (opening mode flag (c ∷ cs)) mode n s
+        ∙ ap (map (fault_behind n)) (free-parts (opening mode flag (c ∷ cs)) (c ∷ cs) s free).faults
 
 pub free_faults : (mode : Mode) (input : Cursor) → is_free mode input ≡ true → (reading mode input).faults ≡ []
 free_faults mode input h = go (stands_shebang mode (rest input)) h
@@ -81,6 +82,43 @@ free_faults mode input h = go (stands_shebang mode (rest input)) h
     go : (b : Bool) → (b || is_free_code mode input) ≡ true → (reading_if b mode input).faults ≡ []
     go true h = refl
     go false h = free-code mode input h
+
+-- nor comments
+
+comments-none : (opening : Opening) (mode : Mode) (n : ℕ) (text : Text) (s : Scanned TokenView) → asks_for_none opening text s ≡ true → comments_in opening mode n text ≡ []
+comments-none opens.Template mode n text s h = refl
+comments-none opens.Number mode n text s h = refl
+comments-none opens.String mode n text s h = refl
+comments-none opens.Word mode n text s h = refl
+comments-none opens.Bars mode n text s h = cc
+comments-none opens.Other mode n text s h = refl
+
+pub token_comments-none : (mode : Mode) (flag : Bool) (n : ℕ) (text : Text) → is_free_at mode flag text ≡ true → token_comments mode flag n text ≡ []
+token_comments-none mode flag n text h =
+    let s = token_at mode flag text in
+    comments-none (opening mode flag text) mode n text s (free-parts (opening mode flag text) text s h).none
+
+uncommented : (mode : Mode) (input : Cursor) → is_free_code mode input ≡ true → (reading_code mode input).comments ≡ []
+unfolding reading_code
+uncommented mode input h =
+    let free = free-reading mode input h in
+    go (rest (behind_gap mode input)) free.comments free.token
+  where
+    go : (text : Text) → (gap_in mode (place input) (rest input)).comments ≡ [] → is_free_behind mode (has_line_break (gap_mode mode) (rest input)) text ≡ true
+        → (reading_behind mode (gap_in mode (place input) (rest input)) (behind_gap mode input) text).comments ≡ []
+    go [] none free = none
+    go (c ∷ cs) none free =
+        let flag = has_line_break (gap_mode mode) (rest input) in
+        let n = place (behind_gap mode input) in
+        ap (λ comments. comments ++ token_comments mode flag n (c ∷ cs)) none
+        ∙ token_comments-none mode flag n (c ∷ cs) free
+
+pub free_comments : (mode : Mode) (input : Cursor) → is_free mode input ≡ true → (reading mode input).comments ≡ []
+free_comments mode input h = go (stands_shebang mode (rest input)) h
+  where
+    go : (b : Bool) → (b || is_free_code mode input) ≡ true → (reading_if b mode input).comments ≡ []
+    go true h = refl
+    go false h = uncommented mode input h
 
 -- a shebang was found, or none
 
@@ -112,6 +150,16 @@ shebang-accepted n text error faults extent line_break h = go (opens_shebang tex
     go true h = let value : Err error ≡ Ok (Some (token_of (shebang_token text).value)) = ap (λ v. v.value) h in cc
     go false h = let value : Err error ≡ Ok None = ap (λ v. v.value) h in cc
 
+-- where a shebang was found, it is what a read finds
+pub shebang-stands : (mode : Mode) (input : Cursor) (t : SpannedView) → mode.none_given ≡ true → Some t ≡ cond (opens_shebang (rest input)) (shebang_reading input).found None
+    → reading mode input ≡ shebang_reading input
+shebang-stands mode input t none found = go mode.none_given (opens_shebang (rest input)) none found
+  where
+    go : (none_given opens : Bool) → none_given ≡ true → Some t ≡ cond opens (shebang_reading input).found None → reading_if (none_given && opens) mode input ≡ shebang_reading input
+    go false opens none found = cc
+    go true false none found = cc
+    go true true none found = refl
+
 -- where no shebang was found, none stands, the cursor stays, and what takes no memory still takes none
 
 none-stands : (b : Bool) (t : SpannedView) → None ≡ cond b (Some t) None → b ≡ false
@@ -121,7 +169,7 @@ none-stands false t h = refl
 pub free-kept : (mode : Mode) (old now : Cursor) → None ≡ cond (opens_shebang (rest old)) (shebang_reading old).found None
     → now ≡ cond (opens_shebang (rest old)) (shebang_reading old).input old → is_free mode old ≡ true → is_free_code mode now ≡ true
 free-kept mode old now none moved h =
-    let stands = none-stands (opens_shebang (rest old)) (spanned_at false old (shebang_token (rest old))) none in
+    let stands = none-stands (opens_shebang (rest old)) (spanned false (found_at token_behind (place old) (shebang_token (rest old)))) none in
     let same : now ≡ old = moved ∙ ap (λ b. cond b (shebang_reading old).input old) stands in
     let kept = go mode.none_given (ap (λ b. (mode.none_given && b) || is_free_code mode old) (sym stands) ∙ h) in
     ap (is_free_code mode) same ∙ kept

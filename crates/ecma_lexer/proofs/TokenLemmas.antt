@@ -18,8 +18,7 @@ use Rattle.ecma_scan.specs.Readings.{BarsView, bars_found_at}
 use Rattle.ecma_scan.specs.declared.gap.GapMode.{GapMode}
 use Rattle.ecma_scan.specs.Numbers.{is_separator}
 use Rattle.ecma_scan.specs.Words.{identifier_name}
-use Rattle.ecma_lexer.specs.TokenAt.{opening, read_opened, is_empty, is_free_at, is_borrowed, is_borrowed_name, is_free_token, asks_for_none, as_token, word_value, punctuator_or_stray, stray}
-use Rattle.ecma_lexer.specs.declared.mode.Mode.{Mode}
+use Rattle.ecma_lexer.specs.TokenAt.{is_empty, is_borrowed, is_borrowed_name, is_free_token, asks_for_none, as_token, word_value, punctuator_or_stray, stray}
 use Rattle.ecma_lexer.specs.declared.opening.Opening.{Opening}
 use Rattle.ecma_lexer.specs.declared.opening.Opening.TheVariants as opens
 
@@ -126,12 +125,6 @@ free-parts opened text s h =
     let one = and-parts (is_ok s.value) _ h in
     let two = and-parts (is_empty s.faults) _ one.1 in
     record { ok = one.0; faults = empty-none s.faults two.0; none = two.1 }
-
--- the token of a text that opens so takes no memory
-pub free-opened : (mode : Mode) (flag : Bool) (text : Text) (opened : Opening) → opened ≡ opening flag text → is_free_at mode flag text ≡ true → IsFreeToken opened text (read_opened opened mode text)
-free-opened mode flag text opened e h =
-    let free : is_free_token opened text (read_opened opened mode text) ≡ true = ap (λ o. is_free_token o text (read_opened o mode text)) e ∙ h in
-    free-parts opened text (read_opened opened mode text) free
 
 pub no-separator : (text : Text) (s : Scanned TokenView) → asks_for_none opens.Number text s ≡ true → list_any is_separator s.spelling ≡ false
 no-separator text s h = not-true (list_any is_separator s.spelling) h

@@ -1,9 +1,13 @@
 pub mod Attachment
+pub mod Besides
 pub mod Buffers
+pub mod Collecting
 pub mod Contexts
 pub mod Disposition
+pub mod EmptyTokens
 pub mod Ending
 pub mod Errors
+pub mod HandOver
 pub mod Mode
 pub mod Reading
 pub mod Run
@@ -21,8 +25,11 @@ pub use Rattle.ecma_scan.specs.Comments
 pub use Rattle.ecma_scan.specs.Found
 pub use Rattle.ecma_scan.specs.Gaps
 pub use Rattle.ecma_scan.specs.Numbers
+pub use Rattle.ecma_scan.specs.Pieces
 pub use Rattle.ecma_scan.specs.Punctuators
+pub use Rattle.ecma_scan.specs.Readings
 pub use Rattle.ecma_scan.specs.Shebangs
 pub use Rattle.ecma_scan.specs.Strings
+pub use Rattle.ecma_scan.specs.Templates
 pub use Rattle.ecma_scan.specs.Words
 pub use Rattle.ecma_token.specs.Kinds

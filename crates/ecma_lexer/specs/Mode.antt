@@ -4,6 +4,8 @@ use Rattle.ecma_syntax.specs.declared.settings.Syntax.{Syntax}
 use Rattle.ecma_syntax.specs.declared.settings.Syntax.TheVariants.{Es, Typescript}
 use Rattle.ecma_syntax.specs.declared.settings.EsVersion.{EsVersion}
 use Rattle.ecma_syntax.specs.declared.settings.EsVersion.TheVariants.{Es3}
+use Rattle.ecma_token.specs.declared.kind.TokenKind.{TokenKind}
+use Rattle.ecma_token.specs.declared.kind.TokenKind.TheVariants.{Template}
 use Rattle.ecma_scan.specs.declared.gap.GapMode.{GapMode}
 use Rattle.ecma_lexer.specs.declared.mode.Mode.{Mode}
 use Rattle.ecma_lexer.specs.declared.token_context.TokenContext.{TokenContext}
@@ -28,9 +30,14 @@ keeps_space (Some JSXExpr) = true
 keeps_space _ = false
 
 -- a template's text is read
-abbrev is_template : Option TokenContext → Bool
+abbrev pub is_template : Option TokenContext → Bool
 is_template (Some Tpl) = true
 is_template _ = false
+
+-- template text stands before
+abbrev pub is_tpl_element : Option TokenKind → Bool
+is_tpl_element (Some Template) = true
+is_tpl_element _ = false
 
 -- what the gap before the next token is read by
 abbrev pub gap_mode : Mode → GapMode

@@ -1,29 +1,23 @@
 -- One read: the gap, and then the end or the token at its place.
-use Rattle.std.specs.Prelude.{◌≡◌, ℕ, ◌+◌, Bool, true, false, ◌||◌, ◌&&◌, List, [], ◌∷◌, ◌++◌, Option, Some, None, codes, drop, encode_utf8_all, length, map}
-use Rattle.ecma_place.specs.Text.{Text, byte_len}
+use Rattle.std.specs.Prelude.{◌≡◌, ℕ, Bool, true, false, ◌||◌, ◌&&◌, List, [], ◌∷◌, ◌++◌, Option, Some, None, codes, drop, encode_utf8_all, length}
+use Rattle.ecma_place.specs.Text.{Text}
 use Rattle.ecma_place.specs.Cursor.{Cursor, rest, place, passed}
 use Rattle.ecma_place.specs.declared.comment.Comment.{Comment}
 use Rattle.ecma_place.specs.Atom.{borrowed_atom}
 use Rattle.ecma_token.specs.View.{TokenView, SpannedView, plain_token}
 use Rattle.ecma_token.specs.declared.token.Token.{Shebang}
-use Rattle.ecma_scan.specs.Found.{Fault, Scanned, fault_behind, scanned, token_behind, span_of}
+use Rattle.ecma_scan.specs.Found.{Fault, FoundView, Scanned, found_at, scanned, token_behind}
 use Rattle.ecma_scan.specs.Fronts.{line}
 use Rattle.ecma_scan.specs.Comments.{comments_at}
 use Rattle.ecma_scan.specs.Gaps.{gap_spelling, has_line_break, gap_faults_at}
+use Rattle.ecma_scan.specs.Readings.{GapView}
 use Rattle.ecma_scan.specs.Shebangs.{opens_shebang}
 use Rattle.ecma_lexer.specs.Mode.{gap_mode}
-use Rattle.ecma_lexer.specs.TokenAt.{token_at, token_comments, token_of, is_empty, is_free_at}
+use Rattle.ecma_lexer.specs.TokenAt.{token_at, token_comments, token_found, token_of, is_empty, is_free_at}
 use Rattle.ecma_lexer.specs.declared.mode.Mode.{Mode}
 
--- What the gap before a token tells: whether no token came before or a line terminator stands in it, what is wrong, in
--- order, and its comments, each with whether it is for the next token
-pub record GapView : Type 0 where
-  pub line_break : Bool
-  pub faults : List Fault
-  pub comments : List (Comment × Bool)
-
--- What a read finds: a token, or the end with the flag before it, what is wrong, in order, the comments of the gap, and
--- where it comes to
+-- What a read finds: a token, or the end with the flag before it, what is wrong, in order, the comments of the gap and of
+-- the token, each with whether it is for the next token, and where it comes to
 pub record Reading : Type 0 where
   pub found : Option SpannedView
   pub end_flag : Bool
@@ -31,29 +25,28 @@ pub record Reading : Type 0 where
   pub comments : List (Comment × Bool)
   pub input : Cursor
 
--- a token that is read at a cursor, with the flag of the gap before it
-abbrev pub spanned_at : Bool → Cursor → Scanned TokenView → SpannedView
-spanned_at flag here s =
-    record {
-      token = token_behind (place here) (token_of s.value);
-      had_line_break = flag || s.line_break;
-      span = span_of (place here) (place here + byte_len s.spelling);
-    }
+-- a token that was found, with the flag of the gap before it
+abbrev pub spanned : Bool → FoundView TokenView → SpannedView
+spanned flag f = record { token = token_of f.value; had_line_break = flag || f.line_break; span = f.extent }
 
 -- the faults and comments of the gap stand before those of the token
-abbrev pub token_reading : GapView → Cursor → Scanned TokenView → List (Comment × Bool) → Reading
-token_reading gap here s comments =
+abbrev pub token_reading : GapView → FoundView TokenView → List (Comment × Bool) → Cursor → Reading
+token_reading gap f comments behind =
     record {
-      found = Some (spanned_at gap.line_break here s);
+      found = Some (spanned gap.line_break f);
       end_flag = gap.line_break;
-      faults = gap.faults ++ map (fault_behind (place here)) s.faults;
+      faults = gap.faults ++ f.faults;
       comments = gap.comments ++ comments;
-      input = passed (length s.spelling) here;
+      input = behind;
     }
 
 abbrev pub reading_token : Mode → GapView → Cursor → Text → Reading
 reading_token mode gap here text =
-    token_reading gap here (token_at mode gap.line_break text) (token_comments mode gap.line_break (place here) text)
+    token_reading
+    gap
+    (token_found mode gap.line_break (place here) text)
+    (token_comments mode gap.line_break (place here) text)
+    (passed (length (token_at mode gap.line_break text).spelling) here)
 
 -- behind the gap, where this text is left
 abbrev pub reading_behind : Mode → GapView → Cursor → Text → Reading
@@ -87,7 +80,12 @@ shebang_token text =
     scanned (plain_token (Shebang (borrowed_atom (encode_utf8_all (line (drop 2 text)))))) (codes "#!" ++ line (drop 2 text))
 
 abbrev pub shebang_reading : Cursor → Reading
-shebang_reading here = token_reading no_gap here (shebang_token (rest here)) []
+shebang_reading here =
+    token_reading
+    no_gap
+    (found_at token_behind (place here) (shebang_token (rest here)))
+    []
+    (passed (length (shebang_token (rest here)).spelling) here)
 
 -- what a read finds where no shebang stands
 unfoldable pub reading_code : Mode → Cursor → Reading

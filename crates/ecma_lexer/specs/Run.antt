@@ -1,21 +1,22 @@
 -- What a list of steps answers, and where it comes to.
-use Rattle.std.specs.Prelude.{Bool, false, List, [], ◌∷◌, Option, Some, None, fold, is_none, option_map}
+use Rattle.std.specs.Prelude.{Bool, true, false, List, [], ◌∷◌, ◌++◌, Option, Some, None, fold, is_none}
 use Rattle.ecma_place.specs.Cursor.{Cursor, place}
+use Rattle.ecma_place.specs.declared.comment.Comment.{Comment}
 use Rattle.ecma_token.specs.View.{SpannedView, ErrorView}
 use Rattle.ecma_syntax.specs.declared.context.Context.{Context}
+use Rattle.ecma_lexer.specs.Attachment.{attachment}
+use Rattle.ecma_lexer.specs.Contexts.{Contexts, innermost}
 use Rattle.ecma_lexer.specs.Disposition.{Recorded, disposed, of_module_mode, no_errors, none_recorded, with_faults, with_context}
+use Rattle.ecma_lexer.specs.declared.comments_buffer.BufferedComment.{BufferedComment}
+use Rattle.ecma_lexer.specs.declared.kept.Kept.{Kept}
 use Rattle.ecma_lexer.specs.declared.mode.Mode.{Mode}
 use Rattle.ecma_lexer.specs.declared.settings.Settings.{Settings}
 use Rattle.ecma_lexer.specs.declared.step.Step.{Step}
 use Rattle.ecma_lexer.specs.declared.step.Step.TheVariants.{Read, SetCtx, TakeErrors}
-use Rattle.ecma_lexer.specs.declared.token_context.TokenContext.{TokenContext}
 use Rattle.ecma_lexer.specs.declared.token_context.TokenContext.TheVariants.{BraceStmt}
 use Rattle.ecma_lexer.specs.Reading.{Reading, reading}
-use Rattle.ecma_lexer.specs.Session.{Given, Plain, AtEnd, LexerState, Session, seeing, state_of}
-
-abbrev top_of : List TokenContext → Option TokenContext
-top_of [] = None
-top_of (top ∷ below) = Some top
+use Rattle.ecma_lexer.specs.Session.{Given, Plain, AtEnd, LexerState, Session, kept_in, kept_state, state_of}
+use Rattle.ecma_lexer.specs.State.{StateKept, around_of, behind_answer, opened_by, previous, turned_by}
 
 -- what the next read goes by besides the text
 abbrev pub mode_of : LexerState → Mode
@@ -23,11 +24,11 @@ mode_of l =
     record {
       settings = l.settings;
       context = l.context;
-      top = top_of l.contexts;
-      first = l.seen.first;
-      none_given = is_none l.seen.last;
-      previous = option_map (λ kept. kept.kind) l.seen.last;
-      opened = record { 0 = l.opened };
+      top = innermost l.state.contexts;
+      first = l.state.seen.first;
+      none_given = is_none l.state.seen.last;
+      previous = previous l.state.seen;
+      opened = l.state.opened;
     }
 
 -- what the next read finds
@@ -41,10 +42,19 @@ given_in flag (Some t) = Plain t
 abbrev pub given_of : Reading → Given
 given_of r = given_in r.end_flag r.found
 
+-- the comments behind a read that answers this: those that it found are attached
+abbrev pub comments_behind : List BufferedComment → StateKept → Option Kept → List (Comment × Bool) → List BufferedComment
+comments_behind comments state answer found = comments ++ attachment (around_of state answer) found
+
 -- the lexer behind a read
 abbrev pub state_behind : LexerState → Reading → LexerState
 state_behind l r =
-    record l { input = r.input; errors = with_faults l.context l.errors r.faults; seen = seeing l.seen (given_of r) }
+    record l {
+      input = r.input;
+      state = behind_answer l.state r.end_flag (kept_in r.found);
+      errors = with_faults l.context l.errors r.faults;
+      comments = comments_behind l.comments l.state (kept_in r.found) r.comments;
+    }
 
 -- the lexer in a context, and with the recorded errors taken
 abbrev pub state_in : Context → LexerState → LexerState
@@ -59,6 +69,17 @@ state_with_module_mode_error e l = record l { errors = disposed l.errors e (of_m
 
 abbrev pub state_without_errors : LexerState → LexerState
 state_without_errors l = record l { errors = none_recorded l.errors }
+
+-- the lexer where an expression may begin or not, and with other contexts
+abbrev pub state_allowing : Bool → LexerState → LexerState
+state_allowing expr_allowed l = record l { state = record l.state { expr_allowed = expr_allowed } }
+
+abbrev pub state_with_contexts : Contexts → LexerState → LexerState
+state_with_contexts contexts l = record l { state = record l.state { contexts = contexts } }
+
+-- the lexer with other comments
+abbrev pub state_with_comments : List BufferedComment → LexerState → LexerState
+state_with_comments comments l = record l { comments = comments }
 
 -- what a step answers
 pub data Answer : Type 0 where
@@ -80,7 +101,16 @@ pub record Acted : Type 0 where
 abbrev pub acted_on : Session → Reading → Acted
 acted_on s r =
     record {
-      after = record s { input = r.input; errors = with_faults s.context s.errors r.faults; past = given_of r ∷ s.past };
+      after =
+          record s {
+            input = r.input;
+            contexts = (turned_by (kept_state s) (kept_in r.found)).contexts;
+            expr_allowed = (turned_by (kept_state s) (kept_in r.found)).expr_allowed;
+            opened = opened_by (kept_state s) (kept_in r.found);
+            errors = with_faults s.context s.errors r.faults;
+            comments = comments_behind s.comments (kept_state s) (kept_in r.found) r.comments;
+            past = given_of r ∷ s.past;
+          };
       answer = answer_in r.found;
     }
 
@@ -134,8 +164,10 @@ start_of settings input =
       input = input;
       context = no_context;
       contexts = BraceStmt ∷ [];
-      opened = place input;
+      expr_allowed = true;
+      opened = record { 0 = place input };
       errors = no_errors;
+      comments = [];
       past = [];
     }
 

@@ -1,18 +1,18 @@
 -- What steps have come to, and what is read off the answers that were given.
-use Rattle.std.specs.Prelude.{ℕ, Bool, true, false, ◌&&◌, List, [], ◌∷◌, Option, Some, None}
+use Rattle.std.specs.Prelude.{Bool, true, false, ◌&&◌, List, [], ◌∷◌, Option, Some, None, option_map}
 use Rattle.ecma_place.specs.Cursor.{Cursor}
-use Rattle.ecma_token.specs.declared.kind.TokenKind.{TokenKind}
-use Rattle.ecma_token.specs.declared.kind.TokenKind.TheVariants.{Shebang}
 use Rattle.ecma_token.specs.Kinds.{kind_of}
 use Rattle.ecma_token.specs.View.{SpannedView}
 use Rattle.ecma_place.specs.declared.place.BytePos.{BytePos}
 use Rattle.ecma_syntax.specs.declared.context.Context.{Context}
 use Rattle.ecma_lexer.specs.Disposition.{Errors}
+use Rattle.ecma_lexer.specs.Contexts.{Contexts}
 use Rattle.ecma_lexer.specs.Errors.{ErrorsKept, errors_view}
+use Rattle.ecma_lexer.specs.State.{StateKept, is_shebang}
+use Rattle.ecma_lexer.specs.declared.comments_buffer.BufferedComment.{BufferedComment}
 use Rattle.ecma_lexer.specs.declared.kept.Kept.{Kept}
 use Rattle.ecma_lexer.specs.declared.kept.Seen.{Seen}
 use Rattle.ecma_lexer.specs.declared.settings.Settings.{Settings}
-use Rattle.ecma_lexer.specs.declared.token_context.TokenContext.{TokenContext}
 
 -- what a read answered: a token, or the end with the flag before it
 pub data Given : Type 0 where
@@ -26,11 +26,10 @@ Past = List Given
 abbrev pub kept_of : SpannedView → Kept
 kept_of t = record { kind = kind_of t.token; span = t.span; flag = t.had_line_break }
 
--- What is read off the past
+abbrev pub kept_in : Option SpannedView → Option Kept
+kept_in found = option_map kept_of found
 
-abbrev pub is_shebang : TokenKind → Bool
-is_shebang Shebang = true
-is_shebang _ = false
+-- What is read off the past
 
 -- no token but a shebang was given
 abbrev pub is_first : Past → Bool
@@ -68,10 +67,14 @@ pub record Session : Type 0 where
   pub input : Cursor
   pub context : Context
   -- the innermost first
-  pub contexts : List TokenContext
-  -- where the back quote stands that opened a template last
-  pub opened : ℕ
+  pub contexts : Contexts
+  -- whether an expression may begin
+  pub expr_allowed : Bool
+  -- where the back quote stands that opened a template last; the start place where none did
+  pub opened : BytePos
   pub errors : Errors
+  -- those that have their token, in order
+  pub comments : List BufferedComment
   pub past : Past
 
 -- What a lexer keeps of its answers
@@ -79,49 +82,43 @@ pub record Session : Type 0 where
 abbrev pub seen_of : Past → Seen
 seen_of past = record { first = is_first past; last = last_kept past; flag = last_flag past; ended = has_ended past }
 
--- the same behind one more answer
-abbrev pub seeing : Seen → Given → Seen
-seeing seen (Plain t) = record { first = is_shebang (kind_of t.token) && seen.first; last = Some (kept_of t); flag = t.had_line_break; ended = false }
-seeing seen (AtEnd flag) = record { first = seen.first; last = seen.last; flag = flag; ended = true }
-
 -- What a lexer is to its callers
 pub record LexerState : Type 0 where
   pub settings : Settings
-  pub start : BytePos
   pub input : Cursor
   pub context : Context
-  pub contexts : List TokenContext
-  pub opened : ℕ
+  pub state : StateKept
   pub errors : Errors
-  pub seen : Seen
+  pub comments : List BufferedComment
   -- whether memory was refused
   pub refused : Bool
+
+-- what the next read of a session goes by
+abbrev pub kept_state : Session → StateKept
+kept_state s =
+    record { contexts = s.contexts; expr_allowed = s.expr_allowed; start = s.start; opened = s.opened; seen = seen_of s.past }
 
 -- a lexer that has come to a session
 abbrev pub state_of : Session → LexerState
 state_of s =
     record {
       settings = s.settings;
-      start = s.start;
       input = s.input;
       context = s.context;
-      contexts = s.contexts;
-      opened = s.opened;
+      state = kept_state s;
       errors = s.errors;
-      seen = seen_of s.past;
+      comments = s.comments;
       refused = false;
     }
 
 -- the same with the errors as they are kept
 pub record LexerKept : Type 0 where
   pub settings : Settings
-  pub start : BytePos
   pub input : Cursor
   pub context : Context
-  pub contexts : List TokenContext
-  pub opened : ℕ
+  pub state : StateKept
   pub errors : ErrorsKept
-  pub seen : Seen
+  pub comments : List BufferedComment
   pub refused : Bool
 
 -- how a lexer is seen
@@ -129,12 +126,14 @@ abbrev pub lexer_state : LexerKept → LexerState
 lexer_state l =
     record {
       settings = l.settings;
-      start = l.start;
       input = l.input;
       context = l.context;
-      contexts = l.contexts;
-      opened = l.opened;
+      state = l.state;
       errors = errors_view l.errors;
-      seen = l.seen;
+      comments = l.comments;
       refused = l.refused;
     }
+
+-- the same with other contexts
+abbrev pub kept_with_contexts : LexerKept → Contexts → LexerKept
+kept_with_contexts l contexts = record l { state = record l.state { contexts = contexts } }

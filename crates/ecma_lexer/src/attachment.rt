@@ -79,7 +79,23 @@ impl<'a> CommentsBuffer<'a> {
         Ok(())
     }
 
-    /// Takes in the comments of a read, each with whether it is for the next token: those that aren't come first.
+    /// Adds the comments of a gap, and then those in the token behind it.
+    fn attach_both(
+        &mut self,
+        around: Around,
+        of_gap: Vec<(Comment<'a>, bool)>,
+        of_token: Vec<(Comment<'a>, bool)>,
+    ) -> Result<(), AllocError>
+        ensures comments { OnOk result (self.new.comments ≡ self.old.comments ++ of_previous around (of_gap.entry.items ++ of_token.entry.items)) }
+        ensures waiting { OnOk result (self.new.pending_leading ≡ self.old.pending_leading ++ of_next around (of_gap.entry.items ++ of_token.entry.items)) }
+        ensures free { of_gap.entry.items ++ of_token.entry.items ≡ [] → IsOk result }
+    {
+        self.attach_each(around, of_gap)?;
+        self.attach_each(around, of_token)
+    }
+
+    /// Takes in the comments of a read, those of the gap and those in the token, each with whether it is for the next token:
+    /// those that aren't come first.
     ///
     /// No comments take no memory.
     ///
@@ -89,14 +105,15 @@ impl<'a> CommentsBuffer<'a> {
     pub fn attach(
         &mut self,
         around: Around,
-        found: Vec<(Comment<'a>, bool)>,
+        of_gap: Vec<(Comment<'a>, bool)>,
+        of_token: Vec<(Comment<'a>, bool)>,
     ) -> Result<(), AllocError>
         requires { self.old.pending_leading ≡ [] }
-        ensures ok { OnOk result (self.new.comments ≡ self.old.comments ++ attachment around found.entry.items) }
+        ensures ok { OnOk result (self.new.comments ≡ self.old.comments ++ attachment around (of_gap.entry.items ++ of_token.entry.items)) }
         ensures none { self.new.pending_leading ≡ [] }
-        ensures free { found.entry.items ≡ [] → IsOk result }
+        ensures free { of_gap.entry.items ++ of_token.entry.items ≡ [] → IsOk result }
     {
-        let attached = self.attach_each(around, found);
+        let attached = self.attach_both(around, of_gap, of_token);
         if attached.is_err() {
             let _ = self.take_pending_leading();
             return attached;

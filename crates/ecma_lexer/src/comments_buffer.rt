@@ -1,7 +1,8 @@
 //! Comments that a lexer gathers, each with the place that it belongs to.
-ghost use Rattle.std.specs.Prelude.{◌≡◌, ◌++◌, ◌∷◌, [], IsTrue, IsOk, IfOk, OnOk, OnErr};
+ghost use Rattle.std.specs.Prelude.{◌≡◌, ◌++◌, ◌∷◌, [], map, IsTrue, IsOk, IfOk, OnOk, OnErr};
 
-use ecma_place::{BytePos, Comment};
+use crate::hand_over::give_from_last;
+use ecma_place::{BytePos, Comment, Comments};
 use std::alloc::{AllocError, Global};
 use std::marker::Model;
 use std::mem;
@@ -156,5 +157,27 @@ impl<'a> CommentsBuffer<'a> {
             return Ok(());
         }
         self.comments.append(&mut waiting)
+    }
+}
+
+impl<'a> CommentsBuffer<'a> {
+    ghost use Rattle.ecma_lexer.specs.HandOver.{added_of, StopsEarly};
+
+    /// Hands the comments that have their token over to a store, in order. None of them is kept then.
+    ///
+    /// # Errors
+    ///
+    /// `AllocError` where the store has no memory for one. Those before it were handed over,
+    /// and it and those behind it are kept, in order.
+    pub(crate) fn hand_over<C: Comments<'a>>(&mut self, to: &mut C) -> Result<(), AllocError>
+        ensures ok { OnOk result (C.added to.new ≡ C.added to.old ++ map added_of self.old.comments) }
+        ensures none { OnOk result (self.new ≡ record self.old { comments = [] }) }
+        ensures err { OnErr result (StopsEarly (C.added to.old) (C.added to.new) self.old self.new) }
+    {
+        // A list gives up its last element with no other moved, so it stands turned meanwhile.
+        self.comments.reverse();
+        let given = give_from_last(&mut self.comments, to);
+        self.comments.reverse();
+        given
     }
 }

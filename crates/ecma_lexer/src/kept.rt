@@ -1,8 +1,9 @@
 //! What is kept of the answers.
 ghost use Rattle.std.specs.Prelude.{◌≡◌, option_map};
 ghost use Rattle.ecma_token.specs.View.{spanned_view};
-ghost use Rattle.ecma_lexer.specs.Session as grammar;
-ghost use Rattle.ecma_lexer.specs.Run.{given_in};
+ghost use Rattle.ecma_lexer.specs.Session.{kept_of, kept_in};
+ghost use Rattle.ecma_lexer.specs.State as grammar;
+ghost use Rattle.ecma_lexer.specs.State.{none_seen, seen_behind, previous, flag_of};
 
 use ecma_place::Span;
 use ecma_token::{TokenAndSpan, TokenKind};
@@ -16,19 +17,38 @@ pub struct Kept {
     pub flag: bool,
 }
 
+impl Kept {
+    /// What is kept of a token.
+    #[tactic(auto, using(ecma_token::proofs::KindLemmas::kind_of_token_view))]
+    pub(crate) fn of(token: &TokenAndSpan) -> Kept
+        ensures { result ≡ kept_of (spanned_view token.now) }
+    {
+        Kept {
+            kind: token.token.kind(),
+            span: token.span,
+            flag: token.had_line_break,
+        }
+    }
+
+    /// What is kept of an answer.
+    pub(crate) fn of_answer(answer: &Option<TokenAndSpan>) -> Option<Kept>
+        ensures { result ≡ kept_in (option_map spanned_view answer.now) }
+    {
+        match answer {
+            Some(token) => Some(Kept::of(token)),
+            None => None,
+        }
+    }
+}
+
 impl<'a> From<TokenAndSpan<'a>> for Kept {
     ghost use Rattle.ecma_token.specs.View.{spanned_view};
     ghost use Rattle.ecma_lexer.specs.Session.{kept_of};
 
     ghost from_gives = { λ token kept. kept ≡ kept_of (spanned_view token) };
 
-    #[tactic(auto, using(ecma_token::proofs::KindLemmas::kind_of_token_view))]
     fn from(token: TokenAndSpan<'a>) -> Kept {
-        Kept {
-            kind: token.token.kind(),
-            span: token.span,
-            flag: token.had_line_break,
-        }
+        Kept::of(&token)
     }
 }
 
@@ -52,32 +72,52 @@ fn is_shebang(kind: TokenKind) -> bool
 }
 
 impl Seen {
-    ghost use Rattle.ecma_lexer.specs.Session.{seeing};
+    /// Before any answer.
+    pub(crate) fn none() -> Seen
+        ensures { result ≡ none_seen }
+    {
+        Seen {
+            first: true,
+            last: None,
+            flag: false,
+            ended: false,
+        }
+    }
 
     /// What is kept behind one more answer: a token, or the end with the flag before it.
-    pub fn behind(self, answer: &Option<TokenAndSpan>, end_flag: bool) -> Seen
-        ensures { result ≡ seeing self (given_in end_flag (option_map spanned_view answer.now)) }
+    pub(crate) fn behind(self, answer: Option<Kept>, end_flag: bool) -> Seen
+        ensures { result ≡ seen_behind self end_flag answer }
     {
         match answer {
-            Some(token) => {
-                let kind = token.token.kind();
-                Seen {
-                    first: is_shebang(kind) && self.first,
-                    last: Some(Kept {
-                        kind,
-                        span: token.span,
-                        flag: token.had_line_break,
-                    }),
-                    flag: token.had_line_break,
-                    ended: false,
-                }
-            }
+            Some(token) => Seen {
+                first: is_shebang(token.kind) && self.first,
+                last: Some(token),
+                flag: token.flag,
+                ended: false,
+            },
             None => Seen {
                 first: self.first,
                 last: self.last,
                 flag: end_flag,
                 ended: true,
             },
+        }
+    }
+
+    /// The kind of the token that was given last.
+    pub(crate) fn previous(self) -> Option<TokenKind>
+        ensures { result ≡ previous self }
+    {
+        self.last.map(|token| token.kind)
+    }
+
+    /// The flag of the token that was given last; false where there is none.
+    pub(crate) fn previous_flag(self) -> bool
+        ensures { result ≡ flag_of self.last }
+    {
+        match self.last {
+            Some(token) => token.flag,
+            None => false,
         }
     }
 }

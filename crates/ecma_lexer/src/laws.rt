@@ -1,5 +1,7 @@
 //! Laws over the definitions alone.
-ghost use Rattle.ecma_lexer.specs.Ending.{ReadsOut};
+ghost use Rattle.ecma_lexer.specs.Collecting.{CollectingChangesNothing, CommentsAreKept};
+ghost use Rattle.ecma_lexer.specs.EmptyTokens.{EmptyTokensStandAlone};
+ghost use Rattle.ecma_lexer.specs.Ending.{ReadsOut, TokensRunOut};
 ghost use Rattle.ecma_lexer.specs.Reading.{ReadingIsDetermined};
 ghost use Rattle.ecma_lexer.specs.Tiling.{Tiles};
 
@@ -25,4 +27,24 @@ pub fn reads_end()
 /// What a read finds depends on the mode, on what is left, and on the place of that alone.
 pub fn reading_is_determined()
     ensures { ReadingIsDetermined }
+{}
+
+/// Each token that is read leaves fewer that may come: at most two for a character, and one.
+pub fn tokens_run_out()
+    ensures { TokensRunOut }
+{}
+
+/// No two tokens without characters stand one after the other.
+pub fn empty_tokens_stand_alone()
+    ensures { EmptyTokensStandAlone }
+{}
+
+/// Collecting comments changes no token, flag or error, nor anything else but the comments.
+pub fn collecting_changes_nothing()
+    ensures { CollectingChangesNothing }
+{}
+
+/// Each comment that the reads of a run find is kept once, with its kind, span and text.
+pub fn comments_are_kept()
+    ensures { CommentsAreKept }
 {}

@@ -1,36 +1,40 @@
 //! The lexer.
-ghost use Rattle.std.specs.Prelude.{◌≡◌, true, false, None, Err, alloc_error, map, option_map, IfOk, IsOk, OnOk, OnErr};
+ghost use Rattle.std.specs.Prelude.{◌≡◌, ◌<◌, true, false, None, Err, alloc_error, length, map, option_map, IfOk, IsOk, OnOk, OnErr};
 ghost use Rattle.ecma_token.specs.View.{error_view, spanned_view};
+ghost use Rattle.ecma_lexer.specs.Besides.{IsBeside, OpensBehind, TakesNone, seen_beside, state_taking};
 ghost use Rattle.ecma_lexer.specs.Reading.{is_free};
 ghost use Rattle.ecma_lexer.specs.Session.{Session, lexer_state, state_of};
 ghost use Rattle.ecma_lexer.specs.declared.step.Step.{Step};
 ghost use Rattle.ecma_lexer.specs.Run.{act, answer_in, mode_of, reading_of, start_of, state_behind};
 
+use crate::commented::Commented;
+use crate::comments_buffer::CommentsBuffer;
 use crate::error_list::ErrorList;
 use crate::errors::ErrorLists;
-use crate::kept::Seen;
+use crate::kept::Kept;
 use crate::mode::Mode;
-use crate::read::{Reading, read_from};
+use crate::read::{Besides, Reading, read_from};
 use crate::settings::Settings;
-use crate::token_context::TokenContext;
+use crate::state::State;
+use crate::token_contexts::TokenContexts;
 use crate::tokens::Tokens;
 use ecma_place::{BytePos, StringInput};
 use ecma_syntax::{Context, EsVersion, Syntax};
 use ecma_token::{Error, TokenAndSpan};
 use std::alloc::{AllocError, Global};
 use std::marker::Model;
+use std::mem;
 
 /// Reads tokens from a text, one after another.
 #[derive(Drop)]
 pub struct Lexer<'a> {
     alloc: Global,
     settings: Settings,
-    start: BytePos,
     input: StringInput<'a>,
     context: Context,
-    opened: BytePos,
+    state: State,
     errors: ErrorLists<'a>,
-    seen: Seen,
+    comments: CommentsBuffer<'a>,
     refused: bool,
 }
 
@@ -44,15 +48,17 @@ impl<'a> Model for Lexer<'a> {
 
     ghost coded = { Prim.hlevel (codes, (e.the_row static_lft).coded) };
 
-    ghost use Rattle.ecma_lexer.specs.View.{lexer_view};
+    ghost use Rattle.ecma_lexer.specs.View.{IsLexer, lexer_view};
 
     ghost view = { lexer_view };
+
+    ghost invariant = { IsLexer };
 }
 
 impl<'a> Lexer<'a> {
     /// A lexer of the rest of `input`, which takes no memory.
     ///
-    /// The place of `input` is the lexer's start place.
+    /// The place of `input` is the lexer's start place. `comments` says whether comments are collected.
     pub fn new(
         alloc: Global,
         syntax: Syntax,
@@ -70,17 +76,11 @@ impl<'a> Lexer<'a> {
                 target,
                 comments,
             },
-            start,
             input,
             context: Context::default(),
-            opened: start,
+            state: State::new(alloc, syntax, start),
             errors: ErrorLists::new(alloc),
-            seen: Seen {
-                first: true,
-                last: None,
-                flag: false,
-                ended: false,
-            },
+            comments: CommentsBuffer::new(alloc),
             refused: false,
         }
     }
@@ -89,9 +89,9 @@ impl<'a> Lexer<'a> {
     ///
     /// Before any answer there is none.
     pub fn had_line_break_before_last(&self) -> bool
-        ensures { result ≡ self.now.seen.flag }
+        ensures { result ≡ self.now.state.seen.flag }
     {
-        self.seen.flag
+        self.state.seen.flag
     }
 
     /// The errors that wait until the code is known to be a module, in order.
@@ -108,41 +108,71 @@ impl<'a> Lexer<'a> {
         Mode {
             settings: self.settings,
             context: self.context,
-            top: Some(TokenContext::BraceStmt),
-            first: self.seen.first,
-            none_given: self.seen.last.is_none(),
-            previous: self.seen.last.map(|kept| kept.kind),
-            opened: self.opened,
+            top: self.state.contexts.current(),
+            first: self.state.seen.first,
+            none_given: self.state.seen.last.is_none(),
+            previous: self.state.seen.previous(),
+            opened: self.state.opened,
         }
     }
 }
 
 impl<'a> Lexer<'a> {
+    /// What the next read finds, behind which the cursor then stands. Nothing is changed where memory is refused.
+    fn find(&mut self) -> Result<Reading<'a>, AllocError>
+        ensures found { IfOk result (λ r. option_map spanned_view r.found ≡ (reading_of (lexer_state self.old)).found) }
+        ensures besides { IfOk result (λ r. IsBeside r.besides (reading_of (lexer_state self.old))) }
+        ensures moved { OnOk result (self.new ≡ record self.old { input = (reading_of (lexer_state self.old)).input }) }
+        ensures same { OnErr result (self.new ≡ self.old) }
+        ensures free { is_free (mode_of (lexer_state self.old)) self.old.input ≡ true → IsOk result }
+    {
+        let mode = self.mode();
+        let mut input = self.input.clone()?;
+        let reading = read_from(self.alloc, &mut input, &mode)?;
+        self.input = input;
+        Ok(reading)
+    }
+
+    /// Takes in what was found: the comments are attached, the contexts change, and the errors are recorded, wait or are
+    /// dropped. The errors are as before where memory is refused.
+    fn take_in(&mut self, answer: Option<Kept>, besides: Besides<'a>) -> Result<(), AllocError>
+        requires { OpensBehind answer self.old.input }
+        ensures after { OnOk result (lexer_state self.new ≡ state_taking (lexer_state self.old) answer (seen_beside besides.entry)) }
+        ensures kept { OnErr result (self.new.errors ≡ self.old.errors) }
+        ensures free { length self.old.state.contexts < 128 → TakesNone besides.entry → IsOk result }
+    {
+        let Besides {
+            end_flag,
+            gap_faults,
+            token_faults,
+            gap_comments,
+            token_comments,
+        } = besides;
+        let around = self.state.around(answer);
+        self.comments.attach(around, gap_comments, token_comments)?;
+        self.state.take(answer, end_flag)?;
+        self.errors
+            .take_read(&self.context, gap_faults, token_faults)
+    }
+
     /// Reads without asking whether memory was refused before.
-    #[tactic(auto, using(crate::proofs::ReadingLemmas::free_faults))]
+    #[tactic(auto, using(crate::proofs::ReadingLemmas::free_faults, crate::proofs::ReadingLemmas::free_comments))]
     fn next_answer(&mut self) -> Result<Option<TokenAndSpan<'a>>, AllocError>
         ensures answer { IfOk result (λ answer. option_map spanned_view answer ≡ (reading_of (lexer_state self.old)).found) }
         ensures after { OnOk result (lexer_state self.new ≡ state_behind (lexer_state self.old) (reading_of (lexer_state self.old))) }
         ensures kept { OnErr result (self.new.errors ≡ self.old.errors) }
-        ensures free { is_free (mode_of (lexer_state self.old)) self.old.input ≡ true → IsOk result }
+        ensures free { length self.old.state.contexts < 128 → is_free (mode_of (lexer_state self.old)) self.old.input ≡ true → IsOk result }
     {
-        let mode = self.mode();
-        let Reading {
-            found,
-            end_flag,
-            gap_faults,
-            token_faults,
-        } = read_from(self.alloc, &mut self.input, &mode)?;
-        self.errors
-            .take_read(&self.context, gap_faults, token_faults)?;
-        self.seen = self.seen.behind(&found, end_flag);
+        let Reading { found, besides } = self.find()?;
+        self.take_in(Kept::of_answer(&found), besides)?;
         Ok(found)
     }
 
     /// The next token, or nothing at the end.
     ///
-    /// What is wrong besides is recorded, waits or is dropped, as the context says. A read that finds
-    /// nothing wrong and collects no comment takes no memory, unless the token's value differs from its spelling.
+    /// What is wrong besides is recorded, waits or is dropped, as the context says; the comments before it are attached,
+    /// where they are collected. A read takes no memory where nothing is wrong, no comment is collected, the token's
+    /// value is its spelling, and fewer than 128 contexts stand.
     ///
     /// # Errors
     ///
@@ -159,7 +189,8 @@ impl<'a> Lexer<'a> {
         ensures refused { self.old.refused ≡ true → (result ≡ Err alloc_error) × (self.new ≡ self.old) }
         ensures refusal { OnErr result (self.new.refused ≡ true) }
         ensures kept { OnErr result (self.new.errors ≡ self.old.errors) }
-        ensures free { self.old.refused ≡ false → is_free (mode_of (lexer_state self.old)) self.old.input ≡ true → IsOk result }
+        ensures free { self.old.refused ≡ false → length self.old.state.contexts < 128
+            → is_free (mode_of (lexer_state self.old)) self.old.input ≡ true → IsOk result }
     {
         if self.refused {
             return Err(AllocError);
@@ -172,10 +203,35 @@ impl<'a> Lexer<'a> {
     }
 }
 
-impl<'a> Tokens<'a> for Lexer<'a> {
+impl<'a> Commented<'a> for Lexer<'a> {
     ghost use Rattle.ecma_lexer.specs.Session.{lexer_state};
 
+    ghost shown = { lexer_state };
+
+    fn take_comments(&mut self) -> Option<CommentsBuffer<'a>> {
+        if self.refused || !self.state.seen.ended {
+            return None;
+        }
+        let none = CommentsBuffer::new(self.alloc);
+        Some(mem::replace(&mut self.comments, none))
+    }
+
+    fn put_comments(&mut self, comments: CommentsBuffer<'a>) {
+        let _ = mem::replace(&mut self.comments, comments);
+    }
+}
+
+impl<'a> Tokens<'a> for Lexer<'a> {
+    ghost use mir.Syntax.{named};
+    ghost use Rattle.std.specs.Borrow.{Lends, sem};
+    ghost use Rattle.std.specs.Prelude.{◌≡◌, []};
+    ghost use Rattle.ecma_lexer.specs.Session.{kept_with_contexts, lexer_state};
+    ghost use Rattle.ecma_lexer.specs.contracts.lexer.Lexer as lexer;
+    ghost use Rattle.ecma_lexer.specs.contracts.token_contexts.TokenContexts as token_contexts;
+
     ghost state = { lexer_state };
+
+    ghost with_contexts = { kept_with_contexts };
 
     fn set_ctx(&mut self, ctx: Context) -> Result<(), AllocError> {
         self.errors.enter(&ctx)?;
@@ -196,7 +252,27 @@ impl<'a> Tokens<'a> for Lexer<'a> {
     }
 
     fn start_pos(&self) -> BytePos {
-        self.start
+        self.state.start
+    }
+
+    fn set_expr_allowed(&mut self, allow: bool) {
+        self.state.expr_allowed = allow;
+    }
+
+    fn token_context(&self) -> &TokenContexts {
+        &self.state.contexts
+    }
+
+    // The trait's clause, with the type of the lexer written out, which is too large to be told by its name.
+    fn token_context_mut(&mut self) -> &mut TokenContexts
+        ensures* writes_back { sem 𝓛 (Lends (lexer.the_row record { mir = named 1; lft = [] }) token_contexts.the_row self.entry result (kept_with_contexts self.old)) }
+        ensures value { result.now ≡ self.old.state.contexts }
+    {
+        &mut self.state.contexts
+    }
+
+    fn set_token_context(&mut self, contexts: TokenContexts) {
+        self.state.contexts = contexts;
     }
 
     fn add_error(&mut self, error: Error<'a>) -> Result<(), Error<'a>> {

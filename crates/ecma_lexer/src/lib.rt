@@ -2,9 +2,11 @@
 #![tactic(auto)]
 
 mod attachment;
+pub mod commented;
 pub mod comments_buffer;
 pub mod error_list;
 mod errors;
+mod hand_over;
 pub mod kept;
 pub mod laws;
 pub mod lexer;
@@ -22,6 +24,7 @@ pub mod token_contexts;
 pub mod tokens;
 mod transition;
 
+pub use commented::{Commented, hand_comments};
 pub use comments_buffer::{BufferedComment, BufferedCommentKind, CommentsBuffer};
 pub use error_list::ErrorList;
 pub use kept::Kept;

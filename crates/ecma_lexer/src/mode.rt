@@ -1,6 +1,6 @@
 //! What a read goes by besides the text.
 ghost use Rattle.std.specs.Prelude.{◌≡◌};
-ghost use Rattle.ecma_lexer.specs.Mode.{type_mode, gap_mode};
+ghost use Rattle.ecma_lexer.specs.Mode.{type_mode, gap_mode, is_template, is_tpl_element};
 ghost use Rattle.ecma_lexer.specs.TokenAt.{ts1085};
 
 use crate::settings::Settings;
@@ -45,6 +45,20 @@ impl Mode {
             && !matches!(self.settings.target, EsVersion::Es3)
     }
 
+    /// Whether a template's text is read.
+    pub fn is_in_template(&self) -> bool
+        ensures { result ≡ is_template self.now.top }
+    {
+        matches!(self.top, Some(TokenContext::Tpl))
+    }
+
+    /// Whether template text stands before.
+    pub fn is_after_template(&self) -> bool
+        ensures { result ≡ is_tpl_element self.now.previous }
+    {
+        matches!(self.previous, Some(TokenKind::Template))
+    }
+
     /// What the gap before the next token is read by.
     pub fn gap_mode(&self) -> GapMode
         ensures { result ≡ gap_mode self.now }
@@ -53,7 +67,7 @@ impl Mode {
             first: self.first,
             type_mode: self.type_mode(),
             keeps_space: matches!(self.top, Some(TokenContext::JSXExpr)),
-            template: matches!(self.top, Some(TokenContext::Tpl)),
+            template: self.is_in_template(),
             prev: self.previous,
             collect: self.settings.comments,
         }

@@ -5,11 +5,14 @@ ghost use Rattle.ecma_scan.specs.Bars.{opens_bars};
 ghost use Rattle.ecma_scan.specs.Numbers.{opens_number};
 ghost use Rattle.ecma_lexer.specs.TokenAt as grammar;
 
+use crate::mode::Mode;
 use ecma_place::{CharExt, StringInput};
 
 /// What the first characters of a text open.
 #[derive(Debug, Clone, Copy, PartialEq, Eq)]
 pub enum Opening {
+    /// What stands in a template: its text, or a sign behind that.
+    Template,
     Number,
     String,
     Word,
@@ -36,11 +39,13 @@ fn stands_bars(input: &StringInput) -> bool
 
 impl Opening {
     /// What stands at the cursor, which stands before the character `c`, behind a gap whose flag stands or not.
-    pub fn at(input: &StringInput, flag: bool, c: char) -> Opening
+    pub fn at(input: &StringInput, mode: &Mode, flag: bool, c: char) -> Opening
         requires { slice_get (rest input.now) 0 ≡ Some c }
-        ensures { result ≡ grammar.opening flag (rest input.now) }
+        ensures { result ≡ grammar.opening mode.now flag (rest input.now) }
     {
-        if stands_number(input, c) {
+        if mode.is_in_template() {
+            Opening::Template
+        } else if stands_number(input, c) {
             Opening::Number
         } else if c == '"' || c == '\'' {
             Opening::String

@@ -1,15 +1,16 @@
 //! One read: the gap, and then the end or the token at its place.
-ghost use Rattle.std.specs.Prelude.{◌≡◌, ◌++◌, true, None, map, option_map, if◌then◌else◌, IfOk, IsOk, OnOk};
+ghost use Rattle.std.specs.Prelude.{◌≡◌, ◌≤◌, true, None, option_map, if◌then◌else◌, IfOk, IsOk, OnOk};
+ghost use Rattle.ecma_lexer.specs.Besides.{IsBeside};
 ghost use Rattle.ecma_token.specs.View.{spanned_view, token_view};
-ghost use Rattle.ecma_scan.specs.Found.{fault_view, value_view};
-ghost use Rattle.ecma_place.specs.Cursor.{rest};
+ghost use Rattle.ecma_scan.specs.Found.{found_view, value_view};
+ghost use Rattle.ecma_place.specs.Cursor.{rest, place};
 ghost use Rattle.ecma_scan.specs.Shebangs.{opens_shebang};
-ghost use Rattle.ecma_lexer.specs.Reading.{reading, reading_code, shebang_reading, is_free, is_free_code};
+ghost use Rattle.ecma_lexer.specs.Reading.{reading, reading_code, shebang_reading, spanned, is_free, is_free_code};
 ghost use Rattle.ecma_lexer.specs.TokenAt as grammar;
 
 use crate::mode::Mode;
-use crate::token_at::token_at;
-use ecma_place::StringInput;
+use crate::token_at::{Taken, token_at};
+use ecma_place::{Comment, StringInput};
 use ecma_scan::{Blame, Found, scan_gap, scan_shebang};
 use ecma_token::{Error, Token, TokenAndSpan};
 use std::alloc::{AllocError, Global};
@@ -19,12 +20,22 @@ use std::alloc::{AllocError, Global};
 pub struct Reading<'a> {
     /// A token, or nothing at the end.
     pub found: Option<TokenAndSpan<'a>>,
+    pub besides: Besides<'a>,
+}
+
+/// What a read found besides the token.
+#[derive(Drop)]
+pub struct Besides<'a> {
     /// Whether no token came before, or a line terminator stands in the gap.
     pub end_flag: bool,
     /// What is wrong in the gap.
     pub gap_faults: Vec<(Blame, Error<'a>)>,
     /// What is wrong in the token.
     pub token_faults: Vec<(Blame, Error<'a>)>,
+    /// The comments of the gap, each with whether it is for the next token.
+    pub gap_comments: Vec<(Comment<'a>, bool)>,
+    /// The comments in the token, likewise.
+    pub token_comments: Vec<(Comment<'a>, bool)>,
 }
 
 /// A refused text is a token too.
@@ -35,6 +46,22 @@ fn token_of<'a>(value: Result<Token<'a>, Error<'a>>) -> Token<'a>
         Ok(token) => token,
         Err(error) => Token::Error(error),
     }
+}
+
+/// What was found as a token, behind a gap whose flag stands or not, and what is wrong with it besides.
+fn spanned_token<'a>(
+    found: Found<'a, Token<'a>>,
+    flag: bool,
+) -> (TokenAndSpan<'a>, Vec<(Blame, Error<'a>)>)
+    ensures token { spanned_view result.0 ≡ spanned flag (found_view token_view found.entry) }
+    ensures faults { result.1.items ≡ found.entry.faults.items }
+{
+    let token = TokenAndSpan {
+        token: token_of(found.value),
+        had_line_break: flag | found.line_break,
+        span: found.extent,
+    };
+    (token, found.faults)
 }
 
 /// The shebang at the cursor, if there is one. Its flag is false.
@@ -72,9 +99,9 @@ fn read_code<'a>(
     input: &mut StringInput<'a>,
     mode: &Mode,
 ) -> Result<Reading<'a>, AllocError>
+    requires { mode.now.opened.0 ≤ place input.old }
     ensures found { IfOk result (λ r. option_map spanned_view r.found ≡ (reading_code mode.now input.old).found) }
-    ensures end_flag { IfOk result (λ r. r.end_flag ≡ (reading_code mode.now input.old).end_flag) }
-    ensures faults { IfOk result (λ r. map fault_view r.gap_faults.items ++ map fault_view r.token_faults.items ≡ (reading_code mode.now input.old).faults) }
+    ensures besides { IfOk result (λ r. IsBeside r.besides (reading_code mode.now input.old)) }
     ensures moved { OnOk result (input.new ≡ (reading_code mode.now input.old).input) }
     ensures free { is_free_code mode.now input.old ≡ true → IsOk result }
 {
@@ -83,39 +110,38 @@ fn read_code<'a>(
     let Some(c) = input.cur() else {
         return Ok(Reading {
             found: None,
-            end_flag,
-            gap_faults: gap.faults,
-            token_faults: Vec::new(alloc),
+            besides: Besides {
+                end_flag,
+                gap_faults: gap.faults,
+                token_faults: Vec::new(alloc),
+                gap_comments: gap.comments,
+                token_comments: Vec::new(alloc),
+            },
         });
     };
-    let Found {
-        value,
-        faults: token_faults,
-        extent,
-        line_break,
-    } = token_at(alloc, input, mode, end_flag, c)?;
-    let token = TokenAndSpan {
-        token: token_of(value),
-        had_line_break: end_flag | line_break,
-        span: extent,
-    };
+    let Taken { found, comments } = token_at(alloc, input, mode, end_flag, c)?;
+    let (token, token_faults) = spanned_token(found, end_flag);
     Ok(Reading {
         found: Some(token),
-        end_flag,
-        gap_faults: gap.faults,
-        token_faults,
+        besides: Besides {
+            end_flag,
+            gap_faults: gap.faults,
+            token_faults,
+            gap_comments: gap.comments,
+            token_comments: comments,
+        },
     })
 }
 
-/// Reads from the cursor on.
+/// Reads from the cursor on. No template was opened behind it.
 pub fn read_from<'a>(
     alloc: Global,
     input: &mut StringInput<'a>,
     mode: &Mode,
 ) -> Result<Reading<'a>, AllocError>
+    requires { mode.now.opened.0 ≤ place input.old }
     ensures found { IfOk result (λ r. option_map spanned_view r.found ≡ (reading mode.now input.old).found) }
-    ensures end_flag { IfOk result (λ r. r.end_flag ≡ (reading mode.now input.old).end_flag) }
-    ensures faults { IfOk result (λ r. map fault_view r.gap_faults.items ++ map fault_view r.token_faults.items ≡ (reading mode.now input.old).faults) }
+    ensures besides { IfOk result (λ r. IsBeside r.besides (reading mode.now input.old)) }
     ensures moved { OnOk result (input.new ≡ (reading mode.now input.old).input) }
     ensures free { is_free mode.now input.old ≡ true → IsOk result }
 {
@@ -125,9 +151,13 @@ pub fn read_from<'a>(
     match shebang_at(alloc, input)? {
         Some(token) => Ok(Reading {
             found: Some(token),
-            end_flag: false,
-            gap_faults: Vec::new(alloc),
-            token_faults: Vec::new(alloc),
+            besides: Besides {
+                end_flag: false,
+                gap_faults: Vec::new(alloc),
+                token_faults: Vec::new(alloc),
+                gap_comments: Vec::new(alloc),
+                token_comments: Vec::new(alloc),
+            },
         }),
         None => read_code(alloc, input, mode),
     }

@@ -2,8 +2,11 @@
 ghost use Rattle.std.specs.Prelude.{◌≡◌, ◌<◌, ◌≤◌, length, IsOk, IfOk, OnOk, OnErr};
 ghost use Rattle.ecma_scan.specs.Comments.{can_trail_line, can_trail_block};
 ghost use Rattle.ecma_lexer.specs.Contexts as contexts;
-ghost use Rattle.ecma_lexer.specs.State.{started, behind_token, is_tpl_element};
+ghost use Rattle.ecma_lexer.specs.Mode.{is_tpl_element};
+ghost use Rattle.ecma_lexer.specs.State as grammar;
 
+use crate::attachment::Around;
+use crate::kept::{Kept, Seen};
 use crate::token_context::TokenContext;
 use crate::token_contexts::TokenContexts;
 use crate::transition::Before;
@@ -13,13 +16,17 @@ use ecma_token::TokenKind;
 use std::alloc::{AllocError, Global};
 use std::marker::Model;
 
-/// What a lexer keeps between two reads: what encloses the place that is read, and what stood before it.
+/// What a lexer keeps between two reads: what encloses the place that is read, and what was answered before it.
 #[derive(Drop)]
 pub struct State {
     pub(crate) contexts: TokenContexts,
-    pub(crate) before: Before,
-    /// Where the token before ends; the start place where there is none.
-    pub(crate) end: BytePos,
+    /// Whether an expression may begin.
+    pub(crate) expr_allowed: bool,
+    /// Where the text begins.
+    pub(crate) start: BytePos,
+    /// Where the back quote stands that opened a template last; the start place where none did.
+    pub(crate) opened: BytePos,
+    pub(crate) seen: Seen,
 }
 
 impl Model for State {
@@ -27,7 +34,7 @@ impl Model for State {
 
     ghost Value = { StateKept };
 
-    ghost view = { λ s. record { contexts = s.contexts; before = s.before; end = s.end } };
+    ghost view = { λ s. record { contexts = s.contexts; expr_allowed = s.expr_allowed; start = s.start; opened = s.opened; seen = s.seen } };
 }
 
 impl State {
@@ -35,19 +42,17 @@ impl State {
     ///
     /// It is the same whatever the syntax is, since JSX isn't read.
     pub fn new(alloc: Global, _syntax: Syntax, start: BytePos) -> State
-        ensures { result ≡ started start }
+        ensures { result ≡ grammar.started start }
     {
         let mut contexts = TokenContexts::new(alloc);
         // One context takes no memory, so this is never refused.
         let _ = contexts.push(TokenContext::BraceStmt);
         State {
             contexts,
-            before: Before {
-                expr_allowed: true,
-                previous: None,
-                previous_flag: false,
-            },
-            end: start,
+            expr_allowed: true,
+            start,
+            opened: start,
+            seen: Seen::none(),
         }
     }
 
@@ -63,9 +68,9 @@ impl State {
 
     /// Whether a line comment may be the previous token's, also where there is none.
     pub fn can_have_trailing_line_comment(&self) -> bool
-        ensures { result ≡ can_trail_line self.now.before.previous }
+        ensures { result ≡ can_trail_line (grammar.previous self.now.seen) }
     {
-        match self.before.previous {
+        match self.seen.previous() {
             Some(kind) => kind.can_have_trailing_line_comment(),
             None => true,
         }
@@ -73,9 +78,9 @@ impl State {
 
     /// Whether a block comment may be the previous token's; not where there is none.
     pub fn can_have_trailing_comment(&self) -> bool
-        ensures { result ≡ can_trail_block self.now.before.previous }
+        ensures { result ≡ can_trail_block (grammar.previous self.now.seen) }
     {
-        match self.before.previous {
+        match self.seen.previous() {
             Some(kind) => kind.can_have_trailing_comment(),
             None => false,
         }
@@ -83,34 +88,83 @@ impl State {
 
     /// Whether the previous token is a template's text.
     pub fn last_was_tpl_element(&self) -> bool
-        ensures { result ≡ is_tpl_element self.now.before.previous }
+        ensures { result ≡ is_tpl_element (grammar.previous self.now.seen) }
     {
-        matches!(self.before.previous, Some(TokenKind::Template))
+        matches!(self.seen.previous(), Some(TokenKind::Template))
     }
 
-    /// Takes in a token of this kind, before which a line terminator stands or not (`flag`), and which ends at `end`.
-    /// Fewer than 128 contexts take no memory.
+    /// What the next token changes the contexts by.
+    fn before(&self) -> Before
+        ensures { result ≡ grammar.before_of self.now }
+    {
+        Before {
+            expr_allowed: self.expr_allowed,
+            previous: self.seen.previous(),
+            previous_flag: self.seen.previous_flag(),
+        }
+    }
+
+    /// Where the token before ends; the start place where there is none.
+    fn end(&self) -> BytePos
+        ensures { result ≡ grammar.end_of self.now }
+    {
+        match self.seen.last {
+            Some(token) => token.span.hi,
+            None => self.start,
+        }
+    }
+
+    /// The places that the comments of a read go by, which answers a token or the end.
+    pub(crate) fn around(&self, answer: Option<Kept>) -> Around
+        ensures { result ≡ grammar.around_of self.now answer }
+    {
+        Around {
+            start: self.start,
+            end: self.end(),
+            next: answer.map(|token| token.span.lo),
+        }
+    }
+
+    /// Whether a token of this kind opens a template.
+    fn opens_template(&self, kind: TokenKind) -> bool
+        ensures { result ≡ grammar.opens_template self.now.contexts kind }
+    {
+        matches!(kind, TokenKind::BackQuote) && !self.contexts.is_in_template()
+    }
+
+    /// Changes the contexts as a token does, and remembers where it opens a template.
+    fn turn(&mut self, token: Kept) -> Result<(), AllocError>
+        ensures contexts { OnOk result (self.new.contexts ≡ (grammar.turned_by self.old (Some token)).contexts) }
+        ensures allowed { OnOk result (self.new.expr_allowed ≡ (grammar.turned_by self.old (Some token)).expr_allowed) }
+        ensures opened { OnOk result (self.new.opened ≡ grammar.opened_by self.old (Some token)) }
+        ensures same { (self.new.start ≡ self.old.start) × (self.new.seen ≡ self.old.seen) }
+        ensures err { OnErr result (self.new ≡ self.old) }
+        ensures free { length self.old.contexts < 128 → IsOk result }
+    {
+        let opens = self.opens_template(token.kind);
+        self.expr_allowed = self
+            .before()
+            .turn(&mut self.contexts, token.kind, token.flag)?;
+        if opens {
+            self.opened = token.span.lo;
+        }
+        Ok(())
+    }
+
+    /// Takes in an answer: a token, or the end with the flag before it. Fewer than 128 contexts take no memory.
     ///
     /// # Errors
     ///
     /// `AllocError` where there is no memory for one more context. Nothing is then changed.
-    pub(crate) fn take(
-        &mut self,
-        kind: TokenKind,
-        flag: bool,
-        end: BytePos,
-    ) -> Result<(), AllocError>
-        ensures ok { OnOk result (self.new ≡ behind_token self.old kind flag end) }
+    pub(crate) fn take(&mut self, answer: Option<Kept>, end_flag: bool) -> Result<(), AllocError>
+        ensures ok { OnOk result (self.new ≡ grammar.behind_answer self.old end_flag answer) }
         ensures err { OnErr result (self.new ≡ self.old) }
         ensures free { length self.old.contexts < 128 → IsOk result }
     {
-        let expr_allowed = self.before.turn(&mut self.contexts, kind, flag)?;
-        self.before = Before {
-            expr_allowed,
-            previous: Some(kind),
-            previous_flag: flag,
-        };
-        self.end = end;
+        if let Some(token) = answer {
+            self.turn(token)?;
+        }
+        self.seen = self.seen.behind(answer, end_flag);
         Ok(())
     }
 
@@ -125,8 +179,10 @@ impl State {
     {
         Ok(State {
             contexts: self.contexts.copy()?,
-            before: self.before,
-            end: self.end,
+            expr_allowed: self.expr_allowed,
+            start: self.start,
+            opened: self.opened,
+            seen: self.seen,
         })
     }
 }

@@ -1,9 +1,11 @@
 //! Rows of the lexer: what texts give from place 0, as ECMAScript with every option off.
+mod attached;
 mod comments;
 mod contexts;
 mod error_lists;
 mod readers;
 mod states;
+mod templates;
 
 use crate::kept::Kept;
 use crate::lexer::Lexer;

@@ -1,16 +1,19 @@
 //! The token at a place.
-ghost use Rattle.std.specs.Prelude.{◌≡◌, true, Some, length, slice_get, is_ok, IfOk, IsOk, OnOk};
+ghost use Rattle.std.specs.Prelude.{◌≡◌, ◌≤◌, true, Some, length, slice_get, is_ok, IfOk, IsOk, OnOk};
 ghost use Rattle.ecma_place.specs.Cursor.{rest, place, passed};
 ghost use Rattle.ecma_token.specs.View.{token_view};
 ghost use Rattle.ecma_scan.specs.Found.{found_view, found_at, token_behind, value_view};
-ghost use Rattle.ecma_scan.specs.Bars.{opens_bars, bars_spelling, bars_token};
+ghost use Rattle.ecma_scan.specs.Bars.{opens_bars, bars_comments_at, bars_spelling, bars_token};
 ghost use Rattle.ecma_scan.specs.Words.{identifier_name, opens_word};
+ghost use Rattle.ecma_lexer.specs.Mode.{gap_mode};
 ghost use Rattle.ecma_lexer.specs.TokenAt as grammar;
 
 use crate::mode::Mode;
 use crate::opening::Opening;
-use ecma_place::{Span, StringInput};
-use ecma_scan::{Bars, Found, scan_bars, scan_number, scan_punct, scan_string, scan_word};
+use ecma_place::{Comment, Span, StringInput};
+use ecma_scan::{
+    Bars, Found, scan_bars, scan_number, scan_punct, scan_string, scan_template, scan_word,
+};
 use ecma_syntax::Word;
 use ecma_token::{Error, SyntaxError, Token};
 use std::alloc::{AllocError, Global};
@@ -117,27 +120,68 @@ fn punctuator_at<'a>(
     }
 }
 
-/// The marker of bars at the cursor as an error. Its comments are not kept yet.
+/// What was found at a place.
+#[derive(Drop)]
+pub struct Taken<'a> {
+    /// A token, or why what stands there is refused.
+    pub found: Found<'a, Token<'a>>,
+    /// The comments in it, each with whether it is for the next token.
+    pub comments: Vec<(Comment<'a>, bool)>,
+}
+
+/// The marker of bars at the cursor as an error, with its comments.
 fn bars_at<'a>(
     alloc: Global,
     input: &mut StringInput<'a>,
     mode: &Mode,
-) -> Result<Found<'a, Token<'a>>, AllocError>
+) -> Result<Taken<'a>, AllocError>
     requires { opens_bars (rest input.old) ≡ true }
-    ensures found { IfOk result (λ f. found_view token_view f ≡
+    ensures found { IfOk result (λ t. found_view token_view t.found ≡
         found_at token_behind (place input.old) (bars_token (rest input.old))) }
+    ensures comments { IfOk result (λ t. t.comments.items ≡
+        bars_comments_at (place input.old) (gap_mode mode.now) (rest input.old)) }
     ensures moved { OnOk result (input.new ≡ passed (length (bars_spelling (rest input.old))) input.old) }
 {
     let start = input.cur_pos();
     let Some(Bars { gap, error }) = scan_bars(alloc, input, &mode.gap_mode())? else {
         unreachable!()
     };
-    Ok(Found {
-        value: Err(error),
-        faults: gap.faults,
-        extent: Span::new(start, input.cur_pos()),
-        line_break: false,
+    Ok(Taken {
+        found: Found {
+            value: Err(error),
+            faults: gap.faults,
+            extent: Span::new(start, input.cur_pos()),
+            line_break: false,
+        },
+        comments: gap.comments,
     })
+}
+
+/// The token at the cursor, which stands before the character `c`, where no marker of bars stands.
+fn plain_at<'a>(
+    alloc: Global,
+    input: &mut StringInput<'a>,
+    mode: &Mode,
+    opening: Opening,
+    c: char,
+) -> Result<Found<'a, Token<'a>>, AllocError>
+    requires first { slice_get (rest input.old) 0 ≡ Some c }
+    requires opened { mode.now.opened.0 ≤ place input.old }
+    requires opens { grammar.Opens opening (rest input.old) }
+    ensures found { IfOk result (λ f. found_view token_view f ≡
+        grammar.placed opening mode.now (place input.old) (grammar.read_opened opening mode.now (rest input.old))) }
+    ensures moved { OnOk result
+        (input.new ≡ passed (length (grammar.read_opened opening mode.now (rest input.old)).spelling) input.old) }
+    ensures free { grammar.is_free_token opening (rest input.old) (grammar.read_opened opening mode.now (rest input.old)) ≡ true → IsOk result }
+{
+    match opening {
+        Opening::Template => { scan_template(alloc, input, mode.opened, mode.is_after_template()) }
+        Opening::Number => scan_number(alloc, input, mode.ts1085()),
+        Opening::String => scan_string(alloc, input),
+        Opening::Word => word_at(alloc, input, mode),
+        Opening::Bars => unreachable!(),
+        Opening::Other => punctuator_at(alloc, input, mode, c),
+    }
 }
 
 /// The token at the cursor, which stands before the character `c`, behind a gap whose flag stands or not.
@@ -147,19 +191,23 @@ pub fn token_at<'a>(
     mode: &Mode,
     flag: bool,
     c: char,
-) -> Result<Found<'a, Token<'a>>, AllocError>
-    requires { slice_get (rest input.old) 0 ≡ Some c }
-    ensures found { IfOk result (λ f. found_view token_view f ≡
-        found_at token_behind (place input.old) (grammar.token_at mode.now flag (rest input.old))) }
+) -> Result<Taken<'a>, AllocError>
+    requires first { slice_get (rest input.old) 0 ≡ Some c }
+    requires opened { mode.now.opened.0 ≤ place input.old }
+    ensures found { IfOk result (λ t. found_view token_view t.found ≡
+        grammar.token_found mode.now flag (place input.old) (rest input.old)) }
+    ensures comments { IfOk result (λ t. t.comments.items ≡
+        grammar.token_comments mode.now flag (place input.old) (rest input.old)) }
     ensures moved { OnOk result
         (input.new ≡ passed (length (grammar.token_at mode.now flag (rest input.old)).spelling) input.old) }
     ensures free { grammar.is_free_at mode.now flag (rest input.old) ≡ true → IsOk result }
 {
-    match Opening::at(input, flag, c) {
-        Opening::Number => scan_number(alloc, input, mode.ts1085()),
-        Opening::String => scan_string(alloc, input),
-        Opening::Word => word_at(alloc, input, mode),
-        Opening::Bars => bars_at(alloc, input, mode),
-        Opening::Other => punctuator_at(alloc, input, mode, c),
+    let opening = Opening::at(input, mode, flag, c);
+    if let Opening::Bars = opening {
+        return bars_at(alloc, input, mode);
     }
+    Ok(Taken {
+        found: plain_at(alloc, input, mode, opening, c)?,
+        comments: Vec::new(alloc),
+    })
 }

@@ -1,10 +1,14 @@
 //! What the layer above asks of what it reads tokens from.
+ghost use Rattle.std.specs.Borrow.{Lends, sem};
 ghost use Rattle.std.specs.Prelude.{◌≡◌, [], false, map, IsOk, OnOk, OnErr, IfErr};
 ghost use Rattle.ecma_token.specs.View.{error_view};
+ghost use Rattle.ecma_lexer.specs.Contexts.{Contexts};
 ghost use Rattle.ecma_lexer.specs.Session.{LexerState};
-ghost use Rattle.ecma_lexer.specs.Run.{state_in, state_with_error, state_with_module_mode_error, state_without_errors};
+ghost use Rattle.ecma_lexer.specs.contracts.token_contexts.TokenContexts as token_contexts;
+ghost use Rattle.ecma_lexer.specs.Run.{state_allowing, state_in, state_with_contexts, state_with_error, state_with_module_mode_error, state_without_errors};
 
 use crate::error_list::ErrorList;
+use crate::token_contexts::TokenContexts;
 use ecma_place::BytePos;
 use ecma_syntax::{Context, EsVersion, Syntax};
 use ecma_token::Error;
@@ -13,6 +17,9 @@ use std::alloc::AllocError;
 /// What the layer above asks of what it reads tokens from.
 pub trait Tokens<'a> {
     ghost state: { Self → LexerState };
+
+    // the same with other contexts
+    ghost with_contexts: { Self → Contexts → Self };
 
     /// Sets the flags of the code that is being read.
     ///
@@ -42,7 +49,25 @@ pub trait Tokens<'a> {
 
     /// The place where the text begins.
     fn start_pos(&self) -> BytePos
-        ensures { result ≡ (state self.now).start };
+        ensures { result ≡ (state self.now).state.start };
+
+    /// Says whether an expression may begin.
+    fn set_expr_allowed(&mut self, allow: bool)
+        ensures { state self.new ≡ state_allowing allow (state self.old) };
+
+    /// What encloses the place that is read.
+    fn token_context(&self) -> &TokenContexts
+        ensures { result.now ≡ (state self.now).state.contexts };
+
+    /// What encloses the place that is read, to change it: what the caller leaves there counts from then on.
+    fn token_context_mut(&mut self) -> &mut TokenContexts
+        ensures* writes_back { sem 𝓛 (Lends Self.row token_contexts.the_row self.entry result (with_contexts self.old)) }
+        ensures after { (contexts : Contexts) → state (with_contexts self.old contexts) ≡ state_with_contexts contexts (state self.old) }
+        ensures value { result.now ≡ (state self.old).state.contexts };
+
+    /// Puts other contexts in the place of those that enclose the place that is read.
+    fn set_token_context(&mut self, contexts: TokenContexts)
+        ensures { state self.new ≡ state_with_contexts contexts (state self.old) };
 
     /// Records an error, also where errors are ignored.
     ///

@@ -36,7 +36,7 @@ fn ends_statement(context: TokenContext) -> bool
 
 impl TokenContexts {
     /// Whether a template's text is read.
-    fn is_in_template(&self) -> bool
+    pub(crate) fn is_in_template(&self) -> bool
         ensures { result ≡ grammar.tpl_on_top self.now }
     {
         matches!(self.current(), Some(TokenContext::Tpl))

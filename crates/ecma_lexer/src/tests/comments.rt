@@ -1,7 +1,10 @@
 //! Buffers of comments.
+ghost use Rattle.std.specs.Prelude.{◌≡◌, ◌++◌, ◌∷◌, [], map, OnOk, OnErr, IfErr};
+ghost use Rattle.ecma_lexer.specs.HandOver.{added_of};
+
 use crate::attachment::Around;
 use crate::comments_buffer::{BufferedComment, BufferedCommentKind, CommentsBuffer};
-use ecma_place::{Atom, BytePos, Comment, CommentKind, Span};
+use ecma_place::{Atom, BytePos, Comment, CommentKind, Comments, Span};
 use std::alloc::{AllocError, Global};
 use std::test::Fail;
 
@@ -129,7 +132,7 @@ fn are_attached(
         read.push(found(*kind, *lo, *hi, *is_for_next))?;
     }
     let mut buffer = CommentsBuffer::new(alloc);
-    buffer.attach(around, read)?;
+    buffer.attach(around, read, Vec::new(alloc))?;
     Ok(are(&buffer.copy()?.take_comments(), rows) && are(&buffer.take_pending_leading(), &[]))
 }
 
@@ -155,5 +158,94 @@ fn comments_of_a_read_find_their_tokens(rt: HostRuntime) -> Result<(), Fail> {
     // `#!x`, LF, `//c`
     let read = [(CommentKind::Line, 4, 7, true)];
     assert!(rt; are_attached(alloc, around(3, None), &read, &[(false, 3, 4, 7)])?);
+    Ok(())
+}
+
+/// A store in memory, which is full at `room` comments.
+#[derive(Drop)]
+pub(super) struct Store<'a> {
+    pub(super) given: Vec<BufferedComment<'a>>,
+    pub(super) room: usize,
+}
+
+impl<'a> Store<'a> {
+    fn add(&mut self, buffered: BufferedComment<'a>) -> Result<(), Comment<'a>>
+        ensures ok { OnOk result (self.new.given.items ≡ self.old.given.items ++ buffered.entry ∷ []) }
+        ensures err { OnErr result (self.new.given.items ≡ self.old.given.items) }
+        ensures back { IfErr result (λ c. c ≡ buffered.entry.comment) }
+    {
+        if self.given.len() >= self.room {
+            return Err(buffered.comment);
+        }
+        self.given
+            .push(buffered)
+            .map_err(|failed| failed.value.comment)
+    }
+}
+
+impl<'a> Comments<'a> for Store<'a> {
+    ghost added = { λ s. map added_of s.given.items };
+
+    fn add_leading(&mut self, pos: BytePos, comment: Comment<'a>) -> Result<(), Comment<'a>> {
+        self.add(BufferedComment {
+            kind: BufferedCommentKind::Leading,
+            pos,
+            comment,
+        })
+    }
+
+    fn add_trailing(&mut self, pos: BytePos, comment: Comment<'a>) -> Result<(), Comment<'a>> {
+        self.add(BufferedComment {
+            kind: BufferedCommentKind::Trailing,
+            pos,
+            comment,
+        })
+    }
+}
+
+/// What a buffer of three comments hands over.
+const THREE: [Row; 3] = [(false, 3, 4, 9), (true, 20, 10, 15), (false, 25, 26, 31)];
+
+fn three(alloc: Global) -> Result<CommentsBuffer<'static>, AllocError> {
+    let mut buffer = CommentsBuffer::new(alloc);
+    buffer.push(trailing(3, 4, 9))?;
+    buffer.push(leading(20, 10, 15))?;
+    buffer.push(trailing(25, 26, 31))?;
+    buffer.push_pending_leading(leading(40, 32, 37))?;
+    Ok(buffer)
+}
+
+#[test]
+fn comments_are_handed_over_once_and_in_order(rt: HostRuntime) -> Result<(), Fail> {
+    let mut buffer = three(rt.alloc())?;
+    let mut store = Store {
+        given: Vec::new(rt.alloc()),
+        room: 9,
+    };
+    buffer.hand_over(&mut store)?;
+    assert!(rt; are(&store.given, &THREE));
+    // No comment is left that has its token, and one waits as before.
+    buffer.hand_over(&mut store)?;
+    assert!(rt; are(&store.given, &THREE));
+    assert!(rt; are(&buffer.take_comments(), &[]));
+    assert!(rt; are(&buffer.take_pending_leading(), &[(true, 40, 32, 37)]));
+    Ok(())
+}
+
+#[test]
+fn comments_from_a_refused_one_on_are_kept(rt: HostRuntime) -> Result<(), Fail> {
+    let mut buffer = three(rt.alloc())?;
+    let mut store = Store {
+        given: Vec::new(rt.alloc()),
+        room: 1,
+    };
+    assert!(rt; buffer.hand_over(&mut store).is_err());
+    assert!(rt; are(&store.given, &THREE[..1]));
+    assert!(rt; are(&buffer.copy()?.take_comments(), &THREE[1..]));
+    store.room = 3;
+    buffer.hand_over(&mut store)?;
+    assert!(rt; are(&store.given, &THREE));
+    assert!(rt; are(&buffer.take_comments(), &[]));
+    assert!(rt; are(&buffer.take_pending_leading(), &[(true, 40, 32, 37)]));
     Ok(())
 }

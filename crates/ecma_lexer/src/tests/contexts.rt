@@ -1,8 +1,9 @@
 //! Contexts, and how tokens change them.
+use crate::kept::Kept;
 use crate::state::State;
 use crate::token_context::TokenContext;
 use crate::token_contexts::TokenContexts;
-use ecma_place::BytePos;
+use ecma_place::{BytePos, Span};
 use ecma_syntax::{AssignOp, BinOpToken, IdentKind, Keyword, KnownIdent, Syntax, WordKind};
 use ecma_token::TokenKind;
 use std::alloc::{AllocError, Global};
@@ -18,6 +19,18 @@ const FOR: TokenKind = TokenKind::Word(WordKind::Keyword(Keyword::For));
 const NAME: TokenKind = TokenKind::Word(WordKind::Ident(IdentKind::Other));
 
 const OF: TokenKind = TokenKind::Word(WordKind::Ident(IdentKind::Known(KnownIdent::Of)));
+
+/// A token on the line of the one before.
+fn token(kind: TokenKind) -> Kept {
+    Kept {
+        kind,
+        span: Span {
+            lo: BytePos(0),
+            hi: BytePos(0),
+        },
+        flag: false,
+    }
+}
 
 /// The state before the first read of a text at place 0.
 fn start(alloc: Global) -> State {
@@ -40,9 +53,9 @@ type Row = (TokenKind, usize, bool);
 /// Takes in tokens that stand on one line.
 fn assert_rows(rt: &impl Abort, state: &mut State, rows: &[Row]) -> Result<(), Fail> {
     for (kind, depth, expr_allowed) in rows {
-        state.take(*kind, false, BytePos(0))?;
+        state.take(Some(token(*kind)), false)?;
         assert_eq!(rt; state.contexts.len(), *depth);
-        assert_eq!(rt; state.before.expr_allowed, *expr_allowed);
+        assert_eq!(rt; state.expr_allowed, *expr_allowed);
     }
     Ok(())
 }
@@ -166,7 +179,7 @@ fn signs_leave_the_flag(rt: HostRuntime) -> Result<(), Fail> {
 /// Takes in a token as often as that.
 fn take_many(state: &mut State, kind: TokenKind, times: usize) -> Result<(), AllocError> {
     for _ in 0..times {
-        state.take(kind, false, BytePos(0))?;
+        state.take(Some(token(kind)), false)?;
     }
     Ok(())
 }

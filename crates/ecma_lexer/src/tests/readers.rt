@@ -36,17 +36,17 @@ const OPEN_STRING: &str = "Unterminated string constant";
 
 /// Where something is wrong, and in which words.
 #[derive(Clone, Copy)]
-struct Expected {
+pub(super) struct Expected {
     lo: u32,
     hi: u32,
     message: &'static str,
 }
 
-const fn wrong(lo: u32, hi: u32, message: &'static str) -> Expected {
+pub(super) const fn wrong(lo: u32, hi: u32, message: &'static str) -> Expected {
     Expected { lo, hi, message }
 }
 
-fn assert_error(
+pub(super) fn assert_error(
     rt: &impl Abort,
     alloc: Global,
     error: &Error,
@@ -59,7 +59,7 @@ fn assert_error(
     Ok(())
 }
 
-fn assert_errors(
+pub(super) fn assert_errors(
     rt: &impl Abort,
     alloc: Global,
     errors: &[Error],
@@ -73,7 +73,7 @@ fn assert_errors(
 }
 
 /// Reads to the end, and asserts what is kept, what is recorded and what waits.
-fn assert_read(
+pub(super) fn assert_read(
     rt: &impl Abort,
     alloc: Global,
     lexer: &mut Lexer,
@@ -91,7 +91,7 @@ fn assert_read(
 }
 
 /// The same of a text as ECMAScript with every option off.
-fn assert_text(
+pub(super) fn assert_text(
     rt: &impl Abort,
     alloc: Global,
     text: &str,
@@ -104,7 +104,12 @@ fn assert_text(
 }
 
 /// The first token is an error of its own.
-fn assert_refused(rt: &impl Abort, alloc: Global, text: &str, wrong: Expected) -> Result<(), Fail> {
+pub(super) fn assert_refused(
+    rt: &impl Abort,
+    alloc: Global,
+    text: &str,
+    wrong: Expected,
+) -> Result<(), Fail> {
     let token = first(alloc, text)?;
     match &token.token {
         Token::Error(error) => assert_error(rt, alloc, error, wrong),

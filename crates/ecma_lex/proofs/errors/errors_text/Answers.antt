@@ -1,12 +1,12 @@
 use Rattle.std.proofs.Common.{sym, ◌∙◌}
 use Rattle.ecma_lexer.specs.Session.{lexer_state}
-use Rattle.ecma_lex.proofs.Listing.{errors-end, errors-less, errors-next}
+use Rattle.ecma_lex.proofs.Listing.{errors-end, errors-next, some-less}
 use Rattle.ecma_lex.proofs.errors.errors_text.Goals as goal
 
 pub tokens-smaller : goal.tokens-smaller
 tokens-smaller c =
     let read = c.in_ok-push_next.ensures in
-    errors-less (lexer_state c.tokens.lexer) (lexer_state c.push_next.new.lexer) (sym read.more ∙ c.if-branch.true) read.after
+    some-less (lexer_state c.tokens.lexer) (lexer_state c.push_next.new.lexer) (sym read.more ∙ c.if-branch.true) read.after
 
 pub tokens-preserved : goal.tokens-preserved
 tokens-preserved c =

@@ -1,4 +1,4 @@
-use Rattle.std.proofs.Common.{◌≡◌, ◌++◌, suc, sym, ap, ◌∙◌, map}
+use Rattle.std.proofs.Common.{false, ◌≡◌, ◌++◌, suc, sym, ap, ◌∙◌, map}
 use Rattle.ecma_lexer.specs.Session.{kept_of, lexer_state}
 use Rattle.ecma_lexer.specs.Run.{reading_of}
 use Rattle.ecma_lexer.proofs.EndingLemmas.{so_far-end}
@@ -35,6 +35,6 @@ tokens-preserved c =
 pub returns : goal.returns
 returns c =
     let none = no-kept (reading_of (lexer_state c.tokens.lexer)).found (sym c.in_default.is ∙ c.in_ok-token.ensures.kept) in
-    let s = begin c.args.options c.args.text.now in
+    let s = begin false c.args.options c.args.text.now in
     let ended = so_far-end s c.tokens.invariant.0 (lexer_state c.tokens.lexer) _ c.tokens.invariant.1 none c.in_ok-token.ensures.after in
     c.tokens.invariant.2 ∙ ap (λ ts. lines c.args.text.now (map kept_of ts)) ended.0

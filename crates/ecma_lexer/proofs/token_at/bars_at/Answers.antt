@@ -1,4 +1,4 @@
-use Rattle.std.proofs.Common.{◌≡◌, ap, ◌∙◌, cond, length}
+use Rattle.std.proofs.Common.{ap, ◌∙◌, cond, length}
 use Rattle.ecma_place.specs.Cursor.{rest, place, passed}
 use Rattle.ecma_place.proofs.MoveLemmas.{place-passed-le, span-passed}
 use Rattle.ecma_scan.specs.Bars.{bars_spelling}

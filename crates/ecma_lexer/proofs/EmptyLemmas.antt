@@ -1,0 +1,135 @@
+-- No two tokens without characters stand one after the other.
+use Rattle.std.proofs.Common.{eqb-true, ◌≡◌, ◌∙◌, ℕ, ◌+◌, ◌<◌, ◌==◌, Bool, true, false, ◌&&◌, List, [], ◌∷◌, length, Option, Some, None, refl, sym, subst, ap, arith}
+use Rattle.std.specs.Prelude.{fold}
+use Rattle.std.proofs.lemmas.Option.{none-some}
+use Rattle.ecma_place.proofs.CursorLemmas.{byte_len-cons}
+use Rattle.std.proofs.lemmas.Str.{len_utf8_bounds}
+use Rattle.ecma_place.specs.Text.{Text, byte_len}
+use Rattle.ecma_place.specs.Cursor.{Cursor, rest, place}
+use Rattle.ecma_token.specs.Kinds.{kind_of}
+use Rattle.ecma_token.specs.View.{SpannedView}
+use Rattle.ecma_token.specs.declared.kind.TokenKind.{TokenKind}
+use Rattle.ecma_token.specs.declared.kind.TokenKind.TheVariants.{Template}
+use Rattle.ecma_scan.specs.Readings.{GapView}
+use Rattle.ecma_lexer.specs.EmptyTokens.{EmptyTokensStandAlone, NeverTwoEmpty, is_empty_token}
+use Rattle.ecma_lexer.specs.Mode.{is_tpl_element}
+use Rattle.ecma_lexer.specs.Reading.{behind_gap, gap_in, reading, reading_behind, reading_code, reading_if, shebang_token, stands_shebang}
+use Rattle.ecma_lexer.specs.Run.{act_on, given_in, mode_of, reading_of, start_of}
+use Rattle.ecma_lexer.specs.Session.{Past, Plain, Session, kept_back, seen_of, state_of}
+use Rattle.ecma_lexer.specs.State.{previous}
+use Rattle.ecma_lexer.specs.TokenAt.{token_at}
+use Rattle.ecma_lexer.specs.declared.mode.Mode.{Mode}
+use Rattle.ecma_lexer.specs.declared.step.Step.{Step}
+use Rattle.ecma_lexer.specs.declared.step.Step.TheVariants.{Read, SetCtx, TakeErrors}
+use Rattle.ecma_lexer.proofs.EndLemmas.{token-extent}
+use Rattle.ecma_lexer.proofs.ProgressLemmas.{Nothing, Reads, Something, token-reads}
+
+-- what holds characters is not empty
+
+bytes-some : (text : Text) → 0 < length text → 0 < byte_len text
+bytes-some [] some = absurd (omega (arith, some))
+bytes-some (c ∷ cs) some = omega (arith, byte_len-cons c cs, (len_utf8_bounds c).0)
+
+far-apart : (lo hi n : ℕ) → 0 < n → hi ≡ lo + n → (lo == hi) ≡ true → ⊥
+far-apart lo hi n some reach same = omega (arith, some, reach, eqb-true lo hi same)
+
+-- a token without characters is template text, and none stands before it
+abbrev IsEmptyText : Option TokenKind → SpannedView → Type 0
+IsEmptyText previous t = (is_tpl_element previous ≡ false) × (kind_of t.token ≡ Template)
+
+abbrev span_in : SpannedView → Option SpannedView → ℕ × ℕ
+span_in t None = (0, 0)
+span_in t (Some u) = (u.span.lo.0, u.span.hi.0)
+
+abbrev kind_in : Option SpannedView → Option TokenKind
+kind_in None = None
+kind_in (Some t) = Some (kind_of t.token)
+
+behind-empty : (mode : Mode) (before : GapView) (here : Cursor) (text : Text) (t : SpannedView) → (reading_behind mode before here text).found ≡ Some t → is_empty_token t ≡ true → IsEmptyText mode.previous t
+behind-empty mode before here [] t found empty = absurd (none-some t found)
+behind-empty mode before here (c ∷ cs) t found empty = go (token-reads mode before.line_break c cs)
+  where
+    n : ℕ
+    n = byte_len (token_at mode before.line_break (c ∷ cs)).spelling
+
+    ends : t.span.hi.0 ≡ t.span.lo.0 + n
+    ends =
+        let extent = token-extent mode before.line_break (place here) (c ∷ cs) in
+        let lo = ap (λ e. e.lo.0) (sym extent) ∙ ap (λ p. p.0) (ap (span_in t) found) in
+        let hi = ap (λ e. e.hi.0) (sym extent) ∙ ap (λ p. p.1) (ap (span_in t) found) in
+        sym hi ∙ ap (λ m. m + n) lo
+
+    go : Reads mode before.line_break (c ∷ cs) → IsEmptyText mode.previous t
+    go (Something some) = absurd (far-apart t.span.lo.0 t.span.hi.0 n (bytes-some _ some) ends empty)
+    go (Nothing none is) = (none, (let same : kind_of t.token ≡ Template = some_kind (sym (ap kind_in found) ∙ ap (λ k. Some k) (is (place here))) in same))
+      where
+        some_kind : {k : TokenKind} → Some k ≡ Some Template → k ≡ Template
+        some_kind e = cc
+
+code-empty : (mode : Mode) (input : Cursor) (t : SpannedView) → (reading_code mode input).found ≡ Some t → is_empty_token t ≡ true → IsEmptyText mode.previous t
+unfolding reading_code
+code-empty mode input t found empty =
+    behind-empty mode (gap_in mode (place input) (rest input)) (behind_gap mode input) (rest (behind_gap mode input)) t found empty
+
+reading-empty : (mode : Mode) (input : Cursor) (t : SpannedView) → (reading mode input).found ≡ Some t → is_empty_token t ≡ true → IsEmptyText mode.previous t
+reading-empty mode input t found empty = go (stands_shebang mode (rest input)) found
+  where
+    go : (b : Bool) → (reading_if b mode input).found ≡ Some t → IsEmptyText mode.previous t
+    go true found =
+        let text = (shebang_token (rest input)).spelling in
+        let lo = ap (λ p. p.0) (ap (span_in t) found) in
+        let hi = ap (λ p. p.1) (ap (span_in t) found) in
+        absurd (far-apart t.span.lo.0 t.span.hi.0 (byte_len text) (bytes-some text (omega arith)) (sym hi ∙ ap (λ m. m + byte_len text) lo) empty)
+    go false found = code-empty mode input t found empty
+
+-- what holds of the tokens of a run: of neighbours one holds characters, and where the last holds none it is template text
+record Alone (past : Past) : Type 0 where
+  neighbours : NeverTwoEmpty (kept_back past)
+  last : (t : SpannedView) (ts : List SpannedView) → kept_back past ≡ t ∷ ts → is_empty_token t ≡ true → is_tpl_element (previous (seen_of past)) ≡ true
+
+one-holds : (a b : Bool) → (a ≡ true → b ≡ true → ⊥) → (a && b) ≡ false
+one-holds true true h = absurd (h refl refl)
+one-holds true false h = refl
+one-holds false b h = refl
+
+more-alone : (past : Past) (t : SpannedView) → Alone past → (is_empty_token t ≡ true → IsEmptyText (previous (seen_of past)) t) → Alone (Plain t ∷ past)
+more-alone past t alone empty =
+    record {
+      neighbours = go (kept_back past) refl;
+      last = λ u us same e. at (head-same u us same) e;
+    }
+  where
+    head-same : (u : SpannedView) (us : List SpannedView) → t ∷ kept_back past ≡ u ∷ us → t ≡ u
+    head-same u us same = cc
+
+    at : {u : SpannedView} → t ≡ u → is_empty_token u ≡ true → is_tpl_element (Some (kind_of t.token)) ≡ true
+    at same e = let is : is_empty_token t ≡ true = ap is_empty_token same ∙ e in ap (λ k. is_tpl_element (Some k)) (empty is).1
+
+    go : (ts : List SpannedView) → kept_back past ≡ ts → NeverTwoEmpty (t ∷ ts)
+    go [] e = tt
+    go (u ∷ us) e =
+        let before = alone.last u us e in (
+          one-holds (is_empty_token t) (is_empty_token u)
+              (λ a b. let none : false ≡ true = sym (empty a).0 ∙ before b in cc),
+          subst NeverTwoEmpty e alone.neighbours,
+        )
+
+read-alone : (s : Session) → Alone s.past → Alone (act_on s Read).past
+read-alone s alone = go (reading_of (state_of s)).found refl
+  where
+    go : (found : Option SpannedView) → (reading_of (state_of s)).found ≡ found → Alone (given_in (reading_of (state_of s)).end_flag found ∷ s.past)
+    go None e = record { neighbours = alone.neighbours; last = alone.last }
+    go (Some t) e = more-alone s.past t alone (reading-empty (mode_of (state_of s)) s.input t e)
+
+act-alone : (s : Session) (step : Step) → Alone s.past → Alone (act_on s step).past
+act-alone s Read alone = read-alone s alone
+act-alone s (SetCtx context) alone = alone
+act-alone s TakeErrors alone = alone
+
+fold-alone : (s : Session) (steps : List Step) → Alone s.past → Alone (fold act_on s steps).past
+fold-alone s [] alone = alone
+fold-alone s (step ∷ steps) alone = fold-alone (act_on s step) steps (act-alone s step alone)
+
+pub empty_tokens_stand_alone : EmptyTokensStandAlone
+empty_tokens_stand_alone settings input steps =
+    (fold-alone (start_of settings input) steps record { neighbours = tt; last = λ t ts same e. cc }).neighbours
