@@ -16,11 +16,13 @@ use Rattle.ecma_scan.specs.Readings.{GapView}
 use Rattle.ecma_scan.specs.declared.gap.GapMode.{GapMode}
 use Rattle.ecma_lexer.specs.Mode.{gap_mode}
 use Rattle.ecma_lexer.specs.Attachment.{attachment, for_next, of_next, of_previous, waiting_for}
-use Rattle.ecma_lexer.specs.Collecting.{CollectingChangesNothing, CommentsAreKept, comments_found, count, uncollecting, without_comments}
+use Rattle.ecma_lexer.specs.Collecting.{CollectingChangesNothing, CommentsAreKept, comments_found, count, found_by, uncollecting, without_comments}
 use Rattle.ecma_lexer.specs.Reading.{Reading, behind_gap, gap_in, reading, reading_behind, reading_code, reading_if, spanned, stands_shebang}
-use Rattle.ecma_lexer.specs.Run.{act_on, acted_on, mode_of, reading_of, start_of}
-use Rattle.ecma_lexer.specs.Session.{Session, kept_in, kept_state, state_of}
-use Rattle.ecma_lexer.specs.State.{around_of}
+use Rattle.ecma_lexer.specs.Contexts.{Contexts}
+use Rattle.ecma_lexer.specs.Counting.{counting}
+use Rattle.ecma_lexer.specs.Run.{act_on, acted_on, mode_of, popped_from, reading_from, reading_of, reread_from, start_of}
+use Rattle.ecma_lexer.specs.Session.{Session, kept_in, kept_state, seen_of, state_of}
+use Rattle.ecma_lexer.specs.State.{around_of, last_slash}
 use Rattle.ecma_lexer.specs.TokenAt.{comments_in, opening, placed, read_opened, token_at, token_comments, token_found}
 use Rattle.ecma_lexer.specs.declared.attachment.Around.{Around}
 use Rattle.ecma_lexer.specs.declared.comments_buffer.BufferedComment.{BufferedComment}
@@ -28,7 +30,7 @@ use Rattle.ecma_lexer.specs.declared.mode.Mode.{Mode}
 use Rattle.ecma_lexer.specs.declared.opening.Opening.{Opening}
 use Rattle.ecma_lexer.specs.declared.opening.Opening.TheVariants as opens
 use Rattle.ecma_lexer.specs.declared.step.Step.{Step}
-use Rattle.ecma_lexer.specs.declared.step.Step.TheVariants.{Read, SetCtx, TakeErrors}
+use Rattle.ecma_lexer.specs.declared.step.Step.TheVariants.{Read, SetCtx, SetExprAllowed, SetContexts, PopContext, Reread, Withdraw, Save, Back, TakeErrors}
 
 -- Each comment is kept once
 
@@ -100,22 +102,46 @@ read-keeps passes s =
     ∙ count-append passes (map comment_in s.comments) (map comment_in (attachment around r.comments))
     ∙ ap (λ n. kept passes s + n) (attachment-keeps around passes r.comments)
 
+still-keeps : (passes : Comment → Bool) (s t : Session) → t.comments ≡ s.comments → kept passes t ≡ kept passes s + count passes []
+still-keeps passes s t same =
+    let kept_same : kept passes t ≡ kept passes s = ap (λ comments. count passes (map comment_in comments)) same in
+    let none : count passes [] ≡ 0 = refl in
+    omega (arith, kept_same, none)
+
+popped-comments : (s : Session) (contexts : Contexts) → (popped_from s contexts).after.comments ≡ s.comments
+popped-comments s [] = refl
+popped-comments s (top ∷ below) = refl
+
+reread-comments : (s : Session) (slash : Option BytePos) → (reread_from s slash).after.comments ≡ s.comments
+reread-comments s None = refl
+reread-comments s (Some p) = refl
+
+step-keeps : (passes : Comment → Bool) (s : Session) (step : Step) → kept passes (act_on s step) ≡ kept passes s + count passes (found_by s step)
+step-keeps passes s Read = read-keeps passes s
+step-keeps passes s (SetCtx context) = still-keeps passes s (act_on s (SetCtx context)) refl
+step-keeps passes s (SetExprAllowed allowed) = still-keeps passes s (act_on s (SetExprAllowed allowed)) refl
+step-keeps passes s (SetContexts contexts) = still-keeps passes s (act_on s (SetContexts contexts)) refl
+step-keeps passes s PopContext = still-keeps passes s (act_on s PopContext) (popped-comments s s.contexts)
+step-keeps passes s Reread = still-keeps passes s (act_on s Reread) (reread-comments s (last_slash (seen_of s.past)))
+step-keeps passes s Withdraw = still-keeps passes s (act_on s Withdraw) refl
+step-keeps passes s TakeErrors = still-keeps passes s (act_on s TakeErrors) refl
+step-keeps passes s Save = still-keeps passes s (act_on s Save) refl
+step-keeps passes s (Back n) = still-keeps passes s (act_on s (Back n)) refl
+
 steps-keep : (passes : Comment → Bool) (s : Session) (steps : List Step) → kept passes (fold act_on s steps) ≡ kept passes s + count passes (comments_found s steps)
 steps-keep passes s [] = omega arith
-steps-keep passes s (Read ∷ steps) =
+steps-keep passes s (step ∷ steps) =
     omega (
       arith,
-      read-keeps passes s,
-      steps-keep passes (act_on s Read) steps,
-      count-append passes (comments_in_order (reading_of (state_of s)).comments) (comments_found (act_on s Read) steps),
+      step-keeps passes s step,
+      steps-keep passes (act_on s step) steps,
+      count-append passes (found_by s step) (comments_found (act_on s step) steps),
     )
-steps-keep passes s (SetCtx context ∷ steps) = steps-keep passes (act_on s (SetCtx context)) steps
-steps-keep passes s (TakeErrors ∷ steps) = steps-keep passes (act_on s TakeErrors) steps
 
 pub comments_are_kept : CommentsAreKept
 comments_are_kept settings input steps passes =
     let none : kept passes (start_of settings input) ≡ 0 = refl in
-    let total = steps-keep passes (start_of settings input) steps in
+    let total = steps-keep passes (start_of settings input) (counting steps) in
     omega (arith, none, total)
 
 -- Collecting changes nothing else
@@ -245,22 +271,44 @@ abbrev left_by : Session → Option SpannedView → Bool → List Fault → Curs
 left_by s found end_flag faults input =
     (acted_on s (record { found = found; end_flag = end_flag; faults = faults; comments = []; input = input })).after
 
+either-without : (s : Session) → SameButComments (reading_of (state_of s)) (reading_of (state_of (without_comments s)))
+either-without s = go s.reread
+  where
+    go : (r : Option BytePos) → SameButComments (reading_from r (state_of s)) (reading_from r (state_of (without_comments s)))
+    go None = reading-without (mode_of (state_of s)) s.input
+    go (Some p) = record { found = refl; end_flag = refl; faults = refl; input = refl; comments = refl }
+
 read-bare : (s : Session) → without_comments (act_on s Read) ≡ act_on (without_comments s) Read
 read-bare s =
     let r = reading_of (state_of s) in
     let bare = without_comments s in
     let n = reading_of (state_of bare) in
-    let same = reading-without (mode_of (state_of s)) s.input in
+    let same = either-without s in
     ap (λ x. left_by bare x r.end_flag r.faults r.input) same.found
     ∙ ap (λ x. left_by bare n.found x r.faults r.input) same.end_flag
     ∙ ap (λ x. left_by bare n.found n.end_flag x r.input) same.faults
     ∙ ap (λ x. left_by bare n.found n.end_flag n.faults x) same.input
     ∙ ap (λ x. (acted_on bare (record n { comments = x })).after) (sym same.comments)
 
+popped-bare : (s : Session) (contexts : Contexts) → without_comments (popped_from s contexts).after ≡ (popped_from (without_comments s) contexts).after
+popped-bare s [] = refl
+popped-bare s (top ∷ below) = refl
+
+reread-bare : (s : Session) (slash : Option BytePos) → without_comments (reread_from s slash).after ≡ (reread_from (without_comments s) slash).after
+reread-bare s None = refl
+reread-bare s (Some p) = refl
+
 act-bare : (s : Session) (step : Step) → without_comments (act_on s step) ≡ act_on (without_comments s) step
 act-bare s Read = read-bare s
 act-bare s (SetCtx context) = refl
+act-bare s (SetExprAllowed allowed) = refl
+act-bare s (SetContexts contexts) = refl
+act-bare s PopContext = popped-bare s s.contexts
+act-bare s Reread = reread-bare s (last_slash (seen_of s.past))
+act-bare s Withdraw = refl
 act-bare s TakeErrors = refl
+act-bare s Save = refl
+act-bare s (Back n) = refl
 
 fold-bare : (s : Session) (steps : List Step) → without_comments (fold act_on s steps) ≡ fold act_on (without_comments s) steps
 fold-bare s [] = refl
@@ -268,4 +316,4 @@ fold-bare s (step ∷ steps) =
     fold-bare (act_on s step) steps ∙ ap (λ t. fold act_on t steps) (act-bare s step)
 
 pub collecting_changes_nothing : CollectingChangesNothing
-collecting_changes_nothing settings input steps = fold-bare (start_of settings input) steps
+collecting_changes_nothing settings input steps = fold-bare (start_of settings input) (counting steps)

@@ -1,26 +1,32 @@
 -- No two tokens without characters stand one after the other.
-use Rattle.std.proofs.Common.{eqb-true, ◌≡◌, ◌∙◌, ℕ, ◌+◌, ◌<◌, ◌==◌, Bool, true, false, ◌&&◌, List, [], ◌∷◌, length, Option, Some, None, refl, sym, subst, ap, arith}
-use Rattle.std.specs.Prelude.{fold}
+use Rattle.std.proofs.Common.{eqb-true, ◌≡◌, ◌∙◌, ℕ, ◌+◌, ◌<◌, ◌==◌, Bool, true, false, cond, ◌&&◌, List, [], ◌∷◌, drop, length, Option, Some, None, refl, sym, subst, ap, arith}
+use Rattle.std.specs.Prelude.{fold, is_some}
 use Rattle.std.proofs.lemmas.Option.{none-some}
 use Rattle.ecma_place.proofs.CursorLemmas.{byte_len-cons}
 use Rattle.std.proofs.lemmas.Str.{len_utf8_bounds}
 use Rattle.ecma_place.specs.Text.{Text, byte_len}
 use Rattle.ecma_place.specs.Cursor.{Cursor, rest, place}
+use Rattle.ecma_place.specs.declared.place.BytePos.{BytePos}
 use Rattle.ecma_token.specs.Kinds.{kind_of}
 use Rattle.ecma_token.specs.View.{SpannedView}
 use Rattle.ecma_token.specs.declared.kind.TokenKind.{TokenKind}
 use Rattle.ecma_token.specs.declared.kind.TokenKind.TheVariants.{Template}
+use Rattle.ecma_scan.specs.Expressions.{body_cutter, body_pieces, closed_expression, flags, open_expression, regular_expression}
+use Rattle.ecma_scan.specs.Fronts.{next_is}
+use Rattle.ecma_scan.specs.Pieces.{remainder, spelled}
 use Rattle.ecma_scan.specs.Readings.{GapView}
+use Rattle.ecma_lexer.specs.Contexts.{Contexts}
+use Rattle.ecma_lexer.specs.Counting.{counting}
 use Rattle.ecma_lexer.specs.EmptyTokens.{EmptyTokensStandAlone, NeverTwoEmpty, is_empty_token}
 use Rattle.ecma_lexer.specs.Mode.{is_tpl_element}
-use Rattle.ecma_lexer.specs.Reading.{behind_gap, gap_in, reading, reading_behind, reading_code, reading_if, shebang_token, stands_shebang}
-use Rattle.ecma_lexer.specs.Run.{act_on, given_in, mode_of, reading_of, start_of}
-use Rattle.ecma_lexer.specs.Session.{Past, Plain, Session, kept_back, seen_of, state_of}
-use Rattle.ecma_lexer.specs.State.{previous}
+use Rattle.ecma_lexer.specs.Reading.{Reading, behind_gap, gap_in, reading, reading_again, reading_behind, reading_code, reading_if, shebang_token, stands_shebang}
+use Rattle.ecma_lexer.specs.Run.{act_on, acted_on, at_place, given_in, mode_of, popped_from, reading_from, reread_from, start_of}
+use Rattle.ecma_lexer.specs.Session.{Again, Past, Plain, Session, kept_back, last_flag, seen_of, state_of}
+use Rattle.ecma_lexer.specs.State.{last_slash, previous}
 use Rattle.ecma_lexer.specs.TokenAt.{token_at}
 use Rattle.ecma_lexer.specs.declared.mode.Mode.{Mode}
 use Rattle.ecma_lexer.specs.declared.step.Step.{Step}
-use Rattle.ecma_lexer.specs.declared.step.Step.TheVariants.{Read, SetCtx, TakeErrors}
+use Rattle.ecma_lexer.specs.declared.step.Step.TheVariants.{Read, SetCtx, SetExprAllowed, SetContexts, PopContext, Reread, Withdraw, Save, Back, TakeErrors}
 use Rattle.ecma_lexer.proofs.EndLemmas.{token-extent}
 use Rattle.ecma_lexer.proofs.ProgressLemmas.{Nothing, Reads, Something, token-reads}
 
@@ -114,17 +120,92 @@ more-alone past t alone empty =
           subst NeverTwoEmpty e alone.neighbours,
         )
 
-read-alone : (s : Session) → Alone s.past → Alone (act_on s Read).past
-read-alone s alone = go (reading_of (state_of s)).found refl
+-- a token that is read again holds its slash
+
+expression-some : (text : Text) → 0 < length (regular_expression text).spelling
+expression-some text = go (next_is 47 (remainder body_cutter tt (drop 1 text)))
   where
-    go : (found : Option SpannedView) → (reading_of (state_of s)).found ≡ found → Alone (given_in (reading_of (state_of s)).end_flag found ∷ s.past)
-    go None e = record { neighbours = alone.neighbours; last = alone.last }
-    go (Some t) e = more-alone s.past t alone (reading-empty (mode_of (state_of s)) s.input t e)
+    body : Text
+    body = spelled body_cutter (body_pieces (drop 1 text))
+
+    go : (b : Bool)
+        → 0 < length (cond b (closed_expression body (flags (drop 1 (remainder body_cutter tt (drop 1 text))))) (open_expression (drop 1 text))).spelling
+    go true = omega arith
+    go false = omega arith
+
+again-holds : (flag : Bool) (here : Cursor) (t : SpannedView) → (reading_again flag here).found ≡ Some t → is_empty_token t ≡ false
+again-holds flag here t found = go (is_empty_token t) refl
+  where
+    text : Text
+    text = (regular_expression (rest here)).spelling
+
+    go : (b : Bool) → is_empty_token t ≡ b → b ≡ false
+    go false e = refl
+    go true e =
+        let lo = ap (λ p. p.0) (ap (span_in t) found) in
+        let hi = ap (λ p. p.1) (ap (span_in t) found) in
+        absurd (far-apart t.span.lo.0 t.span.hi.0 (byte_len text) (bytes-some text (expression-some (rest here))) (sym hi ∙ ap (λ m. m + byte_len text) lo) e)
+
+again-alone : (past : Past) (t : SpannedView) → Alone past → is_empty_token t ≡ false → Alone (Again t ∷ past)
+again-alone past t alone holds =
+    record {
+      neighbours = go (kept_back past) alone.neighbours;
+      last = λ u us same e. absurd (never u us same e);
+    }
+  where
+    never : (u : SpannedView) (us : List SpannedView) → t ∷ drop 1 (kept_back past) ≡ u ∷ us → is_empty_token u ≡ true → ⊥
+    never u us same e = let is : t ≡ u = cc in let not_so : false ≡ true = sym holds ∙ ap is_empty_token is ∙ e in cc
+
+    go : (ts : List SpannedView) → NeverTwoEmpty ts → NeverTwoEmpty (t ∷ drop 1 ts)
+    go [] before = tt
+    go (u ∷ []) before = tt
+    go (u ∷ (v ∷ vs)) before = (ap (λ b. b && is_empty_token v) holds, before.1)
+
+plain-alone : (s : Session) (again : Bool) → again ≡ false → Alone s.past
+    → Alone (given_in again (reading (mode_of (state_of s)) s.input).end_flag (reading (mode_of (state_of s)) s.input).found ∷ s.past)
+plain-alone s again plain alone = go (reading (mode_of (state_of s)) s.input).found refl again plain
+  where
+    flag : Bool
+    flag = (reading (mode_of (state_of s)) s.input).end_flag
+
+    go : (found : Option SpannedView) → (reading (mode_of (state_of s)) s.input).found ≡ found → (again : Bool) → again ≡ false → Alone (given_in again flag found ∷ s.past)
+    go None e again plain = record { neighbours = alone.neighbours; last = alone.last }
+    go (Some t) e false plain = more-alone s.past t alone (reading-empty (mode_of (state_of s)) s.input t e)
+    go (Some t) e true plain = cc
+
+read-alone : (s : Session) → Alone s.past → Alone (act_on s Read).past
+read-alone s alone = go s.reread refl
+  where
+    go : (r : Option BytePos) → s.reread ≡ r → Alone (acted_on s (reading_from r (state_of s))).after.past
+    go None e = plain-alone s (is_some s.reread) (ap is_some e) alone
+    go (Some p) e = read_again (is_some s.reread) (ap is_some e)
+      where
+        r : Reading
+        r = reading_again (last_flag s.past) (at_place p s.input)
+
+        read_again : (again : Bool) → again ≡ true → Alone (given_in again r.end_flag r.found ∷ s.past)
+        read_again true same = again-alone s.past _ alone (again-holds (last_flag s.past) (at_place p s.input) _ refl)
+        read_again false same = cc
+
+popped-alone : (s : Session) (contexts : Contexts) → Alone s.past → Alone (popped_from s contexts).after.past
+popped-alone s [] alone = alone
+popped-alone s (top ∷ below) alone = alone
+
+reread-alone : (s : Session) (slash : Option BytePos) → Alone s.past → Alone (reread_from s slash).after.past
+reread-alone s None alone = alone
+reread-alone s (Some p) alone = alone
 
 act-alone : (s : Session) (step : Step) → Alone s.past → Alone (act_on s step).past
 act-alone s Read alone = read-alone s alone
 act-alone s (SetCtx context) alone = alone
+act-alone s (SetExprAllowed allowed) alone = alone
+act-alone s (SetContexts contexts) alone = alone
+act-alone s PopContext alone = popped-alone s s.contexts alone
+act-alone s Reread alone = reread-alone s (last_slash (seen_of s.past)) alone
+act-alone s Withdraw alone = alone
 act-alone s TakeErrors alone = alone
+act-alone s Save alone = alone
+act-alone s (Back n) alone = alone
 
 fold-alone : (s : Session) (steps : List Step) → Alone s.past → Alone (fold act_on s steps).past
 fold-alone s [] alone = alone
@@ -132,4 +213,4 @@ fold-alone s (step ∷ steps) alone = fold-alone (act_on s step) steps (act-alon
 
 pub empty_tokens_stand_alone : EmptyTokensStandAlone
 empty_tokens_stand_alone settings input steps =
-    (fold-alone (start_of settings input) steps record { neighbours = tt; last = λ t ts same e. cc }).neighbours
+    (fold-alone (start_of settings input) (counting steps) record { neighbours = tt; last = λ t ts same e. cc }).neighbours

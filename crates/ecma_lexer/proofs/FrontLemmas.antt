@@ -5,6 +5,9 @@ use Rattle.ecma_place.specs.Text.{Text}
 use Rattle.ecma_place.specs.Character.{is_ident_part, is_ident_start}
 use Rattle.ecma_place.proofs.CharacterLemmas.{is_ident_start-is_ident_part}
 use Rattle.ecma_token.specs.View.{ErrorView}
+use Rattle.std.proofs.lemmas.Bool.{and_parts, eqb-true}
+use Rattle.ecma_scan.specs.Expressions.{opens_expression, regular_expression}
+use Rattle.ecma_scan.specs.Fronts.{begins_with}
 use Rattle.ecma_scan.specs.Bars.{bars_spelling, behind_bars, opens_bars}
 use Rattle.ecma_scan.specs.Escapes.{Escape, Accepted, Refused, InWord, escape_behind}
 use Rattle.ecma_scan.specs.Numbers.{Number, behind_number, found_number, number, number_parts, number_text, opens_number, refusal}
@@ -18,6 +21,7 @@ use Rattle.ecma_scan.proofs.EscapeLaws.{IsFrontOf, escape_size, escape_some}
 use Rattle.ecma_scan.proofs.NumberLaws.{number_front}
 use Rattle.ecma_scan.proofs.NumberLocal.{number_some}
 use Rattle.ecma_scan.proofs.PieceLemmas.{pieces_more, pieces_none}
+use Rattle.ecma_scan.proofs.ExpressionLaws.{expression_is_front}
 use Rattle.ecma_scan.proofs.PunctuatorLemmas.{punctuator-front, punctuator-some}
 use Rattle.ecma_scan.proofs.StringLaws.{string_front}
 use Rattle.ecma_scan.proofs.TemplateLaws.{template_front}
@@ -146,6 +150,17 @@ token_at-some mode flag c cs code =
     go false false false true bars t n w = word-some c cs w
     go false false false false true t n w = omega arith
     go false false false false false t n w = other-some (punctuator_in (type_mode mode) (c ∷ cs)) c cs (punctuator-some (type_mode mode) (c ∷ cs))
+
+begins-front : (spelling text : Text) → begins_with spelling text ≡ true → IsFront spelling text
+begins-front [] text e = refl
+begins-front (x ∷ xs) [] e = cc
+begins-front (x ∷ xs) (c ∷ cs) e =
+    let both = and_parts (c == x) (begins_with xs cs) e in
+    rw (eqb-true c x both.0) (ap (λ l. x ∷ l) (begins-front xs cs both.1))
+
+-- an expression is a front of the text that it opens
+pub expression-front : (text : Text) → opens_expression text ≡ true → IsFront (regular_expression text).spelling text
+expression-front text opens = begins-front (regular_expression text).spelling text (expression_is_front text opens)
 
 -- a shebang is a front of the text that it opens
 pub shebang-front : (text : Text) → opens_shebang text ≡ true → IsFront (shebang_token text).spelling text

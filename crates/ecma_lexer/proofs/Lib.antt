@@ -6,9 +6,11 @@ pub mod EndLemmas
 pub mod EndingLemmas
 pub mod ErrorLemmas
 pub mod FrontLemmas
+pub mod GoingBack
 pub mod OpeningLemmas
 pub mod ProgressLemmas
 pub mod ReadingLemmas
+pub mod SlashLemmas
 pub mod TilingLemmas
 pub mod TokenLemmas
 pub mod TransitionRows

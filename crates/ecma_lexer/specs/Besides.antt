@@ -1,6 +1,5 @@
 -- What a read finds besides the token, as the code has it, and what becomes of that.
-use Rattle.std.specs.Prelude.{◌≡◌, ◌≤◌, ◌++◌, ⊤, Bool, List, [], map, Option, Some, None}
-use Rattle.ecma_place.specs.Cursor.{Cursor, place}
+use Rattle.std.specs.Prelude.{◌≡◌, ◌++◌, Bool, List, [], map, Option}
 use Rattle.ecma_place.specs.declared.comment.Comment.{Comment}
 use Rattle.ecma_scan.specs.Found.{Fault, fault_view}
 use Rattle.ecma_lexer.specs.Disposition.{with_faults}
@@ -39,11 +38,6 @@ state_taking l answer b =
       errors = with_faults l.context l.errors b.faults;
       comments = comments_behind l.comments l.state answer b.comments;
     }
-
--- a token that was read does not begin behind the cursor's place
-abbrev pub OpensBehind : Option Kept → Cursor → Type 0
-OpensBehind None input = ⊤
-OpensBehind (Some t) input = t.span.lo.0 ≤ place input
 
 -- neither is anything wrong nor a comment there
 abbrev pub TakesNone : Besides → Type 0

@@ -1,5 +1,5 @@
--- A text is read to its end by enough reads.
-use Rattle.std.specs.Prelude.{ℕ, ◌+◌, ◌*◌, ◌<◌, ◌≤◌, ◌≡◌, true, List, [], Option, Some, fold, length, replicate, reverse, if◌then◌else◌}
+-- A text is read to its end by enough reads, where none reads again from a slash.
+use Rattle.std.specs.Prelude.{ℕ, ◌+◌, ◌*◌, ◌<◌, ◌≤◌, ◌≡◌, true, List, [], Option, Some, None, fold, length, replicate, reverse, if◌then◌else◌}
 use Rattle.ecma_place.specs.Text.{byte_len}
 use Rattle.ecma_place.specs.Cursor.{Cursor, rest}
 use Rattle.ecma_token.specs.View.{SpannedView}
@@ -44,7 +44,7 @@ pub record IsReadOut (s : Session) (n : ℕ) : Type 0 where
   pub same_comments : (behind_reads n s).comments ≡ (read_out s).comments
 
 abbrev pub ReadsOut : Type 0
-ReadsOut = (s : Session) (n : ℕ) → enough s.input ≤ n → IsReadOut s n
+ReadsOut = (s : Session) (n : ℕ) → s.reread ≡ None → enough s.input ≤ n → IsReadOut s n
 
 -- the tokens that a session comes to, in order, the errors and the comments: those of enough reads
 unfoldable pub tokens_of : Session → List SpannedView
@@ -58,6 +58,6 @@ comments_of s = (read_out s).comments
 
 -- Laws
 
--- each token leaves fewer that may come
+-- each token leaves fewer that may come, where none is read again
 abbrev pub TokensRunOut : Type 0
-TokensRunOut = (l : LexerState) (t : SpannedView) → (reading_of l).found ≡ Some t → most_tokens (state_behind l (reading_of l)) < most_tokens l
+TokensRunOut = (l : LexerState) (t : SpannedView) → l.reread ≡ None → (reading_of l).found ≡ Some t → most_tokens (state_behind l (reading_of l)) < most_tokens l

@@ -3,15 +3,18 @@ pub mod Besides
 pub mod Buffers
 pub mod Collecting
 pub mod Contexts
+pub mod Counting
 pub mod Disposition
 pub mod EmptyTokens
 pub mod Ending
 pub mod Errors
+pub mod Excursion
 pub mod HandOver
 pub mod Mode
 pub mod Reading
 pub mod Run
 pub mod Session
+pub mod Slashes
 pub mod State
 pub mod Tiling
 pub mod TokenAt
@@ -22,6 +25,7 @@ pub use Rattle.ecma_place.specs.Cursor
 pub use Rattle.ecma_place.specs.Text
 pub use Rattle.ecma_scan.specs.Bars
 pub use Rattle.ecma_scan.specs.Comments
+pub use Rattle.ecma_scan.specs.Expressions
 pub use Rattle.ecma_scan.specs.Found
 pub use Rattle.ecma_scan.specs.Gaps
 pub use Rattle.ecma_scan.specs.Numbers

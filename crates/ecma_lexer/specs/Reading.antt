@@ -7,13 +7,14 @@ use Rattle.ecma_place.specs.Atom.{borrowed_atom}
 use Rattle.ecma_token.specs.View.{TokenView, SpannedView, plain_token}
 use Rattle.ecma_token.specs.declared.token.Token.{Shebang}
 use Rattle.ecma_scan.specs.Found.{Fault, FoundView, Scanned, found_at, scanned, token_behind}
+use Rattle.ecma_scan.specs.Expressions.{regular_expression}
 use Rattle.ecma_scan.specs.Fronts.{line}
 use Rattle.ecma_scan.specs.Comments.{comments_at}
 use Rattle.ecma_scan.specs.Gaps.{gap_spelling, has_line_break, gap_faults_at}
 use Rattle.ecma_scan.specs.Readings.{GapView}
 use Rattle.ecma_scan.specs.Shebangs.{opens_shebang}
 use Rattle.ecma_lexer.specs.Mode.{gap_mode}
-use Rattle.ecma_lexer.specs.TokenAt.{token_at, token_comments, token_found, token_of, is_empty, is_free_at}
+use Rattle.ecma_lexer.specs.TokenAt.{token_at, token_comments, token_found, token_of, is_borrowed, is_empty, is_free_at}
 use Rattle.ecma_lexer.specs.declared.mode.Mode.{Mode}
 
 -- What a read finds: a token, or the end with the flag before it, what is wrong, in order, the comments of the gap and of
@@ -87,6 +88,20 @@ shebang_reading here =
     []
     (passed (length (shebang_token (rest here)).spelling) here)
 
+-- what is read again from the slash at which a cursor stands, with the slash's flag: a regular expression, or why there
+-- is none (ECMA-262 InputElementRegExp, 12)
+
+abbrev gap_with : Bool → GapView
+gap_with flag = record { line_break = flag; faults = []; comments = [] }
+
+abbrev pub reading_again : Bool → Cursor → Reading
+reading_again flag here =
+    token_reading
+    (gap_with flag)
+    (found_at token_behind (place here) (regular_expression (rest here)))
+    []
+    (passed (length (regular_expression (rest here)).spelling) here)
+
 -- what a read finds where no shebang stands
 unfoldable pub reading_code : Mode → Cursor → Reading
 reading_code mode input =
@@ -114,6 +129,11 @@ is_free_code mode input =
 -- a shebang takes none
 abbrev pub is_free : Mode → Cursor → Bool
 is_free mode input = stands_shebang mode (rest input) || is_free_code mode input
+
+-- so does one that reads again where nothing is wrong and no flag is escaped
+abbrev pub is_free_again : Text → Bool
+is_free_again text =
+    is_borrowed (regular_expression text).value && is_empty (regular_expression text).faults
 
 -- Laws
 

@@ -1,22 +1,24 @@
 -- What a list of steps answers, and where it comes to.
-use Rattle.std.specs.Prelude.{Bool, true, false, List, [], ◌∷◌, ◌++◌, Option, Some, None, fold, is_none}
-use Rattle.ecma_place.specs.Cursor.{Cursor, place}
+use Rattle.std.specs.Prelude.{Bool, true, false, List, [], ◌∷◌, ◌++◌, Option, Some, None, fold, is_none, is_some, slice_get}
+use Rattle.ecma_place.specs.Cursor.{Cursor, index_of, moved_to, place, rest}
 use Rattle.ecma_place.specs.declared.comment.Comment.{Comment}
+use Rattle.ecma_place.specs.declared.place.BytePos.{BytePos}
 use Rattle.ecma_token.specs.View.{SpannedView, ErrorView}
 use Rattle.ecma_syntax.specs.declared.context.Context.{Context}
 use Rattle.ecma_lexer.specs.Attachment.{attachment}
 use Rattle.ecma_lexer.specs.Contexts.{Contexts, innermost}
+use Rattle.ecma_lexer.specs.Counting.{Counted, count_step, counting, none_yet}
 use Rattle.ecma_lexer.specs.Disposition.{Recorded, disposed, of_module_mode, no_errors, none_recorded, with_faults, with_context}
 use Rattle.ecma_lexer.specs.declared.comments_buffer.BufferedComment.{BufferedComment}
 use Rattle.ecma_lexer.specs.declared.kept.Kept.{Kept}
 use Rattle.ecma_lexer.specs.declared.mode.Mode.{Mode}
 use Rattle.ecma_lexer.specs.declared.settings.Settings.{Settings}
 use Rattle.ecma_lexer.specs.declared.step.Step.{Step}
-use Rattle.ecma_lexer.specs.declared.step.Step.TheVariants.{Read, SetCtx, TakeErrors}
+use Rattle.ecma_lexer.specs.declared.step.Step.TheVariants.{Read, SetCtx, SetExprAllowed, SetContexts, PopContext, Reread, Withdraw, Save, Back, TakeErrors}
 use Rattle.ecma_lexer.specs.declared.token_context.TokenContext.TheVariants.{BraceStmt}
-use Rattle.ecma_lexer.specs.Reading.{Reading, reading}
-use Rattle.ecma_lexer.specs.Session.{Given, Plain, AtEnd, LexerState, Session, kept_in, kept_state, state_of}
-use Rattle.ecma_lexer.specs.State.{StateKept, around_of, behind_answer, opened_by, previous, turned_by}
+use Rattle.ecma_lexer.specs.Reading.{Reading, is_free, is_free_again, reading, reading_again}
+use Rattle.ecma_lexer.specs.Session.{Given, Plain, Again, AtEnd, LexerState, Session, kept_in, kept_state, seen_of, state_of}
+use Rattle.ecma_lexer.specs.State.{StateKept, around_of, behind_answer, last_slash, opened_by, previous, turned_by}
 
 -- what the next read goes by besides the text
 abbrev pub mode_of : LexerState → Mode
@@ -31,16 +33,37 @@ mode_of l =
       opened = l.state.opened;
     }
 
--- what the next read finds
+-- the cursor at a place of its text
+abbrev pub at_place : BytePos → Cursor → Cursor
+at_place p input = moved_to (index_of input p.0) input
+
+abbrev pub reading_from : Option BytePos → LexerState → Reading
+reading_from None l = reading (mode_of l) l.input
+reading_from (Some slash) l = reading_again l.state.seen.flag (at_place slash l.input)
+
+-- what the next read finds: from the slash on that is read again, while there is one
 abbrev pub reading_of : LexerState → Reading
-reading_of l = reading (mode_of l) l.input
+reading_of l = reading_from l.reread l
 
-abbrev pub given_in : Bool → Option SpannedView → Given
-given_in flag None = AtEnd flag
-given_in flag (Some t) = Plain t
+-- the next read takes no memory where fewer than 128 contexts stand
+abbrev pub is_free_from : Option BytePos → LexerState → Bool
+is_free_from None l = is_free (mode_of l) l.input
+is_free_from (Some slash) l = is_free_again (rest (at_place slash l.input))
 
-abbrev pub given_of : Reading → Given
-given_of r = given_in r.end_flag r.found
+abbrev pub is_free_read : LexerState → Bool
+is_free_read l = is_free_from l.reread l
+
+abbrev token_given : Bool → SpannedView → Given
+token_given true t = Again t
+token_given false t = Plain t
+
+-- an answer of a read, by whether it read again
+abbrev pub given_in : Bool → Bool → Option SpannedView → Given
+given_in again flag None = AtEnd flag
+given_in again flag (Some t) = token_given again t
+
+abbrev pub given_of : Bool → Reading → Given
+given_of again r = given_in again r.end_flag r.found
 
 -- the comments behind a read that answers this: those that it found are attached
 abbrev pub comments_behind : List BufferedComment → StateKept → Option Kept → List (Comment × Bool) → List BufferedComment
@@ -77,6 +100,10 @@ state_allowing expr_allowed l = record l { state = record l.state { expr_allowed
 abbrev pub state_with_contexts : Contexts → LexerState → LexerState
 state_with_contexts contexts l = record l { state = record l.state { contexts = contexts } }
 
+-- the lexer that reads again from a slash, or no longer does
+abbrev pub state_rereading : Option BytePos → LexerState → LexerState
+state_rereading slash l = record l { reread = slash }
+
 -- the lexer with other comments
 abbrev pub state_with_comments : List BufferedComment → LexerState → LexerState
 state_with_comments comments l = record l { comments = comments }
@@ -88,6 +115,12 @@ pub data Answer : Type 0 where
   -- the step was taken, and there is nothing to tell
   Done : Answer
   Errors' : List ErrorView → Answer
+  -- the last answer was no slash
+  NoSlash : Answer
+  -- there is no such save
+  NoSave : Answer
+  -- there is no context
+  NoContext : Answer
 
 abbrev pub answer_in : Option SpannedView → Answer
 answer_in None = End
@@ -109,17 +142,34 @@ acted_on s r =
             opened = opened_by (kept_state s) (kept_in r.found);
             errors = with_faults s.context s.errors r.faults;
             comments = comments_behind s.comments (kept_state s) (kept_in r.found) r.comments;
-            past = given_of r ∷ s.past;
+            past = given_of (is_some s.reread) r ∷ s.past;
           };
       answer = answer_in r.found;
     }
 
--- one step
+abbrev done : Session → Acted
+done s = record { after = s; answer = Done }
+
+abbrev pub reread_from : Session → Option BytePos → Acted
+reread_from s (Some slash) = done (record s { reread = Some slash })
+reread_from s None = record { after = s; answer = NoSlash }
+
+abbrev pub popped_from : Session → Contexts → Acted
+popped_from s [] = record { after = s; answer = NoContext }
+popped_from s (top ∷ below) = done (record s { contexts = below })
+
+-- one step that counts; saves and ways back change nothing by themselves
 abbrev pub act : Session → Step → Acted
 act s Read = acted_on s (reading_of (state_of s))
-act s (SetCtx context) =
-    record { after = record s { context = context; errors = with_context context s.errors }; answer = Done }
+act s (SetCtx context) = done (record s { context = context; errors = with_context context s.errors })
+act s (SetExprAllowed allowed) = done (record s { expr_allowed = allowed })
+act s (SetContexts contexts) = done (record s { contexts = contexts })
+act s PopContext = popped_from s s.contexts
+act s Reread = reread_from s (last_slash (seen_of s.past))
+act s Withdraw = done (record s { reread = None })
 act s TakeErrors = record { after = record s { errors = none_recorded s.errors }; answer = Errors' s.errors.recorded }
+act s Save = done s
+act s (Back n) = done s
 
 -- no flag is set
 abbrev pub no_context : Context
@@ -166,6 +216,7 @@ start_of settings input =
       contexts = BraceStmt ∷ [];
       expr_allowed = true;
       opened = record { 0 = place input };
+      reread = None;
       errors = no_errors;
       comments = [];
       past = [];
@@ -174,14 +225,35 @@ start_of settings input =
 abbrev pub act_on : Session → Step → Session
 act_on s step = (act s step).after
 
--- where a list of steps comes to
-abbrev pub session : Settings → Cursor → List Step → Session
-session settings input steps = fold act_on (start_of settings input) steps
+-- where counting steps lead from a session
+abbrev pub act_all : Session → List Step → Session
+act_all s steps = fold act_on s steps
 
-abbrev pub answers_from : Session → List Step → List Answer
-answers_from s [] = []
-answers_from s (step ∷ steps) = (act s step).answer ∷ answers_from (act_on s step) steps
+-- where a list of steps comes to: where those that count lead
+abbrev pub session : Settings → Cursor → List Step → Session
+session settings input steps = act_all (start_of settings input) (counting steps)
+
+abbrev pub back_answer : Option (List Step) → Answer
+back_answer (Some steps) = Done
+back_answer None = NoSave
+
+-- what a step answers behind those that count so far
+abbrev pub answer_behind : Session → Counted → Step → Answer
+answer_behind begin c Save = Done
+answer_behind begin c (Back n) = back_answer (slice_get c.saves n)
+answer_behind begin c Read = (act (act_all begin c.steps) Read).answer
+answer_behind begin c (SetCtx context) = (act (act_all begin c.steps) (SetCtx context)).answer
+answer_behind begin c (SetExprAllowed allowed) = (act (act_all begin c.steps) (SetExprAllowed allowed)).answer
+answer_behind begin c (SetContexts contexts) = (act (act_all begin c.steps) (SetContexts contexts)).answer
+answer_behind begin c PopContext = (act (act_all begin c.steps) PopContext).answer
+answer_behind begin c Reread = (act (act_all begin c.steps) Reread).answer
+answer_behind begin c Withdraw = (act (act_all begin c.steps) Withdraw).answer
+answer_behind begin c TakeErrors = (act (act_all begin c.steps) TakeErrors).answer
+
+abbrev pub answers_behind : Session → Counted → List Step → List Answer
+answers_behind begin c [] = []
+answers_behind begin c (step ∷ steps) = answer_behind begin c step ∷ answers_behind begin (count_step c step) steps
 
 -- what each step of a list answers
 abbrev pub run : Settings → Cursor → List Step → List Answer
-run settings input steps = answers_from (start_of settings input) steps
+run settings input steps = answers_behind (start_of settings input) none_yet steps

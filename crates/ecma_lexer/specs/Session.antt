@@ -1,5 +1,5 @@
 -- What steps have come to, and what is read off the answers that were given.
-use Rattle.std.specs.Prelude.{Bool, true, false, ◌&&◌, List, [], ◌∷◌, Option, Some, None, option_map}
+use Rattle.std.specs.Prelude.{Bool, true, false, ◌&&◌, List, [], ◌∷◌, drop, Option, Some, None, option_map}
 use Rattle.ecma_place.specs.Cursor.{Cursor}
 use Rattle.ecma_token.specs.Kinds.{kind_of}
 use Rattle.ecma_token.specs.View.{SpannedView}
@@ -14,9 +14,10 @@ use Rattle.ecma_lexer.specs.declared.kept.Kept.{Kept}
 use Rattle.ecma_lexer.specs.declared.kept.Seen.{Seen}
 use Rattle.ecma_lexer.specs.declared.settings.Settings.{Settings}
 
--- what a read answered: a token, or the end with the flag before it
+-- what a read answered: a token, a token that was read again from a slash, or the end with the flag before it
 pub data Given : Type 0 where
   Plain : SpannedView → Given
+  Again : SpannedView → Given
   AtEnd : Bool → Given
 
 -- the newest stands first
@@ -35,28 +36,32 @@ kept_in found = option_map kept_of found
 abbrev pub is_first : Past → Bool
 is_first [] = true
 is_first (Plain t ∷ past) = is_shebang (kind_of t.token) && is_first past
+is_first (Again t ∷ past) = is_shebang (kind_of t.token) && is_first past
 is_first (AtEnd flag ∷ past) = is_first past
 
 -- the token that was given last
 abbrev pub last_kept : Past → Option Kept
 last_kept [] = None
 last_kept (Plain t ∷ past) = Some (kept_of t)
+last_kept (Again t ∷ past) = Some (kept_of t)
 last_kept (AtEnd flag ∷ past) = last_kept past
 
 -- the flag of the last answer
 abbrev pub last_flag : Past → Bool
 last_flag [] = false
 last_flag (Plain t ∷ past) = t.had_line_break
+last_flag (Again t ∷ past) = t.had_line_break
 last_flag (AtEnd flag ∷ past) = flag
 
 abbrev pub has_ended : Past → Bool
 has_ended (AtEnd flag ∷ past) = true
 has_ended _ = false
 
--- the tokens that are kept, the newest first
+-- the tokens that are kept, the newest first: one that was read again stands in the place of the last
 abbrev pub kept_back : Past → List SpannedView
 kept_back [] = []
 kept_back (Plain t ∷ past) = t ∷ kept_back past
+kept_back (Again t ∷ past) = t ∷ drop 1 (kept_back past)
 kept_back (AtEnd flag ∷ past) = kept_back past
 
 -- What steps have come to
@@ -72,6 +77,8 @@ pub record Session : Type 0 where
   pub expr_allowed : Bool
   -- where the back quote stands that opened a template last; the start place where none did
   pub opened : BytePos
+  -- the slash that each read begins at, while there is one
+  pub reread : Option BytePos
   pub errors : Errors
   -- those that have their token, in order
   pub comments : List BufferedComment
@@ -88,6 +95,8 @@ pub record LexerState : Type 0 where
   pub input : Cursor
   pub context : Context
   pub state : StateKept
+  -- the slash that the next read begins at, where it reads again
+  pub reread : Option BytePos
   pub errors : Errors
   pub comments : List BufferedComment
   -- whether memory was refused
@@ -106,6 +115,7 @@ state_of s =
       input = s.input;
       context = s.context;
       state = kept_state s;
+      reread = s.reread;
       errors = s.errors;
       comments = s.comments;
       refused = false;
@@ -117,6 +127,7 @@ pub record LexerKept : Type 0 where
   pub input : Cursor
   pub context : Context
   pub state : StateKept
+  pub reread : Option BytePos
   pub errors : ErrorsKept
   pub comments : List BufferedComment
   pub refused : Bool
@@ -129,6 +140,7 @@ lexer_state l =
       input = l.input;
       context = l.context;
       state = l.state;
+      reread = l.reread;
       errors = errors_view l.errors;
       comments = l.comments;
       refused = l.refused;

@@ -2,7 +2,9 @@
 use Rattle.std.specs.Prelude.{Bool, true, false, not, ◌&&◌, [], ◌∷◌, Option, Some, None, option_map, if◌then◌else◌}
 use Rattle.ecma_place.specs.declared.place.BytePos.{BytePos}
 use Rattle.ecma_token.specs.declared.kind.TokenKind.{TokenKind}
-use Rattle.ecma_token.specs.declared.kind.TokenKind.TheVariants.{BackQuote, Shebang}
+use Rattle.ecma_syntax.specs.declared.operator.AssignOp.TheVariants.{DivAssign}
+use Rattle.ecma_syntax.specs.declared.operator.BinOpToken.TheVariants.{Div}
+use Rattle.ecma_token.specs.declared.kind.TokenKind.TheVariants.{AssignOp, BackQuote, BinOp, Shebang}
 use Rattle.ecma_lexer.specs.Contexts.{Contexts}
 use Rattle.ecma_lexer.specs.Transition.{Turned, tpl_on_top, transition, turned}
 use Rattle.ecma_lexer.specs.declared.attachment.Around.{Around}
@@ -28,6 +30,20 @@ seen_behind seen end_flag None = record { first = seen.first; last = seen.last; 
 -- the kind of the token before
 abbrev pub previous : Seen → Option TokenKind
 previous seen = option_map (λ t. t.kind) seen.last
+
+-- the token is `/` or `/=`
+abbrev pub is_slash : TokenKind → Bool
+is_slash (BinOp Div) = true
+is_slash (AssignOp DivAssign) = true
+is_slash _ = false
+
+abbrev pub slash_in : Option Kept → Option BytePos
+slash_in None = None
+slash_in (Some t) = if is_slash t.kind then Some t.span.lo else None
+
+-- where the slash stands that was answered last
+abbrev pub last_slash : Seen → Option BytePos
+last_slash seen = if seen.ended then None else slash_in seen.last
 
 -- its flag, which is false where there is none
 abbrev pub flag_of : Option Kept → Bool

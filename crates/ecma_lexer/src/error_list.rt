@@ -1,5 +1,6 @@
 //! Errors in order.
-ghost use Rattle.std.specs.Prelude.{◌≡◌, ◌++◌, ◌∷◌, ◌==◌, [], length, take, OnOk, OnErr, IfErr, IsOk};
+ghost use Rattle.std.specs.Prelude.{◌≡◌, ◌++◌, ◌∷◌, ◌==◌, [], length, map, take, OnOk, OnErr, IfErr, IfOk, IsOk};
+ghost use Rattle.ecma_token.specs.View.{error_view};
 
 use ecma_token::Error;
 use std::alloc::{AllocError, Global};
@@ -23,6 +24,17 @@ impl<'a> Model for ErrorList<'a> {
     ghost coded = { Prim.hlevel (codes, (e.the_row static_lft).coded) };
 
     ghost view = { λ list. list.errors.items };
+}
+
+/// Copies of these errors.
+fn copies<'a>(alloc: Global, errors: &[Error<'a>]) -> Result<Vec<Error<'a>>, AllocError>
+    ensures { IfOk result (λ copies. map error_view copies.items ≡ map error_view errors.now) }
+{
+    let mut copies = Vec::new(alloc);
+    'errors: for error in errors {
+        copies.push(error.copy(alloc)?)?;
+    }
+    Ok(copies)
 }
 
 impl<'a> ErrorList<'a> {
@@ -86,6 +98,19 @@ impl<'a> ErrorList<'a> {
             return Ok(());
         }
         self.errors.append(&mut other.errors)
+    }
+
+    /// The same errors, which takes memory for each.
+    ///
+    /// # Errors
+    ///
+    /// `AllocError` where there is no memory for them.
+    pub fn copy(&self, alloc: Global) -> Result<ErrorList<'a>, AllocError>
+        ensures { IfOk result (λ copy. map error_view copy ≡ map error_view self.now) }
+    {
+        Ok(ErrorList {
+            errors: copies(alloc, self.errors.as_slice())?,
+        })
     }
 
     /// Keeps the first `len` errors alone.

@@ -1,5 +1,5 @@
 //! What becomes of what is wrong.
-ghost use Rattle.std.specs.Prelude.{◌≡◌, ◌++◌, ◌≤◌, [], false, length, map, take, OnOk, OnErr, IfErr, IsOk};
+ghost use Rattle.std.specs.Prelude.{◌≡◌, ◌++◌, ◌≤◌, [], false, length, map, take, OnOk, OnErr, IfErr, IfOk, IsOk};
 ghost use Rattle.ecma_token.specs.View.{error_view};
 ghost use Rattle.ecma_scan.specs.Found.{fault_view};
 ghost use Rattle.ecma_lexer.specs.Disposition as dispose;
@@ -43,6 +43,20 @@ impl<'a> ErrorLists<'a> {
             recorded: ErrorList::new(alloc),
             waiting: ErrorList::new(alloc),
         }
+    }
+
+    /// The same errors, which takes memory for each.
+    ///
+    /// # Errors
+    ///
+    /// `AllocError` where there is no memory for them.
+    pub fn copy(&self, alloc: Global) -> Result<ErrorLists<'a>, AllocError>
+        ensures { IfOk result (λ copy. errors_view copy ≡ errors_view self.now) }
+    {
+        Ok(ErrorLists {
+            recorded: self.recorded.copy(alloc)?,
+            waiting: self.waiting.copy(alloc)?,
+        })
     }
 
     /// Takes in an error that counts whatever the code is, unless errors are ignored.

@@ -3,9 +3,10 @@ ghost use Rattle.std.specs.Prelude.{◌≡◌, option_map};
 ghost use Rattle.ecma_token.specs.View.{spanned_view};
 ghost use Rattle.ecma_lexer.specs.Session.{kept_of, kept_in};
 ghost use Rattle.ecma_lexer.specs.State as grammar;
-ghost use Rattle.ecma_lexer.specs.State.{none_seen, seen_behind, previous, flag_of};
+ghost use Rattle.ecma_lexer.specs.State.{none_seen, seen_behind, previous, flag_of, last_slash};
 
-use ecma_place::Span;
+use ecma_place::{BytePos, Span};
+use ecma_syntax::{AssignOp, BinOpToken};
 use ecma_token::{TokenAndSpan, TokenKind};
 
 /// What is kept of a token that was given.
@@ -71,6 +72,16 @@ fn is_shebang(kind: TokenKind) -> bool
     matches!(kind, TokenKind::Shebang)
 }
 
+/// Whether the token is `/` or `/=`.
+fn is_slash(kind: TokenKind) -> bool
+    ensures { result ≡ grammar.is_slash kind }
+{
+    matches!(
+        kind,
+        TokenKind::BinOp(BinOpToken::Div) | TokenKind::AssignOp(AssignOp::DivAssign)
+    )
+}
+
 impl Seen {
     /// Before any answer.
     pub(crate) fn none() -> Seen
@@ -109,6 +120,16 @@ impl Seen {
         ensures { result ≡ previous self }
     {
         self.last.map(|token| token.kind)
+    }
+
+    /// Where the slash stands that was answered last, if the last answer was one.
+    pub(crate) fn last_slash(self) -> Option<BytePos>
+        ensures { result ≡ last_slash self }
+    {
+        match self.last {
+            Some(token) if !self.ended && is_slash(token.kind) => Some(token.span.lo),
+            _ => None,
+        }
     }
 
     /// The flag of the token that was given last; false where there is none.

@@ -1,6 +1,7 @@
 //! Laws over the definitions alone.
 ghost use Rattle.ecma_lexer.specs.Collecting.{CollectingChangesNothing, CommentsAreKept};
 ghost use Rattle.ecma_lexer.specs.EmptyTokens.{EmptyTokensStandAlone};
+ghost use Rattle.ecma_lexer.specs.Excursion.{GoingBackUndoes};
 ghost use Rattle.ecma_lexer.specs.Ending.{ReadsOut, TokensRunOut};
 ghost use Rattle.ecma_lexer.specs.Reading.{ReadingIsDetermined};
 ghost use Rattle.ecma_lexer.specs.Tiling.{Tiles};
@@ -37,6 +38,11 @@ pub fn tokens_run_out()
 /// No two tokens without characters stand one after the other.
 pub fn empty_tokens_stand_alone()
     ensures { EmptyTokensStandAlone }
+{}
+
+/// Going back undoes all that came since the save, whatever that was: what follows answers as if it had never been.
+pub fn going_back_undoes()
+    ensures { GoingBackUndoes }
 {}
 
 /// Collecting comments changes no token, flag or error, nor anything else but the comments.

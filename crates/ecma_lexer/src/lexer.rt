@@ -1,11 +1,11 @@
 //! The lexer.
 ghost use Rattle.std.specs.Prelude.{◌≡◌, ◌<◌, true, false, None, Err, alloc_error, length, map, option_map, IfOk, IsOk, OnOk, OnErr};
 ghost use Rattle.ecma_token.specs.View.{error_view, spanned_view};
-ghost use Rattle.ecma_lexer.specs.Besides.{IsBeside, OpensBehind, TakesNone, seen_beside, state_taking};
-ghost use Rattle.ecma_lexer.specs.Reading.{is_free};
-ghost use Rattle.ecma_lexer.specs.Session.{Session, lexer_state, state_of};
+ghost use Rattle.ecma_lexer.specs.Besides.{IsBeside, TakesNone, seen_beside, state_taking};
+ghost use Rattle.ecma_lexer.specs.Slashes.{IsAnswer, MayReread, slash_answered};
+ghost use Rattle.ecma_lexer.specs.Session.{Session, kept_in, lexer_state, state_of};
 ghost use Rattle.ecma_lexer.specs.declared.step.Step.{Step};
-ghost use Rattle.ecma_lexer.specs.Run.{act, answer_in, mode_of, reading_of, start_of, state_behind};
+ghost use Rattle.ecma_lexer.specs.Run.{act, answer_in, is_free_read, mode_of, reading_of, start_of, state_allowing, state_behind, state_rereading};
 
 use crate::commented::Commented;
 use crate::comments_buffer::CommentsBuffer;
@@ -13,7 +13,7 @@ use crate::error_list::ErrorList;
 use crate::errors::ErrorLists;
 use crate::kept::Kept;
 use crate::mode::Mode;
-use crate::read::{Besides, Reading, read_from};
+use crate::read::{Besides, Reading, read_again, read_from};
 use crate::settings::Settings;
 use crate::state::State;
 use crate::token_contexts::TokenContexts;
@@ -33,6 +33,8 @@ pub struct Lexer<'a> {
     input: StringInput<'a>,
     context: Context,
     state: State,
+    /// The slash that the next read begins at, where it reads again.
+    reread: Option<BytePos>,
     errors: ErrorLists<'a>,
     comments: CommentsBuffer<'a>,
     refused: bool,
@@ -79,6 +81,7 @@ impl<'a> Lexer<'a> {
             input,
             context: Context::default(),
             state: State::new(alloc, syntax, start),
+            reread: None,
             errors: ErrorLists::new(alloc),
             comments: CommentsBuffer::new(alloc),
             refused: false,
@@ -101,6 +104,55 @@ impl<'a> Lexer<'a> {
         self.errors.waiting.as_slice()
     }
 
+    /// Says whether an expression may begin.
+    pub fn set_expr_allowed(&mut self, allow: bool)
+        ensures { lexer_state self.new ≡ state_allowing allow (lexer_state self.old) }
+    {
+        self.state.expr_allowed = allow;
+    }
+
+    /// The place of the last answer, where that was `/` or `/=`. None where memory was refused.
+    pub fn last_slash(&self) -> Option<BytePos>
+        ensures { result ≡ slash_answered (lexer_state self.now) }
+    {
+        if self.refused {
+            return None;
+        }
+        self.state.seen.last_slash()
+    }
+
+    /// Has each read begin at this slash, until this is called again: it is read again as a regular expression, with the
+    /// slash's flag, and its token takes the place of the slash.
+    ///
+    /// `start` is `None`, which has reads go on behind what was read last, or the answer of [`Lexer::last_slash`].
+    pub fn set_next_regexp(&mut self, start: Option<BytePos>)
+        requires { MayReread start (lexer_state self.old) }
+        ensures { lexer_state self.new ≡ state_rereading start (lexer_state self.old) }
+    {
+        self.reread = start;
+    }
+
+    /// An equal lexer with errors and comments of its own: going back is putting it in the place of this one.
+    ///
+    /// # Errors
+    ///
+    /// `AllocError` where there is no memory for errors, comments, or more than 128 contexts.
+    pub fn copy(&self) -> Result<Lexer<'a>, AllocError>
+        ensures same { IfOk result (λ copy. lexer_state copy ≡ lexer_state self.now) }
+    {
+        Ok(Lexer {
+            alloc: self.alloc,
+            settings: self.settings,
+            input: self.input.clone()?,
+            context: self.context,
+            state: self.state.copy()?,
+            reread: self.reread,
+            errors: self.errors.copy(self.alloc)?,
+            comments: self.comments.copy()?,
+            refused: self.refused,
+        })
+    }
+
     /// What the next read goes by.
     fn mode(&self) -> Mode
         ensures { result ≡ mode_of (lexer_state self.now) }
@@ -118,17 +170,34 @@ impl<'a> Lexer<'a> {
 }
 
 impl<'a> Lexer<'a> {
+    /// What the next read finds, behind which this cursor then stands, which stands where the lexer does.
+    fn read_on(&self, input: &mut StringInput<'a>) -> Result<Reading<'a>, AllocError>
+        requires { input.old ≡ self.now.input }
+        ensures found { IfOk result (λ r. option_map spanned_view r.found ≡ (reading_of (lexer_state self.now)).found) }
+        ensures besides { IfOk result (λ r. IsBeside r.besides (reading_of (lexer_state self.now))) }
+        ensures moved { OnOk result (input.new ≡ (reading_of (lexer_state self.now)).input) }
+        ensures free { is_free_read (lexer_state self.now) ≡ true → IsOk result }
+    {
+        match self.reread {
+            Some(slash) => {
+                input.reset_to(slash);
+                read_again(self.alloc, input, self.state.seen.flag)
+            }
+            None => read_from(self.alloc, input, &self.mode()),
+        }
+    }
+
     /// What the next read finds, behind which the cursor then stands. Nothing is changed where memory is refused.
     fn find(&mut self) -> Result<Reading<'a>, AllocError>
         ensures found { IfOk result (λ r. option_map spanned_view r.found ≡ (reading_of (lexer_state self.old)).found) }
         ensures besides { IfOk result (λ r. IsBeside r.besides (reading_of (lexer_state self.old))) }
         ensures moved { OnOk result (self.new ≡ record self.old { input = (reading_of (lexer_state self.old)).input }) }
         ensures same { OnErr result (self.new ≡ self.old) }
-        ensures free { is_free (mode_of (lexer_state self.old)) self.old.input ≡ true → IsOk result }
+        ensures answer { IfOk result (λ r. IsAnswer self.new (kept_in (option_map spanned_view r.found))) }
+        ensures free { is_free_read (lexer_state self.old) ≡ true → IsOk result }
     {
-        let mode = self.mode();
         let mut input = self.input.clone()?;
-        let reading = read_from(self.alloc, &mut input, &mode)?;
+        let reading = self.read_on(&mut input)?;
         self.input = input;
         Ok(reading)
     }
@@ -136,7 +205,7 @@ impl<'a> Lexer<'a> {
     /// Takes in what was found: the comments are attached, the contexts change, and the errors are recorded, wait or are
     /// dropped. The errors are as before where memory is refused.
     fn take_in(&mut self, answer: Option<Kept>, besides: Besides<'a>) -> Result<(), AllocError>
-        requires { OpensBehind answer self.old.input }
+        requires { IsAnswer self.old answer }
         ensures after { OnOk result (lexer_state self.new ≡ state_taking (lexer_state self.old) answer (seen_beside besides.entry)) }
         ensures kept { OnErr result (self.new.errors ≡ self.old.errors) }
         ensures free { length self.old.state.contexts < 128 → TakesNone besides.entry → IsOk result }
@@ -156,12 +225,12 @@ impl<'a> Lexer<'a> {
     }
 
     /// Reads without asking whether memory was refused before.
-    #[tactic(auto, using(crate::proofs::ReadingLemmas::free_faults, crate::proofs::ReadingLemmas::free_comments))]
+    #[tactic(auto, using(crate::proofs::SlashLemmas::free_read_faults, crate::proofs::SlashLemmas::free_read_comments))]
     fn next_answer(&mut self) -> Result<Option<TokenAndSpan<'a>>, AllocError>
         ensures answer { IfOk result (λ answer. option_map spanned_view answer ≡ (reading_of (lexer_state self.old)).found) }
         ensures after { OnOk result (lexer_state self.new ≡ state_behind (lexer_state self.old) (reading_of (lexer_state self.old))) }
         ensures kept { OnErr result (self.new.errors ≡ self.old.errors) }
-        ensures free { length self.old.state.contexts < 128 → is_free (mode_of (lexer_state self.old)) self.old.input ≡ true → IsOk result }
+        ensures free { length self.old.state.contexts < 128 → is_free_read (lexer_state self.old) ≡ true → IsOk result }
     {
         let Reading { found, besides } = self.find()?;
         self.take_in(Kept::of_answer(&found), besides)?;
@@ -184,13 +253,13 @@ impl<'a> Lexer<'a> {
         // The same of what a lexer shows.
         ensures answer { IfOk result (λ answer. option_map spanned_view answer ≡ (reading_of (lexer_state self.old)).found) }
         ensures after { OnOk result (lexer_state self.new ≡ state_behind (lexer_state self.old) (reading_of (lexer_state self.old))) }
-        // Once the end was answered, it is answered again.
-        ensures again { IfOk result (λ answer. answer ≡ None → (reading_of (lexer_state self.new)).found ≡ None) }
+        // Once the end was answered, it is answered again, where no slash is read again.
+        ensures again { self.old.reread ≡ None → IfOk result (λ answer. answer ≡ None → (reading_of (lexer_state self.new)).found ≡ None) }
         ensures refused { self.old.refused ≡ true → (result ≡ Err alloc_error) × (self.new ≡ self.old) }
         ensures refusal { OnErr result (self.new.refused ≡ true) }
         ensures kept { OnErr result (self.new.errors ≡ self.old.errors) }
         ensures free { self.old.refused ≡ false → length self.old.state.contexts < 128
-            → is_free (mode_of (lexer_state self.old)) self.old.input ≡ true → IsOk result }
+            → is_free_read (lexer_state self.old) ≡ true → IsOk result }
     {
         if self.refused {
             return Err(AllocError);
@@ -256,7 +325,11 @@ impl<'a> Tokens<'a> for Lexer<'a> {
     }
 
     fn set_expr_allowed(&mut self, allow: bool) {
-        self.state.expr_allowed = allow;
+        Lexer::set_expr_allowed(self, allow);
+    }
+
+    fn set_next_regexp(&mut self, start: Option<BytePos>) {
+        Lexer::set_next_regexp(self, start);
     }
 
     fn token_context(&self) -> &TokenContexts {

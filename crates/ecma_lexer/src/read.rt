@@ -4,14 +4,15 @@ ghost use Rattle.ecma_lexer.specs.Besides.{IsBeside};
 ghost use Rattle.ecma_token.specs.View.{spanned_view, token_view};
 ghost use Rattle.ecma_scan.specs.Found.{found_view, value_view};
 ghost use Rattle.ecma_place.specs.Cursor.{rest, place};
+ghost use Rattle.ecma_scan.specs.Expressions.{opens_expression};
 ghost use Rattle.ecma_scan.specs.Shebangs.{opens_shebang};
-ghost use Rattle.ecma_lexer.specs.Reading.{reading, reading_code, shebang_reading, spanned, is_free, is_free_code};
+ghost use Rattle.ecma_lexer.specs.Reading.{reading, reading_again, reading_code, shebang_reading, spanned, is_free, is_free_again, is_free_code};
 ghost use Rattle.ecma_lexer.specs.TokenAt as grammar;
 
 use crate::mode::Mode;
 use crate::token_at::{Taken, token_at};
 use ecma_place::{Comment, StringInput};
-use ecma_scan::{Blame, Found, scan_gap, scan_shebang};
+use ecma_scan::{Blame, Found, scan_gap, scan_regexp, scan_shebang};
 use ecma_token::{Error, Token, TokenAndSpan};
 use std::alloc::{AllocError, Global};
 
@@ -129,6 +130,32 @@ fn read_code<'a>(
             token_faults,
             gap_comments: gap.comments,
             token_comments: comments,
+        },
+    })
+}
+
+/// Reads the regular expression at the cursor, which stands at a slash with this flag.
+pub fn read_again<'a>(
+    alloc: Global,
+    input: &mut StringInput<'a>,
+    flag: bool,
+) -> Result<Reading<'a>, AllocError>
+    requires { opens_expression (rest input.old) ≡ true }
+    ensures found { IfOk result (λ r. option_map spanned_view r.found ≡ (reading_again flag input.old).found) }
+    ensures besides { IfOk result (λ r. IsBeside r.besides (reading_again flag input.old)) }
+    ensures moved { OnOk result (input.new ≡ (reading_again flag input.old).input) }
+    ensures free { is_free_again (rest input.old) ≡ true → IsOk result }
+{
+    let found = scan_regexp(alloc, input)?;
+    let (token, token_faults) = spanned_token(found, flag);
+    Ok(Reading {
+        found: Some(token),
+        besides: Besides {
+            end_flag: flag,
+            gap_faults: Vec::new(alloc),
+            token_faults,
+            gap_comments: Vec::new(alloc),
+            token_comments: Vec::new(alloc),
         },
     })
 }

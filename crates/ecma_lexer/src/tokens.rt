@@ -5,7 +5,8 @@ ghost use Rattle.ecma_token.specs.View.{error_view};
 ghost use Rattle.ecma_lexer.specs.Contexts.{Contexts};
 ghost use Rattle.ecma_lexer.specs.Session.{LexerState};
 ghost use Rattle.ecma_lexer.specs.contracts.token_contexts.TokenContexts as token_contexts;
-ghost use Rattle.ecma_lexer.specs.Run.{state_allowing, state_in, state_with_contexts, state_with_error, state_with_module_mode_error, state_without_errors};
+ghost use Rattle.ecma_lexer.specs.Slashes.{MayReread};
+ghost use Rattle.ecma_lexer.specs.Run.{state_allowing, state_in, state_rereading, state_with_contexts, state_with_error, state_with_module_mode_error, state_without_errors};
 
 use crate::error_list::ErrorList;
 use crate::token_contexts::TokenContexts;
@@ -54,6 +55,13 @@ pub trait Tokens<'a> {
     /// Says whether an expression may begin.
     fn set_expr_allowed(&mut self, allow: bool)
         ensures { state self.new ≡ state_allowing allow (state self.old) };
+
+    /// Has each read begin at this slash, until this is called again, or go on behind what was read last.
+    ///
+    /// `start` is `None` or the place of the slash that was answered last.
+    fn set_next_regexp(&mut self, start: Option<BytePos>)
+        requires { MayReread start (state self.old) }
+        ensures { state self.new ≡ state_rereading start (state self.old) };
 
     /// What encloses the place that is read.
     fn token_context(&self) -> &TokenContexts

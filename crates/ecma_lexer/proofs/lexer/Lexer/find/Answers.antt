@@ -1,9 +1,10 @@
-use Rattle.ecma_lexer.proofs.EndingLemmas.{opened-kept}
+use Rattle.ecma_lexer.proofs.SlashLemmas.{still-answers, still-lexer}
 use Rattle.ecma_lexer.proofs.lexer.Lexer.find.Goals as goal
 
 pub invariant_of-self : goal.invariant_of-self
 invariant_of-self c =
-    record {
-      opened = opened-kept c.mode-mode.result c.in_ok-input.input c.read_from.new.input _ (rw c.in_ok-input.ensures.cases c.self.invariant.opened) c.in_ok-reading.ensures.moved;
-      none_pending = c.self.invariant.none_pending;
-    }
+    still-lexer c.self.inside c.args.self.now c.read_on.new.input c.self.view_is c.self.invariant c.in_ok-reading.ensures.moved
+
+pub returns-clause-answer : goal.returns-clause-answer
+returns-clause-answer c =
+    still-answers c.self.inside c.args.self.now c.read_on.new.input _ c.self.view_is c.self.invariant c.in_ok-reading.ensures.found c.in_ok-reading.ensures.moved
