@@ -17,18 +17,23 @@ use Rattle.ecma_lexer.proofs.EndingLemmas.{ReadSoFar, so_far-end, so_far-start, 
 -- Reading to the end
 
 -- so many reads, which all gave a token, from each session where the lexer may have begun
-abbrev pub PassedSoFar : LexerState → LexerState → Type 0
-PassedSoFar begun l = (s : Session) → state_of s ≡ begun → (k : ℕ) × ReadSoFar s k l
+pub record PassedSoFar (begun l : LexerState) : Type 0 where
+  pub passed : (s : Session) → state_of s ≡ begun → (k : ℕ) × ReadSoFar s k l
+  pub plain : l.reread ≡ None
 
-pub passed-start : (begun : LexerState) → PassedSoFar begun begun
-passed-start begun s at = (0, subst (ReadSoFar s 0) at (so_far-start s))
+pub passed-start : (begun : LexerState) → begun.reread ≡ None → PassedSoFar begun begun
+passed-start begun plain =
+    record { passed = λ s at. (0, subst (ReadSoFar s 0) at (so_far-start s (ap (λ l. l.reread) at ∙ plain))); plain = plain }
 
 pub passed-next : (begun l next : LexerState) → PassedSoFar begun l → is_some (reading_of l).found ≡ true → next ≡ state_behind l (reading_of l) → PassedSoFar begun next
-passed-next begun l next so some moved s at = go (reading_of l).found refl
+passed-next begun l next so some moved =
+    record { passed = λ s at. go s at (reading_of l).found refl; plain = ap (λ x. x.reread) moved ∙ so.plain }
   where
-    go : (found : Option SpannedView) → (reading_of l).found ≡ found → (k : ℕ) × ReadSoFar s k next
-    go None e = let none : is_some (reading_of l).found ≡ false = ap is_some e in cc
-    go (Some t) e = (suc (so s at).0, (so_far-token s (so s at).0 l next t (so s at).1 e moved).0)
+    go : (s : Session) → state_of s ≡ begun → (found : Option SpannedView) → (reading_of l).found ≡ found → (k : ℕ) × ReadSoFar s k next
+    go s at None e = let none : is_some (reading_of l).found ≡ false = ap is_some e in cc
+    go s at (Some t) e =
+        let here = so.passed s at in
+        (suc here.0, (so_far-token s here.0 l next t here.1 e moved).0)
 
 -- behind the read that answers the end the comments may be handed over
 ended-has : (l next : LexerState) → l.refused ≡ false → (reading_of l).found ≡ None → next ≡ state_behind l (reading_of l) → has_comments next ≡ true
@@ -44,8 +49,8 @@ passed-end begun l next so none moved s at = go (reading_of l).found refl
     go : (found : Option SpannedView) → (reading_of l).found ≡ found → (next.comments ≡ comments_of s) × (has_comments next ≡ true)
     go (Some t) e = let some : is_some (reading_of l).found ≡ true = ap is_some e in cc
     go None e =
-        let here = (so s at).1 in
-        let ended = so_far-end s (so s at).0 l next here e moved in
+        let here = (so.passed s at).1 in
+        let ended = so_far-end s (so.passed s at).0 l next here e moved in
         (ended.2, ended-has l next (ap (λ x. x.refused) here.state) e moved)
 
 -- Handing over

@@ -12,9 +12,10 @@ use Rattle.ecma_lexer.specs.declared.kept.Kept.{Kept}
 use Rattle.ecma_lexer.specs.declared.step.Step.TheVariants.{SetCtx}
 use Rattle.ecma_lexer.specs.Session.{LexerState, Session, kept_back, kept_of, state_of}
 use Rattle.ecma_lexer.specs.Ending.{most_tokens, reads, tokens_of}
+use Rattle.ecma_lexer.specs.Reading.{reading}
 use Rattle.ecma_lexer.specs.Run.{mode_of, reading_of, start_of, state_behind}
 use Rattle.ecma_lexer.proofs.EndLemmas.{reading-on}
-use Rattle.ecma_lexer.proofs.EndingLemmas.{ReadSoFar, read_tokens, so_far-end, so_far-start, so_far-token, tokens_run_out}
+use Rattle.ecma_lexer.proofs.EndingLemmas.{ReadSoFar, plain-reading, read_tokens, so_far-end, so_far-plain, so_far-start, so_far-token, tokens_run_out}
 use Rattle.ecma_lexer.proofs.TilingLemmas.{Standing, act_standing, fold_standing, session_standing}
 use Rattle.ecma_lex.specs.Begin.{begin, begin_if, context, settings, whole}
 use Rattle.ecma_lex.specs.ErrorLines.{errors_text, found_lines, list_lines, token_lines}
@@ -42,18 +43,27 @@ begin-standing o bytes = go (o.«module» || o.strict)
     go true = act_standing (whole bytes) (start_of (settings false o) (whole bytes)) (SetCtx (context o)) (session_standing (settings false o) (whole bytes) [])
     go false = session_standing (settings false o) (whole bytes) []
 
+-- nothing is read again there
+pub begin-plain : (collects : Bool) (o : Options) (bytes : List ℕ) → (begin collects o bytes).reread ≡ None
+begin-plain collects o bytes = go (o.«module» || o.strict)
+  where
+    go : (b : Bool) → (begin_if b o (start_of (settings collects o) (whole bytes))).reread ≡ None
+    go true = refl
+    go false = refl
+
 -- a token that is read stands in the text
 pub token-within : (o : Options) (bytes : List ℕ) → IsUtf8 bytes → (k : ℕ) (l : LexerState) → ReadSoFar (begin false o bytes) k l → (t : SpannedView) → (reading_of l).found ≡ Some t
     → (t.span.lo.0 ≤ t.span.hi.0) × (t.span.hi.0 ≤ length bytes)
 token-within o bytes utf8 k l so t found =
     let standing = fold_standing (whole bytes) (begin false o bytes) (reads k) (begin-standing o bytes) in
     let on = reading-on (mode_of l) l.input in
-    let now = (reading_of l).input in
+    let same = plain-reading l (so_far-plain (begin false o bytes) k l so) in
+    let now = (reading (mode_of l) l.input).input in
     let start : now.start ≡ 0 = on.start ∙ ap (λ x. x.input.start) so.state ∙ standing.start in
     let text : now.text ≡ chars bytes = on.text ∙ ap (λ x. x.input.text) so.state ∙ standing.text in
     let bound = byte_len-take-le now.at now.text in
     let all : byte_len now.text ≡ length bytes = ap byte_len text ∙ ap length (encodes-chars bytes utf8) in
-    let at = on.token t found in
+    let at = on.token t (ap (λ r. r.found) (sym same) ∙ found) in
     let order = at.1 in
     let ends = at.2 in
     (order, omega (arith, ends, start, bound, all))
@@ -70,16 +80,16 @@ none-read : (o : Options) (bytes : List ℕ) → read_tokens (begin false o byte
 none-read o bytes = ap (λ past. reverse (kept_back past)) (none-given o bytes)
 
 -- less is left behind it
-pub token-less : (l next : LexerState) (t : SpannedView) → (reading_of l).found ≡ Some t → next ≡ state_behind l (reading_of l) → most_tokens next < most_tokens l
-token-less l next t found moved = rw moved (tokens_run_out l t found)
+pub token-less : (l next : LexerState) (t : SpannedView) → l.reread ≡ None → (reading_of l).found ≡ Some t → next ≡ state_behind l (reading_of l) → most_tokens next < most_tokens l
+token-less l next t plain found moved = rw moved (tokens_run_out l t plain found)
 
 -- the same where it is known only that there was one
-pub some-less : (l next : LexerState) → is_some (reading_of l).found ≡ true → next ≡ state_behind l (reading_of l) → most_tokens next < most_tokens l
-some-less l next some moved = go (reading_of l).found refl
+pub some-less : (l next : LexerState) → l.reread ≡ None → is_some (reading_of l).found ≡ true → next ≡ state_behind l (reading_of l) → most_tokens next < most_tokens l
+some-less l next plain some moved = go (reading_of l).found refl
   where
     go : (found : Option SpannedView) → (reading_of l).found ≡ found → most_tokens next < most_tokens l
     go None e = let none : is_some (reading_of l).found ≡ false = ap is_some e in cc
-    go (Some t) e = token-less l next t e moved
+    go (Some t) e = token-less l next t plain e moved
 
 -- what is written of the tokens so far, with one more token
 more-written : (written : SpannedView → List ℕ) (s : Session) (k : ℕ) (t : SpannedView) → read_tokens s (suc k) ≡ read_tokens s k ++ t ∷ []
@@ -92,7 +102,7 @@ more-written written s k t more =
 -- no line before the first token
 pub lines-start : (o : Options) (bytes : List ℕ) (l : LexerState) → l ≡ state_of (begin false o bytes)
     → (k : ℕ) × ReadSoFar (begin false o bytes) k l × ([] ≡ lines bytes (map kept_of (read_tokens (begin false o bytes) k)))
-lines-start o bytes l e = (0, rw e (so_far-start (begin false o bytes)), ap (λ ts. lines bytes (map kept_of ts)) (sym (none-read o bytes)))
+lines-start o bytes l e = (0, rw e (so_far-start (begin false o bytes) (begin-plain false o bytes)), ap (λ ts. lines bytes (map kept_of ts)) (sym (none-read o bytes)))
 
 -- the lines behind one more token
 pub lines-more : (o : Options) (bytes : List ℕ) (k : ℕ) (l next : LexerState) (t : SpannedView) → ReadSoFar (begin false o bytes) k l → (reading_of l).found ≡ Some t → next ≡ state_behind l (reading_of l)
@@ -123,7 +133,7 @@ pub record ErrorsSoFar (o : Options) (bytes : List ℕ) (l : LexerState) (out : 
   pub written : out ≡ flat_map token_lines (read_tokens (begin false o bytes) count)
 
 pub errors-start : (o : Options) (bytes : List ℕ) (l : LexerState) → l ≡ state_of (begin false o bytes) → ErrorsSoFar o bytes l []
-errors-start o bytes l e = record { count = 0; state = rw e (so_far-start (begin false o bytes)); written = ap (flat_map token_lines) (sym (none-read o bytes)) }
+errors-start o bytes l e = record { count = 0; state = rw e (so_far-start (begin false o bytes) (begin-plain false o bytes)); written = ap (flat_map token_lines) (sym (none-read o bytes)) }
 
 pub errors-next : (o : Options) (bytes : List ℕ) (l next : LexerState) (out new : List ℕ) → ErrorsSoFar o bytes l out → is_some (reading_of l).found ≡ true
     → next ≡ state_behind l (reading_of l) → new ≡ out ++ found_lines (reading_of l).found → ErrorsSoFar o bytes next new

@@ -1,5 +1,5 @@
 //! What is written of the comments of a text: a line each.
-ghost use Rattle.std.specs.Prelude.{◌≡◌, ◌++◌, ◌∷◌, [], ◌^◌, ◌<◌, true, is_some, length, string_bytes, IfOk, IfErr, OnOk, OnErr};
+ghost use Rattle.std.specs.Prelude.{◌≡◌, ◌++◌, ◌∷◌, [], None, ◌^◌, ◌<◌, true, is_some, length, string_bytes, IfOk, IfErr, OnOk, OnErr};
 ghost use Rattle.ecma_lexer.specs.Ending.{comments_of};
 ghost use Rattle.ecma_lexer.specs.HandOver.{has_comments};
 ghost use Rattle.ecma_lexer.specs.Run.{reading_of, state_behind};
@@ -124,6 +124,7 @@ fn pass_next(lexer: &mut Lexer) -> Result<bool, AllocError>
 
 /// Reads to the end, behind which the comments may be handed over.
 fn read_out(lexer: &mut Lexer) -> Result<(), AllocError>
+    requires { lexer.old.reread ≡ None }
     ensures comments { (s : Session) → state_of s ≡ lexer_state lexer.old → OnOk result ((lexer_state lexer.new).comments ≡ comments_of s) }
     ensures ended { (s : Session) → state_of s ≡ lexer_state lexer.old → OnOk result (has_comments (lexer_state lexer.new) ≡ true) }
 {

@@ -163,6 +163,10 @@ pub record ReadSoFar (begin : Session) (k : ℕ) (l : LexerState) : Type 0 where
 pub so_far-start : (begin : Session) → begin.reread ≡ None → ReadSoFar begin 0 (state_of begin)
 so_far-start begin plain = record { state = refl; left = omega arith; plain = plain }
 
+-- none of these reads begins at a slash
+pub so_far-plain : (begin : Session) (k : ℕ) (l : LexerState) → ReadSoFar begin k l → l.reread ≡ None
+so_far-plain begin k l so = ap (λ x. x.reread) so.state ∙ reads-plain k begin so.plain
+
 one_more : (k : ℕ) (s : Session) → fold act_on s (reads (suc k)) ≡ act_on (fold act_on s (reads k)) Read
 one_more zero s = refl
 one_more (suc k) s = one_more k (act_on s Read)

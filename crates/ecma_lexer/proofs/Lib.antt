@@ -7,6 +7,7 @@ pub mod EndingLemmas
 pub mod ErrorLemmas
 pub mod FrontLemmas
 pub mod GoingBack
+pub mod ItemLemmas
 pub mod OpeningLemmas
 pub mod ProgressLemmas
 pub mod ReadingLemmas

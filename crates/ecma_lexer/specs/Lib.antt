@@ -10,6 +10,7 @@ pub mod Ending
 pub mod Errors
 pub mod Excursion
 pub mod HandOver
+pub mod Items
 pub mod Mode
 pub mod Reading
 pub mod Run

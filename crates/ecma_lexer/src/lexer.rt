@@ -272,6 +272,29 @@ impl<'a> Lexer<'a> {
     }
 }
 
+impl<'a> Iterator for Lexer<'a> {
+    ghost use Rattle.ecma_lexer.specs.Items.{GivesItem, items_left};
+
+    type Item = Result<TokenAndSpan<'a>, AllocError>;
+
+    ghost next_gives = { GivesItem };
+
+    ghost remaining = { items_left };
+
+    /// What [`Lexer::read`] answers. A refusal of memory comes once, and nothing behind it. Where no slash is read again
+    /// it ends within twice the bytes that are left and two items, and gives nothing behind its end.
+    fn next(&mut self) -> Option<Result<TokenAndSpan<'a>, AllocError>> {
+        if self.refused {
+            return None;
+        }
+        match self.read() {
+            Ok(Some(token)) => Some(Ok(token)),
+            Ok(None) => None,
+            Err(error) => Some(Err(error)),
+        }
+    }
+}
+
 impl<'a> Commented<'a> for Lexer<'a> {
     ghost use Rattle.ecma_lexer.specs.Session.{lexer_state};
 

@@ -7,7 +7,7 @@ use Rattle.ecma_lex.proofs.comments.read_out.Goals as goal
 pub tokens-smaller : goal.tokens-smaller
 tokens-smaller c =
     let read = c.in_ok-pass_next.ensures in
-    some-less (lexer_state c.tokens.lexer) (lexer_state c.pass_next.new.lexer) (sym read.more ∙ c.if-branch.true) read.after
+    some-less (lexer_state c.tokens.lexer) (lexer_state c.pass_next.new.lexer) c.tokens.invariant.plain (sym read.more ∙ c.if-branch.true) read.after
 
 pub tokens-preserved : goal.tokens-preserved
 tokens-preserved c =

@@ -1,4 +1,6 @@
-use Rattle.std.proofs.Common.{sym, ◌∙◌}
+use Rattle.std.proofs.Common.{false, sym, ◌∙◌}
+use Rattle.ecma_lexer.proofs.EndingLemmas.{so_far-plain}
+use Rattle.ecma_lex.specs.Begin.{begin}
 use Rattle.ecma_lexer.specs.Session.{lexer_state}
 use Rattle.ecma_lex.proofs.Listing.{errors-end, errors-next, some-less}
 use Rattle.ecma_lex.proofs.errors.errors_text.Goals as goal
@@ -6,7 +8,9 @@ use Rattle.ecma_lex.proofs.errors.errors_text.Goals as goal
 pub tokens-smaller : goal.tokens-smaller
 tokens-smaller c =
     let read = c.in_ok-push_next.ensures in
-    some-less (lexer_state c.tokens.lexer) (lexer_state c.push_next.new.lexer) (sym read.more ∙ c.if-branch.true) read.after
+    let so = c.tokens.invariant in
+    let plain = so_far-plain (begin false c.args.options c.args.text.now) so.count (lexer_state c.tokens.lexer) so.state in
+    some-less (lexer_state c.tokens.lexer) (lexer_state c.push_next.new.lexer) plain (sym read.more ∙ c.if-branch.true) read.after
 
 pub tokens-preserved : goal.tokens-preserved
 tokens-preserved c =

@@ -1,7 +1,7 @@
 use Rattle.std.proofs.Common.{false, ◌≡◌, ◌++◌, suc, sym, ap, ◌∙◌, map}
 use Rattle.ecma_lexer.specs.Session.{kept_of, lexer_state}
 use Rattle.ecma_lexer.specs.Run.{reading_of}
-use Rattle.ecma_lexer.proofs.EndingLemmas.{so_far-end}
+use Rattle.ecma_lexer.proofs.EndingLemmas.{so_far-end, so_far-plain}
 use Rattle.ecma_lex.specs.Begin.{begin}
 use Rattle.ecma_lex.specs.Lines.{line, lines}
 use Rattle.ecma_lex.proofs.Listing.{some-kept, no-kept, token-within, token-less, lines-more}
@@ -20,7 +20,8 @@ push_line-requires-clause-within c =
 pub tokens-smaller : goal.tokens-smaller
 tokens-smaller c =
     let at = some-kept (reading_of (lexer_state c.tokens.lexer)).found c.in-Some.token (sym c.in-Some.is ∙ c.in_ok-token.ensures.kept) in
-    token-less (lexer_state c.tokens.lexer) (lexer_state c.next_kept.new.lexer) at.0 at.1 c.in_ok-token.ensures.after
+    let plain = so_far-plain (begin false c.args.options c.args.text.now) c.tokens.invariant.0 (lexer_state c.tokens.lexer) c.tokens.invariant.1 in
+    token-less (lexer_state c.tokens.lexer) (lexer_state c.next_kept.new.lexer) at.0 plain at.1 c.in_ok-token.ensures.after
 
 pub tokens-preserved : goal.tokens-preserved
 tokens-preserved c =
