@@ -16,15 +16,25 @@ fn is_at_slash(input: &StringInput) -> bool
     input.cur() == Some('/')
 }
 
+/// Writes what is found of the expression at the cursor, where one begins.
+fn write_expression(
+    alloc: Global,
+    line: &mut String,
+    input: &mut StringInput,
+) -> Result<(), AllocError> {
+    if !is_at_slash(input) {
+        return Ok(());
+    }
+    let found = scan_regexp(alloc, input)?;
+    write_found_token(line, &found, input)
+}
+
 /// What is found of the expression with which the text begins, written.
 fn expression_of(alloc: Global, text: &str) -> Result<String, AllocError> {
     let mut line = String::new(alloc);
     if StringInput::fits(text, BytePos(0)) {
         let mut input = StringInput::new(text, BytePos(0));
-        if is_at_slash(&input) {
-            let found = scan_regexp(alloc, &mut input)?;
-            write_found_token(&mut line, &found, &input)?;
-        }
+        write_expression(alloc, &mut line, &mut input)?;
     }
     Ok(line)
 }

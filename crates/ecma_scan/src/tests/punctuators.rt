@@ -7,11 +7,21 @@ use std::alloc::{AllocError, Global};
 use std::process::Abort;
 use std::test::Fail;
 
+/// Writes what is found of the punctuator at the cursor.
+fn write_punct(
+    alloc: Global,
+    line: &mut String,
+    input: &mut StringInput,
+    type_mode: bool,
+) -> Result<(), AllocError> {
+    let found = scan_punct(alloc, input, type_mode)?;
+    write_sought_token(line, &found, input)
+}
+
 /// What is found of the punctuator at the cursor, written.
 fn punct_at(alloc: Global, input: &mut StringInput, type_mode: bool) -> Result<String, AllocError> {
     let mut line = String::new(alloc);
-    let found = scan_punct(alloc, input, type_mode)?;
-    write_sought_token(&mut line, &found, input)?;
+    write_punct(alloc, &mut line, input, type_mode)?;
     Ok(line)
 }
 
@@ -140,11 +150,20 @@ fn reads_no_punctuator(rt: HostRuntime) -> Result<(), Fail> {
     check(&rt, ".5", written, "4..4 nothing")
 }
 
+/// Writes what is found of the shebang at the cursor.
+fn write_shebang(
+    alloc: Global,
+    line: &mut String,
+    input: &mut StringInput,
+) -> Result<(), AllocError> {
+    let found = scan_shebang(alloc, input)?;
+    write_sought_token(line, &found, input)
+}
+
 /// What is found of the shebang at the cursor, written.
 fn shebang_at(alloc: Global, input: &mut StringInput) -> Result<String, AllocError> {
     let mut line = String::new(alloc);
-    let found = scan_shebang(alloc, input)?;
-    write_sought_token(&mut line, &found, input)?;
+    write_shebang(alloc, &mut line, input)?;
     Ok(line)
 }
 

@@ -5,15 +5,27 @@ use ecma_place::{BytePos, StringInput};
 use std::alloc::{AllocError, Global};
 use std::test::Fail;
 
-/// What is found in a template at the start of the text, written. A back quote before the text opened the template.
+/// Writes what is found in a template at the cursor, where there is text. A back quote at the place 0 opened the
+/// template.
+fn write_template(
+    alloc: Global,
+    line: &mut String,
+    input: &mut StringInput,
+    after_template: bool,
+) -> Result<(), AllocError> {
+    if input.cur().is_none() {
+        return Ok(());
+    }
+    let found = scan_template(alloc, input, BytePos(0), after_template)?;
+    write_found_token(line, &found, input)
+}
+
+/// What is found in a template at the start of the text, which a back quote stands before, written.
 fn template_of(alloc: Global, text: &str, after_template: bool) -> Result<String, AllocError> {
     let mut line = String::new(alloc);
     if StringInput::fits(text, BytePos(1)) {
         let mut input = StringInput::new(text, BytePos(1));
-        if input.cur().is_some() {
-            let found = scan_template(alloc, &mut input, BytePos(0), after_template)?;
-            write_found_token(&mut line, &found, &input)?;
-        }
+        write_template(alloc, &mut line, &mut input, after_template)?;
     }
     Ok(line)
 }
