@@ -122,12 +122,11 @@ fn count_empty(rt: &impl Abort, lexer: &mut Lexer) -> Result<usize, Fail> {
     Ok(empty)
 }
 
-/// Writes how many of the tokens of the text hold no characters, and what was recorded.
-fn write_empty(rt: &impl Abort, alloc: Global, out: &mut String, text: &str) -> Result<(), Fail> {
-    let mut lexer = opened(alloc, PLAIN, text)?;
-    let empty = count_empty(rt, &mut lexer)?;
+/// Writes how many of the tokens hold no characters, and what was recorded.
+fn write_empty(rt: &impl Abort, out: &mut String, lexer: &mut Lexer) -> Result<(), Fail> {
+    let empty = count_empty(rt, lexer)?;
     write!(out, "{empty}")?;
-    Ok(write_recorded(out, &mut lexer)?)
+    Ok(write_recorded(out, lexer)?)
 }
 
 #[test]
@@ -136,7 +135,8 @@ fn empty_texts_stand_alone(rt: HostRuntime) -> Result<(), Fail> {
     let mut text = String::new(alloc);
     push_times(&mut text, "`${", 1000)?;
     let mut out = String::new(alloc);
-    write_empty(&rt, alloc, &mut out, text.as_str())?;
+    let mut lexer = opened(alloc, PLAIN, text.as_str())?;
+    write_empty(&rt, &mut out, &mut lexer)?;
     assert_eq!(rt; out.as_str(), "1000");
     Ok(())
 }
