@@ -5,6 +5,7 @@ mod copies;
 mod debug_texts;
 mod fixed_messages;
 mod messages;
+mod names;
 
 use crate::{SyntaxError, Token};
 use ecma_place::{Atom, BytePos, Span};
@@ -22,28 +23,69 @@ fn owned<'a>(alloc: Global, text: &str) -> Result<Atom<'a>, AllocError> {
     Ok(Atom::from(String::from_str(alloc, text)?))
 }
 
-// Each error has this message, by `msg` and by `Display`, and so has its copy.
-fn assert_messages(
-    rt: &impl Abort,
-    alloc: Global,
-    rows: &[(SyntaxError, &str)],
-) -> Result<(), Fail> {
-    for (error, want) in rows {
-        assert_eq!(rt; error.msg(alloc)?.as_str(), *want);
-        assert_eq!(rt; error.to_string(alloc)?.as_str(), *want);
-        let copy = error.copy(alloc)?;
-        assert!(rt; copy == *error, "{want}");
-    }
+fn assert_msg(rt: &impl Abort, alloc: Global, error: &SyntaxError, want: &str) -> Result<(), Fail> {
+    assert_eq!(rt; error.msg(alloc)?.as_str(), want);
     Ok(())
 }
 
-// Each token has this debug text, and so has its copy.
-fn assert_debug_texts(rt: &impl Abort, alloc: Global, rows: &[(Token, &str)]) -> Result<(), Fail> {
-    for (token, want) in rows {
-        let text = format!(in alloc; "{token:?}")?;
-        assert_eq!(rt; text.as_str(), *want);
-        let copy = token.copy(alloc)?;
-        assert!(rt; copy == *token, "{want}");
-    }
+fn assert_display(
+    rt: &impl Abort,
+    alloc: Global,
+    error: &SyntaxError,
+    want: &str,
+) -> Result<(), Fail> {
+    assert_eq!(rt; error.to_string(alloc)?.as_str(), want);
     Ok(())
+}
+
+// Errors and tokens are let go by a call: at the end of a scope the proof goes through the end of each variant.
+fn equals_its_copy(alloc: Global, error: &SyntaxError) -> Result<bool, AllocError> {
+    let copy = error.copy(alloc)?;
+    let equal = copy == *error;
+    drop(copy);
+    Ok(equal)
+}
+
+fn assert_shown(
+    rt: &impl Abort,
+    alloc: Global,
+    error: &SyntaxError,
+    want: &str,
+) -> Result<(), Fail> {
+    assert_msg(rt, alloc, error, want)?;
+    assert_display(rt, alloc, error, want)?;
+    assert!(rt; equals_its_copy(alloc, error)?, "{want}");
+    Ok(())
+}
+
+// The error has this message, by `msg` and by `Display`, and is equal to its copy.
+fn assert_message(
+    rt: &impl Abort,
+    alloc: Global,
+    error: SyntaxError,
+    want: &str,
+) -> Result<(), Fail> {
+    let shown = assert_shown(rt, alloc, &error, want);
+    drop(error);
+    shown
+}
+
+fn token_equals_its_copy(alloc: Global, token: &Token) -> Result<bool, AllocError> {
+    let copy = token.copy(alloc)?;
+    let equal = copy == *token;
+    drop(copy);
+    Ok(equal)
+}
+
+fn assert_written(rt: &impl Abort, alloc: Global, token: &Token, want: &str) -> Result<(), Fail> {
+    assert_eq!(rt; format!(in alloc; "{token:?}")?.as_str(), want);
+    assert!(rt; token_equals_its_copy(alloc, token)?, "{want}");
+    Ok(())
+}
+
+// The token has this debug text, and is equal to its copy.
+fn assert_debug_text(rt: &impl Abort, alloc: Global, token: Token, want: &str) -> Result<(), Fail> {
+    let written = assert_written(rt, alloc, &token, want);
+    drop(token);
+    written
 }

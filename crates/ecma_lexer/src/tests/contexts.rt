@@ -50,32 +50,53 @@ fn start_in(alloc: Global, contexts: &[TokenContext]) -> Result<State, AllocErro
 /// A token, how many contexts there are behind it, and whether an expression may begin there.
 type Row = (TokenKind, usize, bool);
 
+/// Takes in a token of this kind.
+fn take(state: &mut State, kind: TokenKind) -> Result<(), AllocError> {
+    state.take(Some(token(kind)), false)
+}
+
 /// Takes in tokens that stand on one line.
 fn assert_rows(rt: &impl Abort, state: &mut State, rows: &[Row]) -> Result<(), Fail> {
     for (kind, depth, expr_allowed) in rows {
-        state.take(Some(token(*kind)), false)?;
+        take(state, *kind)?;
         assert_eq!(rt; state.contexts.len(), *depth);
         assert_eq!(rt; state.expr_allowed, *expr_allowed);
     }
     Ok(())
 }
 
+/// Whether there are no contexts, how many there are, and the innermost.
+fn seen(contexts: &TokenContexts) -> (bool, usize, Option<TokenContext>) {
+    (contexts.is_empty(), contexts.len(), contexts.current())
+}
+
+fn push_two(contexts: &mut TokenContexts) -> Result<(), AllocError> {
+    contexts.push(TokenContext::BraceStmt)?;
+    contexts.push(TokenContext::Tpl)
+}
+
+/// What is taken off one after another.
+fn pop_three(contexts: &mut TokenContexts) -> [Option<TokenContext>; 3] {
+    [contexts.pop(), contexts.pop(), contexts.pop()]
+}
+
 #[test]
 fn contexts_are_a_stack(rt: HostRuntime) -> Result<(), Fail> {
     let mut contexts = TokenContexts::new(rt.alloc());
-    assert!(rt; contexts.is_empty());
-    assert_eq!(rt; contexts.current(), None);
-    contexts.push(TokenContext::BraceStmt)?;
-    contexts.push(TokenContext::Tpl)?;
-    assert!(rt; !contexts.is_empty());
-    assert_eq!(rt; contexts.len(), 2);
-    assert_eq!(rt; contexts.current(), Some(TokenContext::Tpl));
+    assert_eq!(rt; seen(&contexts), (true, 0, None));
+    push_two(&mut contexts)?;
+    assert_eq!(rt; seen(&contexts), (false, 2, Some(TokenContext::Tpl)));
+    Ok(())
+}
+
+#[test]
+fn a_copy_of_contexts_stays(rt: HostRuntime) -> Result<(), Fail> {
+    let mut contexts = TokenContexts::new(rt.alloc());
+    push_two(&mut contexts)?;
     let copy = contexts.copy()?;
-    assert_eq!(rt; contexts.pop(), Some(TokenContext::Tpl));
-    assert_eq!(rt; contexts.pop(), Some(TokenContext::BraceStmt));
-    assert_eq!(rt; contexts.pop(), None);
-    assert_eq!(rt; copy.len(), 2);
-    assert_eq!(rt; copy.current(), Some(TokenContext::Tpl));
+    let taken = [Some(TokenContext::Tpl), Some(TokenContext::BraceStmt), None];
+    assert!(rt; pop_three(&mut contexts) == taken);
+    assert_eq!(rt; seen(&copy), (false, 2, Some(TokenContext::Tpl)));
     Ok(())
 }
 
@@ -179,7 +200,7 @@ fn signs_leave_the_flag(rt: HostRuntime) -> Result<(), Fail> {
 /// Takes in a token as often as that.
 fn take_many(state: &mut State, kind: TokenKind, times: usize) -> Result<(), AllocError> {
     for _ in 0..times {
-        state.take(Some(token(kind)), false)?;
+        take(state, kind)?;
     }
     Ok(())
 }

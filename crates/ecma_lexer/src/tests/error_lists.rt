@@ -1,4 +1,5 @@
 //! Lists of errors, and what becomes of an error under the flags of the context.
+use super::listing::{IGNORING, MODULE, PLAIN, STRICT, Settings, flags, write_note};
 use crate::error_list::ErrorList;
 use crate::errors::ErrorLists;
 use ecma_place::{BytePos, Span, Spanned};
@@ -6,6 +7,7 @@ use ecma_scan::Blame;
 use ecma_syntax::Context;
 use ecma_token::{Error, SyntaxError};
 use std::alloc::{AllocError, Global};
+use std::process::Abort;
 use std::test::Fail;
 
 /// An error that is empty at a place.
@@ -17,113 +19,149 @@ fn error_at<'a>(alloc: Global, place: u32) -> Result<Error<'a>, AllocError> {
     Error::new(alloc, span, SyntaxError::InvalidStrEscape)
 }
 
-/// Whether the list holds one error for each of these places, in order.
-fn stand_at(list: &ErrorList, places: &[u32]) -> bool {
-    let errors = list.as_slice();
-    if errors.len() != places.len() {
-        return false;
-    }
-    for (error, place) in errors.iter().zip(places.iter()) {
-        if error.span().lo != BytePos(*place) {
-            return false;
-        }
-    }
-    true
+/// Adds an error at a place.
+fn add(alloc: Global, list: &mut ErrorList, place: u32) -> Result<(), AllocError> {
+    list.push(error_at(alloc, place)?).map_err(|_| AllocError)
 }
 
-/// Adds an error; whether it was taken.
-fn added(alloc: Global, list: &mut ErrorList, place: u32) -> Result<bool, AllocError> {
-    Ok(list.push(error_at(alloc, place)?).is_ok())
+/// Writes where the errors of a list stand.
+fn write_places(out: &mut String, what: &str, list: &ErrorList) -> Result<(), AllocError> {
+    write_note(out, what)?;
+    for error in list.as_slice() {
+        write!(out, " {}", error.span().lo.0)?;
+    }
+    Ok(())
+}
+
+/// Writes how many errors a list has, and whether it is empty.
+fn write_length(out: &mut String, list: &ErrorList) -> Result<(), AllocError> {
+    write!(out, ", {}", list.len())?;
+    out.push_str(if list.is_empty() { ", empty" } else { "" })
+}
+
+fn write_order(alloc: Global, out: &mut String, list: &mut ErrorList) -> Result<(), AllocError> {
+    write_places(out, "new", list)?;
+    write_length(out, list)?;
+    add(alloc, list, 1)?;
+    add(alloc, list, 2)?;
+    write_places(out, "two", list)?;
+    write_length(out, list)?;
+    list.truncate(1);
+    write_places(out, "truncated", list)
 }
 
 #[test]
 fn errors_stand_in_order(rt: HostRuntime) -> Result<(), Fail> {
     let alloc = rt.alloc();
-    let mut list = ErrorList::new(alloc);
-    assert!(rt; list.is_empty());
-    assert!(rt; added(alloc, &mut list, 1)?);
-    assert!(rt; added(alloc, &mut list, 2)?);
-    assert!(rt; stand_at(&list, &[1, 2]));
-    assert_eq!(rt; list.len(), 2);
-    list.truncate(1);
-    assert!(rt; stand_at(&list, &[1]));
+    let mut out = String::new(alloc);
+    write_order(alloc, &mut out, &mut ErrorList::new(alloc))?;
+    assert_eq!(rt; out.as_str(), "new, 0, empty; two 1 2, 2; truncated 1");
     Ok(())
+}
+
+fn write_appended<'a>(
+    alloc: Global,
+    out: &mut String,
+    list: &mut ErrorList<'a>,
+    more: &mut ErrorList<'a>,
+) -> Result<(), AllocError> {
+    add(alloc, list, 1)?;
+    add(alloc, more, 3)?;
+    list.append(more)?;
+    write_places(out, "list", list)?;
+    write_places(out, "more", more)?;
+    write_length(out, more)
 }
 
 #[test]
 fn a_list_takes_in_another(rt: HostRuntime) -> Result<(), Fail> {
     let alloc = rt.alloc();
-    let mut list = ErrorList::new(alloc);
+    let mut out = String::new(alloc);
     let mut more = ErrorList::new(alloc);
-    assert!(rt; added(alloc, &mut list, 1)?);
-    assert!(rt; added(alloc, &mut more, 3)?);
-    list.append(&mut more)?;
-    assert!(rt; stand_at(&list, &[1, 3]));
-    assert!(rt; more.is_empty());
+    write_appended(alloc, &mut out, &mut ErrorList::new(alloc), &mut more)?;
+    assert_eq!(rt; out.as_str(), "list 1 3; more, 0, empty");
     Ok(())
 }
 
-/// Takes in a fault; whether there was memory for it.
-fn taken(
+fn take(
     alloc: Global,
     lists: &mut ErrorLists,
     context: &Context,
     blame: Blame,
     place: u32,
-) -> Result<bool, AllocError> {
-    Ok(
-        lists
-            .take_fault(context, blame, error_at(alloc, place)?)
-            .is_ok(),
-    )
+) -> Result<(), AllocError> {
+    lists
+        .take_fault(context, blame, error_at(alloc, place)?)
+        .map_err(|_| AllocError)
 }
 
-/// One fault of each blame, at the places 1, 2 and 3.
-fn lists_under<'a>(alloc: Global, context: &Context) -> Result<ErrorLists<'a>, AllocError> {
-    let mut lists = ErrorLists::new(alloc);
-    taken(alloc, &mut lists, context, Blame::Always, 1)?;
-    taken(alloc, &mut lists, context, Blame::Strict, 2)?;
-    taken(alloc, &mut lists, context, Blame::Module, 3)?;
-    Ok(lists)
+/// Takes in one fault of each blame, at the places 1, 2 and 3.
+fn take_each(alloc: Global, lists: &mut ErrorLists, context: &Context) -> Result<(), AllocError> {
+    take(alloc, lists, context, Blame::Always, 1)?;
+    take(alloc, lists, context, Blame::Strict, 2)?;
+    take(alloc, lists, context, Blame::Module, 3)
+}
+
+fn write_lists(out: &mut String, lists: &ErrorLists) -> Result<(), AllocError> {
+    write_places(out, "recorded", &lists.recorded)?;
+    write_places(out, "waiting", &lists.waiting)
+}
+
+fn write_taken(
+    alloc: Global,
+    out: &mut String,
+    lists: &mut ErrorLists,
+    settings: Settings,
+) -> Result<(), AllocError> {
+    take_each(alloc, lists, &flags(settings))?;
+    write_lists(out, lists)
+}
+
+fn assert_taken(
+    rt: &impl Abort,
+    alloc: Global,
+    settings: Settings,
+    expected: &str,
+) -> Result<(), Fail> {
+    let mut out = String::new(alloc);
+    write_taken(alloc, &mut out, &mut ErrorLists::new(alloc), settings)?;
+    assert_eq!(rt; out.as_str(), expected);
+    Ok(())
 }
 
 #[test]
 fn faults_are_recorded_wait_or_are_dropped(rt: HostRuntime) -> Result<(), Fail> {
-    let alloc = rt.alloc();
-    let plain = Context::default();
-    let lists = lists_under(alloc, &plain)?;
-    assert!(rt; stand_at(&lists.recorded, &[1]));
-    assert!(rt; stand_at(&lists.waiting, &[2, 3]));
-    let strict = Context {
-        strict: true,
-        ..plain
-    };
-    let lists = lists_under(alloc, &strict)?;
-    assert!(rt; stand_at(&lists.recorded, &[1, 2]));
-    assert!(rt; stand_at(&lists.waiting, &[3]));
-    let ignoring = Context {
-        ignore_error: true,
-        ..plain
-    };
-    let lists = lists_under(alloc, &ignoring)?;
-    assert!(rt; stand_at(&lists.recorded, &[]));
-    assert!(rt; stand_at(&lists.waiting, &[2, 3]));
+    let rows = [
+        (PLAIN, "recorded 1; waiting 2 3"),
+        (STRICT, "recorded 1 2; waiting 3"),
+        (IGNORING, "recorded; waiting 2 3"),
+    ];
+    for (settings, expected) in rows {
+        assert_taken(&rt, rt.alloc(), settings, expected)?;
+    }
     Ok(())
+}
+
+fn write_entered(
+    alloc: Global,
+    out: &mut String,
+    lists: &mut ErrorLists,
+) -> Result<(), AllocError> {
+    take_each(alloc, lists, &flags(PLAIN))?;
+    lists.enter(&flags(PLAIN))?;
+    write_lists(out, lists)?;
+    lists.enter(&flags(MODULE))?;
+    write_lists(out, lists)
 }
 
 #[test]
 fn what_waits_is_recorded_in_module_code(rt: HostRuntime) -> Result<(), Fail> {
     let alloc = rt.alloc();
-    let plain = Context::default();
-    let module = Context {
-        module: true,
-        ..plain
-    };
-    let mut lists = lists_under(alloc, &plain)?;
-    lists.enter(&plain)?;
-    assert!(rt; stand_at(&lists.waiting, &[2, 3]));
-    lists.enter(&module)?;
-    assert!(rt; stand_at(&lists.recorded, &[1, 2, 3]));
-    assert!(rt; stand_at(&lists.waiting, &[]));
+    let mut out = String::new(alloc);
+    write_entered(alloc, &mut out, &mut ErrorLists::new(alloc))?;
+    assert_eq!(rt;
+        out.as_str(),
+        "recorded 1; waiting 2 3; recorded 1 2 3; waiting"
+    );
     Ok(())
 }

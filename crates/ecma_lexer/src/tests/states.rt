@@ -40,39 +40,55 @@ fn answers_behind(alloc: Global, kind: TokenKind) -> Result<Answers, AllocError>
     Ok(answers(&state))
 }
 
+/// What is answered behind a token of a kind.
+const ROWS: &[(TokenKind, Answers)] = &[
+    (NAME, (true, true, true, false)),
+    (TokenKind::BackQuote, (false, true, false, false)),
+    (TokenKind::Template, (true, true, false, true)),
+    (
+        TokenKind::BinOp(BinOpToken::Add),
+        (true, false, false, false),
+    ),
+    (TokenKind::Semi, (true, true, true, false)),
+];
+
 #[test]
 fn answers_go_by_the_token_before(rt: HostRuntime) -> Result<(), Fail> {
-    let alloc = rt.alloc();
-    let fresh = State::new(alloc, Syntax::default(), BytePos(7));
-    assert_eq!(rt; answers(&fresh), (true, true, false, false));
-    assert_eq!(rt; fresh.around(None).end, BytePos(7));
-    assert_eq!(rt; answers_behind(alloc, NAME)?, (true, true, true, false));
-    assert_eq!(rt;
-        answers_behind(alloc, TokenKind::BackQuote)?,
-        (false, true, false, false)
-    );
-    assert_eq!(rt;
-        answers_behind(alloc, TokenKind::Template)?,
-        (true, true, false, true)
-    );
-    let plus = TokenKind::BinOp(BinOpToken::Add);
-    assert_eq!(rt; answers_behind(alloc, plus)?, (true, false, false, false));
-    assert_eq!(rt;
-        answers_behind(alloc, TokenKind::Semi)?,
-        (true, true, true, false)
-    );
+    for (kind, expected) in ROWS {
+        assert_eq!(rt; answers_behind(rt.alloc(), *kind)?, *expected);
+    }
     Ok(())
 }
 
 #[test]
-fn a_copy_stays_behind(rt: HostRuntime) -> Result<(), Fail> {
-    let mut state = State::new(rt.alloc(), Syntax::default(), BytePos(0));
+fn answers_go_by_the_start_before_any_token(rt: HostRuntime) -> Result<(), Fail> {
+    let fresh = State::new(rt.alloc(), Syntax::default(), BytePos(7));
+    assert_eq!(rt; answers(&fresh), (true, true, false, false));
+    assert_eq!(rt; fresh.around(None).end, BytePos(7));
+    Ok(())
+}
+
+/// Where the token before ends, and where the last template was opened.
+fn places(state: &State) -> (u32, u32) {
+    (state.around(None).end.0, state.opened.0)
+}
+
+/// A state behind the back quote that a text begins with.
+fn behind_quote(alloc: Global) -> Result<State, AllocError> {
+    let mut state = State::new(alloc, Syntax::default(), BytePos(0));
     state.take(token(TokenKind::BackQuote, 1), false)?;
+    Ok(state)
+}
+
+#[test]
+fn a_copy_stays_behind(rt: HostRuntime) -> Result<(), Fail> {
+    let mut state = behind_quote(rt.alloc())?;
     let copy = state.copy()?;
     state.take(token(TokenKind::BackQuote, 2), false)?;
-    assert!(rt; state.can_skip_space());
-    assert!(rt; !copy.can_skip_space());
-    assert_eq!(rt; copy.around(None).end, BytePos(1));
-    assert_eq!(rt; copy.opened, BytePos(0));
+    assert_eq!(rt;
+        (state.can_skip_space(), copy.can_skip_space()),
+        (true, false)
+    );
+    assert_eq!(rt; places(&copy), (1, 0));
     Ok(())
 }

@@ -3,42 +3,11 @@ ghost use Rattle.std.specs.Prelude.{◌≡◌, IsTrue, true};
 ghost use Rattle.ecma_place.specs.Cursor.{rest};
 ghost use Rattle.ecma_scan.specs.Expressions.{opens_expression};
 
-use super::span;
+use super::written::{check, write_found_token};
 use crate::expression::scan_regexp;
-use crate::found::Found;
-use ecma_place::{BytePos, Span, Spanned, StringInput};
-use ecma_token::{SyntaxError, Token};
+use ecma_place::{BytePos, StringInput};
 use std::alloc::{AllocError, Global};
-use std::process::Abort;
 use std::test::Fail;
-
-/// What is read at a slash.
-#[derive(Debug, Clone, Copy, PartialEq)]
-enum Seen<'a> {
-    /// The body, the flags, and whether these are borrowed.
-    Regex(&'a str, &'a str, bool),
-    /// Nothing closes the expression; where the error lies.
-    Unterminated(Span),
-    /// An escape of the flags is refused; where the error lies.
-    NoEscape(Span),
-    Other,
-}
-
-fn value_seen<'f>(found: &'f Found<Token>) -> Seen<'f> {
-    match &found.value {
-        Ok(token) => match token {
-            Token::Regex(body, flags) => {
-                Seen::Regex(body.as_str(), flags.as_str(), flags.is_borrowed())
-            }
-            _ => Seen::Other,
-        },
-        Err(error) => match error.kind() {
-            SyntaxError::UnterminatedRegExp => Seen::Unterminated(error.span()),
-            SyntaxError::ExpectedUnicodeEscape => Seen::NoEscape(error.span()),
-            _ => Seen::Other,
-        },
-    }
-}
 
 /// Whether a slash stands at the cursor.
 fn is_at_slash(input: &StringInput) -> bool
@@ -47,59 +16,65 @@ fn is_at_slash(input: &StringInput) -> bool
     input.cur() == Some('/')
 }
 
-/// The expression at the start of the text, where a slash stands there.
-fn read<'a>(alloc: Global, text: &'a str) -> Result<Option<Found<'a, Token<'a>>>, AllocError> {
-    if !StringInput::fits(text, BytePos(0)) {
-        return Ok(None);
+/// Writes what is found of the expression at the cursor, where one begins.
+fn write_expression(
+    alloc: Global,
+    line: &mut String,
+    input: &mut StringInput,
+) -> Result<(), AllocError> {
+    if !is_at_slash(input) {
+        return Ok(());
     }
-    let mut input = StringInput::new(text, BytePos(0));
-    if !is_at_slash(&input) {
-        return Ok(None);
-    }
-    Ok(Some(scan_regexp(alloc, &mut input)?))
+    let found = scan_regexp(alloc, input)?;
+    write_found_token(line, &found, input)
 }
 
-/// Asserts that this is read up to the place, with so many faults.
-fn assert_read(
-    rt: &impl Abort,
-    alloc: Global,
-    text: &str,
-    (seen, end, faults): (Seen, u32, usize),
-) -> Result<(), Fail> {
-    let found = read(alloc, text)?.ok_or("no slash")?;
-    assert_eq!(rt; value_seen(&found), seen, "{text}");
-    assert_eq!(rt; found.extent, span(0, end), "extent of {text}");
-    assert_eq!(rt; found.faults.len(), faults, "faults of {text}");
-    assert!(rt; !found.line_break, "line break in {text}");
-    Ok(())
+/// What is found of the expression with which the text begins, written.
+fn expression_of(alloc: Global, text: &str) -> Result<String, AllocError> {
+    let mut line = String::new(alloc);
+    if StringInput::fits(text, BytePos(0)) {
+        let mut input = StringInput::new(text, BytePos(0));
+        write_expression(alloc, &mut line, &mut input)?;
+    }
+    Ok(line)
 }
+
+const EXPRESSIONS: [(&str, &str); 7] = [
+    ("/b/g", "0..4 Regex borrowed \"b\" borrowed \"g\""),
+    ("/[/]/", "0..5 Regex borrowed \"[/]\" borrowed \"\""),
+    ("/\\//", "0..4 Regex borrowed \"\\\\/\" borrowed \"\""),
+    ("/x/g\\u0069", "0..10 Regex borrowed \"x\" owned \"gi\""),
+    (
+        "/x/g\\u002d",
+        "0..10 Regex borrowed \"x\" owned \"g-\", Always InvalidIdentChar 4..10",
+    ),
+    (
+        "/a[\\]/]b/ g",
+        "0..9 Regex borrowed \"a[\\\\]/]b\" borrowed \"\"",
+    ),
+    ("/x/\\u0069", "0..3 Regex borrowed \"x\" borrowed \"\""),
+];
 
 #[test]
 fn reads_expressions(rt: HostRuntime) -> Result<(), Fail> {
-    for (text, seen, end, faults) in [
-        ("/b/g", Seen::Regex("b", "g", true), 4, 0),
-        ("/[/]/", Seen::Regex("[/]", "", true), 5, 0),
-        ("/\\//", Seen::Regex("\\/", "", true), 4, 0),
-        ("/x/g\\u0069", Seen::Regex("x", "gi", false), 10, 0),
-        ("/x/g\\u002d", Seen::Regex("x", "g-", false), 10, 1),
-        ("/a[\\]/]b/ g", Seen::Regex("a[\\]/]b", "", true), 9, 0),
-        ("/x/\\u0069", Seen::Regex("x", "", true), 3, 0),
-    ] {
-        assert_read(&rt, rt.alloc(), text, (seen, end, faults))?;
+    for (text, line) in EXPRESSIONS {
+        check(&rt, text, expression_of(rt.alloc(), text), line)?;
     }
     Ok(())
 }
 
+const REFUSED_EXPRESSIONS: [(&str, &str); 5] = [
+    ("/a\n/", "0..2 UnterminatedRegExp 0..2"),
+    ("/a", "0..2 UnterminatedRegExp 0..2"),
+    ("/[/", "0..3 UnterminatedRegExp 0..3"),
+    ("/\\\n/", "0..2 UnterminatedRegExp 0..2"),
+    ("/x/g\\x", "0..5 ExpectedUnicodeEscape 4..4"),
+];
+
 #[test]
 fn refuses_expressions(rt: HostRuntime) -> Result<(), Fail> {
-    for (text, seen, end) in [
-        ("/a\n/", Seen::Unterminated(span(0, 2)), 2),
-        ("/a", Seen::Unterminated(span(0, 2)), 2),
-        ("/[/", Seen::Unterminated(span(0, 3)), 3),
-        ("/\\\n/", Seen::Unterminated(span(0, 2)), 2),
-        ("/x/g\\x", Seen::NoEscape(span(4, 4)), 5),
-    ] {
-        assert_read(&rt, rt.alloc(), text, (seen, end, 0))?;
+    for (text, line) in REFUSED_EXPRESSIONS {
+        check(&rt, text, expression_of(rt.alloc(), text), line)?;
     }
     Ok(())
 }

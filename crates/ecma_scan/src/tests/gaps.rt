@@ -1,318 +1,275 @@
 //! Gaps and markers of bars: what stands behind a token, from its place on.
+use super::written::{check, write_bars, write_gap};
 use crate::bars::scan_bars;
-use crate::found::Blame;
-use crate::gap::{Gap, GapMode, scan_gap};
-use ecma_place::{BytePos, CommentKind, Span, Spanned, StringInput};
+use crate::gap::{GapMode, scan_gap};
+use ecma_place::{BytePos, Span, StringInput};
 use ecma_syntax::BinOpToken;
-use ecma_token::{Error, SyntaxError, TokenKind};
-use std::alloc::Global;
-use std::process::Abort;
+use ecma_token::TokenKind;
+use std::alloc::{AllocError, Global};
 use std::test::Fail;
 
-/// Behind a token of no known kind, comments collected.
-const BEHIND: GapMode = GapMode {
+/// Behind a token of no known kind, no comments collected.
+const QUIET: GapMode = GapMode {
     first: false,
     type_mode: false,
     keeps_space: false,
     template: false,
     prev: None,
-    collect: true,
+    collect: false,
 };
 
-/// What is wrong, as far as gaps go.
-#[derive(Debug, Clone, Copy, PartialEq, Eq)]
-enum Wrong {
-    Unterminated,
-    Legacy,
-    Marker,
-    Other,
+/// Before the first token.
+const FIRST: GapMode = GapMode {
+    first: true,
+    ..QUIET
+};
+
+const QUIET_TEMPLATE: GapMode = GapMode {
+    template: true,
+    ..QUIET
+};
+
+/// Behind a token of no known kind, comments collected.
+const BEHIND: GapMode = GapMode {
+    collect: true,
+    ..QUIET
+};
+
+const OPERATOR: GapMode = GapMode {
+    prev: Some(TokenKind::BinOp(BinOpToken::Add)),
+    ..BEHIND
+};
+
+const TYPES: GapMode = GapMode {
+    type_mode: true,
+    ..BEHIND
+};
+
+const KEPT: GapMode = GapMode {
+    keeps_space: true,
+    ..BEHIND
+};
+
+const TEMPLATE: GapMode = GapMode {
+    template: true,
+    ..BEHIND
+};
+
+/// What stands in the gap at the cursor, written.
+fn gap_at(alloc: Global, input: &mut StringInput, mode: &GapMode) -> Result<String, AllocError> {
+    let mut line = String::new(alloc);
+    let lo = input.cur_pos();
+    let gap = scan_gap(alloc, input, mode)?;
+    let hi = input.cur_pos();
+    write_gap(&mut line, &gap, Span { lo, hi })?;
+    Ok(line)
 }
 
-fn wrong_of(error: &Error) -> Wrong {
-    match error.kind() {
-        SyntaxError::UnterminatedBlockComment => Wrong::Unterminated,
-        SyntaxError::LegacyCommentInModule => Wrong::Legacy,
-        SyntaxError::TS1185 => Wrong::Marker,
-        _ => Wrong::Other,
+/// What stands in the gap with which a text at a place begins, written.
+fn gap_of(alloc: Global, text: &str, start: u32, mode: &GapMode) -> Result<String, AllocError> {
+    let start = BytePos(start);
+    if StringInput::fits(text, start) {
+        gap_at(alloc, &mut StringInput::new(text, start), mode)
+    } else {
+        Ok(String::new(alloc))
     }
 }
 
-fn span(lo: u32, hi: u32) -> Span {
-    Span {
-        lo: BytePos(lo),
-        hi: BytePos(hi),
-    }
+#[test]
+fn reads_white_space_once(rt: HostRuntime) -> Result<(), Fail> {
+    let text = " \u{a0}\n\u{2029}x";
+    let mut input = StringInput::new(text, BytePos(0));
+    let written = gap_at(rt.alloc(), &mut input, &QUIET);
+    check(&rt, text, written, "0..7, line break")?;
+    let written = gap_at(rt.alloc(), &mut input, &QUIET);
+    check(&rt, text, written, "7..7")?;
+    let written = gap_at(rt.alloc(), &mut input, &FIRST);
+    check(&rt, text, written, "7..7, line break")
 }
 
-/// A comment: its kind, its span, its text, and whether it is for the next token.
-type Said = (CommentKind, Span, &'static str, bool);
-
-/// A fault: who is to blame, what is wrong, and where.
-type Fault = (Blame, Wrong, Span);
-
-/// Asserts what stands in a gap.
-fn assert_said(rt: &impl Abort, gap: &Gap, flag: bool, comments: &[Said], faults: &[Fault]) {
-    assert_eq!(rt; gap.line_break, flag);
-    assert_eq!(rt; gap.comments.len(), comments.len());
-    for ((comment, next), said) in gap.comments.iter().zip(comments) {
-        assert_eq!(rt;
-            (comment.kind, comment.span, *next),
-            (said.0, said.1, said.3)
-        );
-        assert_eq!(rt; comment.text.as_str(), said.2);
-    }
-    assert_eq!(rt; gap.faults.len(), faults.len());
-    for ((blame, error), fault) in gap.faults.iter().zip(faults) {
-        assert_eq!(rt; (*blame, wrong_of(error), error.span()), *fault);
-    }
-}
-
-/// Asserts what the gap is with which a text at a place begins, and where it ends.
-fn assert_gap(
-    rt: &impl Abort,
-    alloc: Global,
-    text: &str,
-    start: u32,
-    mode: &GapMode,
-    end: u32,
-    flag: bool,
-    comments: &[Said],
-    faults: &[Fault],
-) -> Result<(), Fail> {
-    if StringInput::fits(text, BytePos(start)) {
-        let mut input = StringInput::new(text, BytePos(start));
-        let gap = scan_gap(alloc, &mut input, mode)?;
-        assert_eq!(rt; input.cur_pos(), BytePos(end));
-        assert_said(rt, &gap, flag, comments, faults);
-    }
-    Ok(())
-}
+/// Each with the place where the text starts.
+const HTML_LIKE: [(&str, u32, &str); 4] = [
+    (
+        "\n-->x\nb",
+        1,
+        "1..7, line break, next Line 5..6 borrowed \"x\", Module LegacyCommentInModule 2..5",
+    ),
+    (
+        "<!--y\nz",
+        1,
+        "1..7, line break, Line 2..6 borrowed \"y\", Module LegacyCommentInModule 1..7",
+    ),
+    (
+        "<!--y\n/*z",
+        1,
+        "1..10, line break, Line 2..6 borrowed \"y\", Always UnterminatedBlockComment 7..10, Module LegacyCommentInModule 1..10",
+    ),
+    // no line terminator stands before
+    ("-->b", 1, "1..1"),
+];
 
 #[test]
 fn reads_html_like_comments(rt: HostRuntime) -> Result<(), Fail> {
-    let alloc = rt.alloc();
-    // `a`, LF, `-->x`, LF, `b`
-    let closing = (CommentKind::Line, span(5, 6), "x", true);
-    let legacy = (Blame::Module, Wrong::Legacy, span(2, 5));
-    assert_gap(
-        &rt,
-        alloc,
-        "\n-->x\nb",
-        1,
-        &BEHIND,
-        7,
-        true,
-        &[closing],
-        &[legacy],
-    )?;
-    // `x<!--y`, LF, `z`
-    let opening = (CommentKind::Line, span(2, 6), "y", false);
-    let legacy = (Blame::Module, Wrong::Legacy, span(1, 7));
-    assert_gap(
-        &rt,
-        alloc,
-        "<!--y\nz",
-        1,
-        &BEHIND,
-        7,
-        true,
-        &[opening],
-        &[legacy],
-    )?;
-    // `x<!--y`, LF, `/*z`
-    let open = (Blame::Always, Wrong::Unterminated, span(7, 10));
-    let legacy = (Blame::Module, Wrong::Legacy, span(1, 10));
-    assert_gap(
-        &rt,
-        alloc,
-        "<!--y\n/*z",
-        1,
-        &BEHIND,
-        10,
-        true,
-        &[opening],
-        &[open, legacy],
-    )?;
-    // `a-->b`: no line terminator stands before
-    assert_gap(&rt, alloc, "-->b", 1, &BEHIND, 1, false, &[], &[])
+    for (text, start, line) in HTML_LIKE {
+        check(&rt, text, gap_of(rt.alloc(), text, start, &BEHIND), line)?;
+    }
+    Ok(())
 }
+
+const COMMENTS: [(&str, u32, GapMode, &str); 5] = [
+    (
+        "/*/",
+        0,
+        BEHIND,
+        "0..3, Always UnterminatedBlockComment 0..3",
+    ),
+    (
+        "/*\n*/b",
+        1,
+        BEHIND,
+        "1..6, line break, next Block 1..6 borrowed \"\\n\"",
+    ),
+    // a block comment before a semicolon is never for the next token
+    ("/*x*/ ;", 1, BEHIND, "1..7, Block 1..6 borrowed \"x\""),
+    // a line comment behind a binary operator is for the next token
+    ("//x", 1, OPERATOR, "1..4, next Line 1..4 borrowed \"x\""),
+    ("//x\n/*y*/", 0, QUIET, "0..9, line break"),
+];
 
 #[test]
 fn reads_comments(rt: HostRuntime) -> Result<(), Fail> {
-    let alloc = rt.alloc();
-    // `/*/`
-    let open = (Blame::Always, Wrong::Unterminated, span(0, 3));
-    assert_gap(&rt, alloc, "/*/", 0, &BEHIND, 3, false, &[], &[open])?;
-    // `a/*`, LF, `*/b`
-    let block = (CommentKind::Block, span(1, 6), "\n", true);
-    assert_gap(&rt, alloc, "/*\n*/b", 1, &BEHIND, 6, true, &[block], &[])?;
-    // a block comment before a semicolon is never for the next token
-    let block = (CommentKind::Block, span(1, 6), "x", false);
-    assert_gap(&rt, alloc, "/*x*/ ;", 1, &BEHIND, 7, false, &[block], &[])?;
-    // a line comment behind a binary operator is for the next token
-    let operator = GapMode {
-        prev: Some(TokenKind::BinOp(BinOpToken::Add)),
-        ..BEHIND
-    };
-    let line = (CommentKind::Line, span(1, 4), "x", true);
-    assert_gap(&rt, alloc, "//x", 1, &operator, 4, false, &[line], &[])?;
-    let quiet = GapMode {
-        collect: false,
-        ..BEHIND
-    };
-    assert_gap(&rt, alloc, "//x\n/*y*/", 0, &quiet, 9, true, &[], &[])
+    for (text, start, mode, line) in COMMENTS {
+        check(&rt, text, gap_of(rt.alloc(), text, start, &mode), line)?;
+    }
+    Ok(())
 }
+
+/// A comment's end stands as the last of 32 bytes behind its opening, and as the first of the next.
+const LONG_COMMENTS: [(&str, &str); 4] = [
+    (
+        "//abcdefghijklmnopqrstuvwxyzabcde\u{2028}x",
+        "0..36, line break, Line 0..33 borrowed \"abcdefghijklmnopqrstuvwxyzabcde\"",
+    ),
+    (
+        "//abcdefghijklmnopqrstuvwxyzabcdef\u{2028}x",
+        "0..37, line break, Line 0..34 borrowed \"abcdefghijklmnopqrstuvwxyzabcdef\"",
+    ),
+    (
+        "/*abcdefghijklmnopqrstuvwxyzabcde*/x",
+        "0..35, next Block 0..35 borrowed \"abcdefghijklmnopqrstuvwxyzabcde\"",
+    ),
+    (
+        "/*abcdefghijklmnopqrstuvwxyzabcdef*/x",
+        "0..36, next Block 0..36 borrowed \"abcdefghijklmnopqrstuvwxyzabcdef\"",
+    ),
+];
 
 #[test]
 fn ends_comments_at_every_byte(rt: HostRuntime) -> Result<(), Fail> {
-    let alloc = rt.alloc();
-    let letters = "abcdefghijklmnopqrstuvwxyzabcde";
-    let line = (CommentKind::Line, span(0, 33), letters, false);
-    let text = "//abcdefghijklmnopqrstuvwxyzabcde\u{2028}x";
-    assert_gap(&rt, alloc, text, 0, &BEHIND, 36, true, &[line], &[])?;
-    let more = "abcdefghijklmnopqrstuvwxyzabcdef";
-    let line = (CommentKind::Line, span(0, 34), more, false);
-    let text = "//abcdefghijklmnopqrstuvwxyzabcdef\u{2028}x";
-    assert_gap(&rt, alloc, text, 0, &BEHIND, 37, true, &[line], &[])?;
-    let block = (CommentKind::Block, span(0, 35), letters, true);
-    let text = "/*abcdefghijklmnopqrstuvwxyzabcde*/x";
-    assert_gap(&rt, alloc, text, 0, &BEHIND, 35, false, &[block], &[])?;
-    let block = (CommentKind::Block, span(0, 36), more, true);
-    let text = "/*abcdefghijklmnopqrstuvwxyzabcdef*/x";
-    assert_gap(&rt, alloc, text, 0, &BEHIND, 36, false, &[block], &[])
+    for (text, line) in LONG_COMMENTS {
+        check(&rt, text, gap_of(rt.alloc(), text, 0, &BEHIND), line)?;
+    }
+    Ok(())
 }
+
+const MARKERS: [(&str, u32, GapMode, &str); 5] = [
+    (
+        "\n=======\nb",
+        1,
+        BEHIND,
+        "1..10, line break, next Line 5..9 borrowed \"\", Always TS1185 2..9",
+    ),
+    (
+        "\n>>>>>>> x",
+        0,
+        BEHIND,
+        "0..10, line break, next Line 4..10 borrowed \"x\", Always TS1185 1..8",
+    ),
+    (
+        "\n<<<<<<< x",
+        0,
+        BEHIND,
+        "0..10, line break, next Line 3..10 borrowed \" x\", Always TS1185 1..8",
+    ),
+    // under types `<` makes no marker
+    ("\n<<<<<<< x\ny", 0, TYPES, "0..1, line break"),
+    (" =======", 1, BEHIND, "1..2"),
+];
 
 #[test]
 fn reads_conflict_markers(rt: HostRuntime) -> Result<(), Fail> {
-    let alloc = rt.alloc();
-    // `a`, LF, seven `=`, LF, `b`
-    let equals = (CommentKind::Line, span(5, 9), "", true);
-    let marker = (Blame::Always, Wrong::Marker, span(2, 9));
-    assert_gap(
-        &rt,
-        alloc,
-        "\n=======\nb",
-        1,
-        &BEHIND,
-        10,
-        true,
-        &[equals],
-        &[marker],
-    )?;
-    let greater = (CommentKind::Line, span(4, 10), "x", true);
-    let marker = (Blame::Always, Wrong::Marker, span(1, 8));
-    assert_gap(
-        &rt,
-        alloc,
-        "\n>>>>>>> x",
-        0,
-        &BEHIND,
-        10,
-        true,
-        &[greater],
-        &[marker],
-    )?;
-    let less = (CommentKind::Line, span(3, 10), " x", true);
-    assert_gap(
-        &rt,
-        alloc,
-        "\n<<<<<<< x",
-        0,
-        &BEHIND,
-        10,
-        true,
-        &[less],
-        &[marker],
-    )?;
-    // under types `<` makes no marker
-    let types = GapMode {
-        type_mode: true,
-        ..BEHIND
-    };
-    assert_gap(&rt, alloc, "\n<<<<<<< x\ny", 0, &types, 1, true, &[], &[])?;
-    // `a =======`
-    assert_gap(&rt, alloc, " =======", 1, &BEHIND, 2, false, &[], &[])
+    for (text, start, mode, line) in MARKERS {
+        check(&rt, text, gap_of(rt.alloc(), text, start, &mode), line)?;
+    }
+    Ok(())
 }
+
+const KEPT_TEXTS: [(&str, GapMode, &str); 4] = [
+    (" //x", KEPT, "0..0"),
+    (
+        "<!--x\n",
+        KEPT,
+        "0..6, line break, Line 1..5 borrowed \"x\", Module LegacyCommentInModule 0..6",
+    ),
+    ("<!--x\n", TEMPLATE, "0..0"),
+    ("\n", QUIET_TEMPLATE, "0..0"),
+];
 
 #[test]
 fn keeps_space(rt: HostRuntime) -> Result<(), Fail> {
-    let alloc = rt.alloc();
-    let kept = GapMode {
-        keeps_space: true,
-        ..BEHIND
-    };
-    assert_gap(&rt, alloc, " //x", 0, &kept, 0, false, &[], &[])?;
-    let opening = (CommentKind::Line, span(1, 5), "x", false);
-    let legacy = (Blame::Module, Wrong::Legacy, span(0, 6));
-    assert_gap(
-        &rt,
-        alloc,
-        "<!--x\n",
-        0,
-        &kept,
-        6,
-        true,
-        &[opening],
-        &[legacy],
-    )?;
-    let template = GapMode {
-        template: true,
-        ..BEHIND
-    };
-    assert_gap(&rt, alloc, "<!--x\n", 0, &template, 0, false, &[], &[])
-}
-
-/// Asserts that no marker of bars begins a text, and that the cursor stays.
-fn assert_no_bars(rt: &impl Abort, alloc: Global, text: &str) -> Result<(), Fail> {
-    if StringInput::fits(text, BytePos(1)) {
-        let mut input = StringInput::new(text, BytePos(1));
-        assert!(rt; scan_bars(alloc, &mut input, &BEHIND)?.is_none());
-        assert_eq!(rt; input.cur_pos(), BytePos(1));
+    for (text, mode, line) in KEPT_TEXTS {
+        check(&rt, text, gap_of(rt.alloc(), text, 0, &mode), line)?;
     }
     Ok(())
 }
 
-/// Asserts what the bars are with which a text at the place 1 begins, and where they end.
-fn assert_bars(
-    rt: &impl Abort,
+/// Writes the marker of bars at the cursor and what stands behind it, if there is one.
+fn write_bars_at(
     alloc: Global,
-    text: &str,
-    end: u32,
-    comments: &[Said],
-    faults: &[Fault],
-) -> Result<(), Fail> {
+    line: &mut String,
+    input: &mut StringInput,
+) -> Result<(), AllocError> {
+    let lo = input.cur_pos();
+    let bars = scan_bars(alloc, input, &BEHIND)?;
+    let hi = input.cur_pos();
+    match &bars {
+        Some(bars) => write_bars(line, bars, Span { lo, hi }),
+        None => write!(line, "{}..{}, no bars", lo.0, hi.0),
+    }
+}
+
+/// What stands in the marker of bars with which a text at the place 1 begins, written.
+fn bars_of(alloc: Global, text: &str) -> Result<String, AllocError> {
+    let mut line = String::new(alloc);
     if StringInput::fits(text, BytePos(1)) {
         let mut input = StringInput::new(text, BytePos(1));
-        let bars = scan_bars(alloc, &mut input, &BEHIND)?.ok_or("no bars")?;
-        assert_eq!(rt; input.cur_pos(), BytePos(end));
-        assert_eq!(rt;
-            (wrong_of(&bars.error), bars.error.span()),
-            (Wrong::Marker, span(1, 8))
-        );
-        assert_said(rt, &bars.gap, true, comments, faults);
+        write_bars_at(alloc, &mut line, &mut input)?;
     }
-    Ok(())
+    Ok(line)
 }
+
+const BARS: [(&str, &str); 5] = [
+    (
+        "||||||| base\ny",
+        "1..14, line break, next Line 3..13 borrowed \" base\", Always TS1185 1..8, bars TS1185 1..8",
+    ),
+    (
+        "||||||| \n/*x*/;",
+        "1..15, line break, next Line 3..9 borrowed \" \", Block 10..15 borrowed \"x\", Always TS1185 1..8, bars TS1185 1..8",
+    ),
+    // an HTML-like comment stands behind them
+    (
+        "||||||| \n-->x",
+        "1..10, line break, next Line 3..9 borrowed \" \", Always TS1185 1..8, bars TS1185 1..8",
+    ),
+    ("|||||||", "1..1, no bars"),
+    ("|||||| x", "1..1, no bars"),
+];
 
 #[test]
 fn reads_bars(rt: HostRuntime) -> Result<(), Fail> {
-    let alloc = rt.alloc();
-    // LF, seven bars, ` base`, LF, `y`
-    let base = (CommentKind::Line, span(3, 13), " base", true);
-    let marker = (Blame::Always, Wrong::Marker, span(1, 8));
-    assert_bars(&rt, alloc, "||||||| base\ny", 14, &[base], &[marker])?;
-    let empty = (CommentKind::Line, span(3, 9), " ", true);
-    let block = (CommentKind::Block, span(10, 15), "x", false);
-    assert_bars(
-        &rt,
-        alloc,
-        "||||||| \n/*x*/;",
-        15,
-        &[empty, block],
-        &[marker],
-    )?;
-    // an HTML-like comment stands behind them
-    assert_bars(&rt, alloc, "||||||| \n-->x", 10, &[empty], &[marker])?;
-    assert_no_bars(&rt, alloc, "|||||||")?;
-    assert_no_bars(&rt, alloc, "|||||| x")
+    for (text, line) in BARS {
+        check(&rt, text, bars_of(rt.alloc(), text), line)?;
+    }
+    Ok(())
 }

@@ -3,115 +3,11 @@ ghost use Rattle.std.specs.Prelude.{◌≡◌, IsTrue, true};
 ghost use Rattle.ecma_place.specs.Cursor.{rest};
 ghost use Rattle.ecma_scan.specs.Numbers.{opens_number};
 
-use super::span;
-use crate::found::{Blame, Found};
+use super::written::{check, write_found_token};
 use crate::number::scan_number;
-use ecma_place::{BytePos, Span, Spanned, StringInput};
-use ecma_token::{Error, Radix, SyntaxError, Token};
+use ecma_place::{BytePos, CharExt, StringInput};
 use std::alloc::{AllocError, Global};
-use std::process::Abort;
 use std::test::Fail;
-
-/// What a token says of a number.
-#[derive(Debug, Clone, Copy, PartialEq)]
-struct Seen<'a> {
-    raw: &'a str,
-    is_big: bool,
-    radix: Radix,
-    digits: &'a str,
-    is_borrowed: bool,
-    whole: Option<u128>,
-}
-
-/// What is wrong.
-#[derive(Debug, Clone, Copy, PartialEq)]
-enum Wrong {
-    Separator,
-    LegacyDecimal,
-    LegacyOctal,
-    TypescriptOctal,
-    NoDigit(Radix),
-    NoExponent,
-    Name,
-    Other,
-}
-
-/// What is read of a text: up to where, the number or why it is refused, and what is wrong besides.
-#[derive(Clone, Copy)]
-struct Row<'a> {
-    end: u32,
-    value: Result<Seen<'a>, (Wrong, Span)>,
-    faults: &'a [(Blame, Wrong, Span)],
-}
-
-fn number<'a>(raw: &'a str, radix: Radix, digits: &'a str, whole: Option<u128>) -> Seen<'a> {
-    Seen {
-        raw,
-        is_big: false,
-        radix,
-        digits,
-        is_borrowed: true,
-        whole,
-    }
-}
-
-fn big<'a>(raw: &'a str, radix: Radix, digits: &'a str) -> Seen<'a> {
-    Seen {
-        raw,
-        is_big: true,
-        radix,
-        digits,
-        is_borrowed: true,
-        whole: None,
-    }
-}
-
-fn owned(seen: Seen) -> Seen {
-    Seen {
-        is_borrowed: false,
-        ..seen
-    }
-}
-
-fn fault_of(error: &Error) -> Wrong {
-    match error.kind() {
-        SyntaxError::NumericSeparatorIsAllowedOnlyBetweenTwoDigits => Wrong::Separator,
-        SyntaxError::LegacyDecimal => Wrong::LegacyDecimal,
-        SyntaxError::LegacyOctal => Wrong::LegacyOctal,
-        SyntaxError::TS1085 => Wrong::TypescriptOctal,
-        SyntaxError::ExpectedDigit { radix } => Wrong::NoDigit(*radix),
-        SyntaxError::NumLitTerminatedWithExp => Wrong::NoExponent,
-        SyntaxError::IdentAfterNum => Wrong::Name,
-        _ => Wrong::Other,
-    }
-}
-
-fn number_in<'t>(token: &'t Token) -> Option<Seen<'t>> {
-    match token {
-        Token::Num {
-            raw,
-            radix,
-            digits,
-            whole,
-        } => Some(Seen {
-            raw: raw.as_str(),
-            is_big: false,
-            radix: *radix,
-            digits: digits.as_str(),
-            is_borrowed: digits.is_borrowed(),
-            whole: *whole,
-        }),
-        Token::BigInt { raw, radix, digits } => Some(Seen {
-            raw: raw.as_str(),
-            is_big: true,
-            radix: *radix,
-            digits: digits.as_str(),
-            is_borrowed: digits.is_borrowed(),
-            whole: None,
-        }),
-        _ => None,
-    }
-}
 
 /// Whether a digit stands at the cursor.
 fn is_at_digit(input: &StringInput) -> bool
@@ -133,241 +29,205 @@ fn is_at_point(input: &StringInput) -> bool
     }
 }
 
-/// The number at the cursor, where one begins.
-fn number_at<'a>(
+/// Writes what is found of the number at the cursor, where one begins.
+fn write_number(
     alloc: Global,
-    input: &mut StringInput<'a>,
+    line: &mut String,
+    input: &mut StringInput,
     ts1085: bool,
-) -> Result<Option<Found<'a, Token<'a>>>, AllocError> {
+) -> Result<(), AllocError> {
     if is_at_digit(input) || is_at_point(input) {
-        Ok(Some(scan_number(alloc, input, ts1085)?))
-    } else {
-        Ok(None)
-    }
-}
-
-/// The number at the start of the text, where one begins it.
-fn number_of<'a>(
-    alloc: Global,
-    text: &'a str,
-    ts1085: bool,
-) -> Result<Option<Found<'a, Token<'a>>>, AllocError> {
-    if StringInput::fits(text, BytePos(0)) {
-        number_at(alloc, &mut StringInput::new(text, BytePos(0)), ts1085)
-    } else {
-        Ok(None)
-    }
-}
-
-/// Asserts that this is read of the text.
-fn assert_row(
-    rt: &impl Abort,
-    alloc: Global,
-    text: &str,
-    ts1085: bool,
-    row: Row,
-) -> Result<(), Fail> {
-    let found = number_of(alloc, text, ts1085)?.ok_or("no number")?;
-    assert_eq!(rt; found.extent, span(0, row.end), "extent of {text}");
-    assert!(rt; !found.line_break, "line break in {text}");
-    match &found.value {
-        Ok(token) => assert_eq!(rt; number_in(token), row.value.ok(), "value of {text}"),
-        Err(error) => {
-            assert_eq!(rt;
-                Some((fault_of(error), error.span())),
-                row.value.err(),
-                "refusal of {text}"
-            )
-        }
-    }
-    assert_eq!(rt; found.faults.len(), row.faults.len(), "faults of {text}");
-    for ((blame, error), want) in found.faults.iter().zip(row.faults) {
-        assert_eq!(rt;
-            (*blame, fault_of(error), error.span()),
-            *want,
-            "fault of {text}"
-        );
+        let found = scan_number(alloc, input, ts1085)?;
+        write_found_token(line, &found, input)?;
     }
     Ok(())
 }
 
-/// Asserts that the whole text is read as this number, with these faults.
-fn assert_number(
-    rt: &impl Abort,
-    alloc: Global,
-    seen: Seen,
-    faults: &[(Blame, Wrong, Span)],
-) -> Result<(), Fail> {
-    let row = Row {
-        end: u32::try_from(seen.raw.len()).map_err(|_| "too long")?,
-        value: Ok(seen),
-        faults,
-    };
-    assert_row(rt, alloc, seen.raw, false, row)
+/// What is found of the number with which the text begins, written.
+fn number_of(alloc: Global, text: &str, ts1085: bool) -> Result<String, AllocError> {
+    let mut line = String::new(alloc);
+    if StringInput::fits(text, BytePos(0)) {
+        let mut input = StringInput::new(text, BytePos(0));
+        write_number(alloc, &mut line, &mut input, ts1085)?;
+    }
+    Ok(line)
 }
 
-/// Asserts that a number up to the place is refused for this, which lies there.
-fn assert_refused(
-    rt: &impl Abort,
-    alloc: Global,
-    text: &str,
-    end: u32,
-    refusal: (Wrong, Span),
-) -> Result<(), Fail> {
-    let row = Row {
-        end,
-        value: Err(refusal),
-        faults: &[],
-    };
-    assert_row(rt, alloc, text, false, row)
-}
+const DECIMALS: [(&str, &str); 15] = [
+    ("0", "0..1 Num Decimal borrowed 0 = 0"),
+    ("7", "0..1 Num Decimal borrowed 7 = 7"),
+    (
+        "340282366920938463463374607431768211455",
+        "0..39 Num Decimal borrowed 340282366920938463463374607431768211455 = 340282366920938463463374607431768211455",
+    ),
+    (
+        "340282366920938463463374607431768211456",
+        "0..39 Num Decimal borrowed 340282366920938463463374607431768211456",
+    ),
+    (".0", "0..2 Num Decimal borrowed .0"),
+    ("0e8", "0..3 Num Decimal borrowed 0e8"),
+    (".8e1", "0..4 Num Decimal borrowed .8e1"),
+    (".5e1", "0..4 Num Decimal borrowed .5e1"),
+    ("0.8e1", "0..5 Num Decimal borrowed 0.8e1"),
+    ("1.18e1", "0..6 Num Decimal borrowed 1.18e1"),
+    ("9.09", "0..4 Num Decimal borrowed 9.09"),
+    ("1e30", "0..4 Num Decimal borrowed 1e30"),
+    ("0.e-1", "0..5 Num Decimal borrowed 0.e-1"),
+    (
+        "9.671406556917009e+24",
+        "0..21 Num Decimal borrowed 9.671406556917009e+24",
+    ),
+    (
+        "34028234663852886e22",
+        "0..20 Num Decimal borrowed 34028234663852886e22",
+    ),
+];
 
 #[test]
 fn reads_decimals(rt: HostRuntime) -> Result<(), Fail> {
-    let most = "340282366920938463463374607431768211455";
-    let more = "340282366920938463463374607431768211456";
-    for (text, whole) in [
-        ("0", Some(0)),
-        ("7", Some(7)),
-        (most, Some(u128::MAX)),
-        (more, None),
-        (".0", None),
-        ("0e8", None),
-        (".8e1", None),
-        (".5e1", None),
-        ("0.8e1", None),
-        ("1.18e1", None),
-        ("9.09", None),
-        ("1e30", None),
-        ("0.e-1", None),
-        ("9.671406556917009e+24", None),
-        ("34028234663852886e22", None),
-    ] {
-        assert_number(
-            &rt,
-            rt.alloc(),
-            number(text, Radix::Decimal, text, whole),
-            &[],
-        )?;
+    for (text, line) in DECIMALS {
+        check(&rt, text, number_of(rt.alloc(), text, false), line)?;
     }
     Ok(())
 }
+
+const PREFIXES_AND_SEPARATORS: [(&str, &str); 9] = [
+    ("0o73", "0..4 Num Octal borrowed 73 = 59"),
+    ("0XfF", "0..4 Num Hex borrowed fF = 255"),
+    ("1_000", "0..5 Num Decimal owned 1000 = 1000"),
+    ("0xAE_BE_CE", "0..10 Num Hex owned AEBECE = 11452110"),
+    ("0xFn", "0..4 BigInt Hex borrowed F"),
+    ("010n", "0..4 BigInt Decimal borrowed 010"),
+    (
+        "1__2",
+        "0..4 Num Decimal owned 12 = 12, Always NumericSeparatorIsAllowedOnlyBetweenTwoDigits 0..1",
+    ),
+    (
+        "1._5",
+        "0..4 Num Decimal owned 1.5, Always NumericSeparatorIsAllowedOnlyBetweenTwoDigits 2..2",
+    ),
+    (
+        "1_n",
+        "0..3 BigInt Decimal owned 1, Always NumericSeparatorIsAllowedOnlyBetweenTwoDigits 0..1",
+    ),
+];
 
 #[test]
 fn reads_prefixes_and_separators(rt: HostRuntime) -> Result<(), Fail> {
-    for seen in [
-        number("0o73", Radix::Octal, "73", Some(59)),
-        number("0XfF", Radix::Hex, "fF", Some(255)),
-        owned(number("1_000", Radix::Decimal, "1000", Some(1000))),
-        owned(number("0xAE_BE_CE", Radix::Hex, "AEBECE", Some(11452110))),
-        big("0xFn", Radix::Hex, "F"),
-        big("010n", Radix::Decimal, "010"),
-    ] {
-        assert_number(&rt, rt.alloc(), seen, &[])?;
-    }
-    for (seen, at) in [
-        (
-            owned(number("1__2", Radix::Decimal, "12", Some(12))),
-            span(0, 1),
-        ),
-        (
-            owned(number("1._5", Radix::Decimal, "1.5", None)),
-            span(2, 2),
-        ),
-        (owned(big("1_n", Radix::Decimal, "1")), span(0, 1)),
-    ] {
-        let fault = (Blame::Always, Wrong::Separator, at);
-        assert_number(&rt, rt.alloc(), seen, &[fault])?;
+    for (text, line) in PREFIXES_AND_SEPARATORS {
+        check(&rt, text, number_of(rt.alloc(), text, false), line)?;
     }
     Ok(())
 }
+
+/// Each with whether the fault of TypeScript is told.
+const LEGACY_NUMBERS: [(&str, bool, &str); 9] = [
+    (
+        "000",
+        false,
+        "0..3 Num Octal borrowed 000 = 0, Strict LegacyOctal 0..3",
+    ),
+    (
+        "01",
+        false,
+        "0..2 Num Octal borrowed 01 = 1, Strict LegacyOctal 0..2",
+    ),
+    (
+        "0012",
+        false,
+        "0..4 Num Octal borrowed 0012 = 10, Strict LegacyOctal 0..4",
+    ),
+    (
+        "007.",
+        false,
+        "0..3 Num Octal borrowed 007 = 7, Strict LegacyOctal 0..3",
+    ),
+    (
+        "08",
+        false,
+        "0..2 Num Decimal borrowed 08 = 8, Strict LegacyDecimal 0..2",
+    ),
+    (
+        "08.1",
+        false,
+        "0..4 Num Decimal borrowed 08.1, Strict LegacyDecimal 0..2",
+    ),
+    (
+        "08e1",
+        false,
+        "0..4 Num Decimal borrowed 08e1, Strict LegacyDecimal 0..2",
+    ),
+    (
+        "08.8e1",
+        false,
+        "0..6 Num Decimal borrowed 08.8e1, Strict LegacyDecimal 0..2",
+    ),
+    (
+        "012",
+        true,
+        "0..3 Num Octal borrowed 012 = 10, Always TS1085 0..3, Strict LegacyOctal 0..3",
+    ),
+];
 
 #[test]
 fn reads_legacy_numbers(rt: HostRuntime) -> Result<(), Fail> {
-    for (text, end, whole) in [("000", 3, 0), ("01", 2, 1), ("0012", 4, 10)] {
-        let fault = (Blame::Strict, Wrong::LegacyOctal, span(0, end));
-        assert_number(
-            &rt,
-            rt.alloc(),
-            number(text, Radix::Octal, text, Some(whole)),
-            &[fault],
-        )?;
+    for (text, ts1085, line) in LEGACY_NUMBERS {
+        check(&rt, text, number_of(rt.alloc(), text, ts1085), line)?;
     }
-    for (text, whole) in [
-        ("08", Some(8)),
-        ("08.1", None),
-        ("08e1", None),
-        ("08.8e1", None),
-    ] {
-        let fault = (Blame::Strict, Wrong::LegacyDecimal, span(0, 2));
-        assert_number(
-            &rt,
-            rt.alloc(),
-            number(text, Radix::Decimal, text, whole),
-            &[fault],
-        )?;
-    }
-    let typed = Row {
-        end: 3,
-        value: Ok(number("012", Radix::Octal, "012", Some(10))),
-        faults: &[
-            (Blame::Always, Wrong::TypescriptOctal, span(0, 3)),
-            (Blame::Strict, Wrong::LegacyOctal, span(0, 3)),
-        ],
-    };
-    assert_row(&rt, rt.alloc(), "012", true, typed)
+    Ok(())
 }
+
+const REFUSED_NUMBERS: [(&str, &str); 7] = [
+    ("3in", "0..1 IdentAfterNum 1..1"),
+    ("1e5n", "0..3 IdentAfterNum 3..3"),
+    ("00e1", "0..2 IdentAfterNum 2..2"),
+    ("012e1", "0..3 IdentAfterNum 3..3"),
+    ("1e+", "0..3 ExpectedDigit { radix: Decimal } 3..3"),
+    ("0x", "0..2 ExpectedDigit { radix: Hex } 2..2"),
+    ("1e", "0..2 NumLitTerminatedWithExp 2..2"),
+];
 
 #[test]
 fn refuses_numbers(rt: HostRuntime) -> Result<(), Fail> {
-    for (text, end, refusal) in [
-        ("3in", 1, (Wrong::Name, span(1, 1))),
-        ("1e5n", 3, (Wrong::Name, span(3, 3))),
-        ("00e1", 2, (Wrong::Name, span(2, 2))),
-        ("012e1", 3, (Wrong::Name, span(3, 3))),
-        ("1e+", 3, (Wrong::NoDigit(Radix::Decimal), span(3, 3))),
-        ("0x", 2, (Wrong::NoDigit(Radix::Hex), span(2, 2))),
-        ("1e", 2, (Wrong::NoExponent, span(2, 2))),
-    ] {
-        assert_refused(&rt, rt.alloc(), text, end, refusal)?;
+    for (text, line) in REFUSED_NUMBERS {
+        check(&rt, text, number_of(rt.alloc(), text, false), line)?;
     }
     Ok(())
 }
 
-/// Asserts that two numbers stand in the text, and where each ends.
-fn assert_two(
-    rt: &impl Abort,
-    alloc: Global,
-    text: &str,
-    first: u32,
-    second: u32,
-) -> Result<(), Fail> {
+/// What is found of the number with which the text begins and of the one behind it, written.
+fn two_numbers_of(alloc: Global, text: &str) -> Result<String, AllocError> {
+    let mut line = String::new(alloc);
     if StringInput::fits(text, BytePos(0)) {
         let mut input = StringInput::new(text, BytePos(0));
-        let one = number_at(alloc, &mut input, false)?.ok_or("no number")?;
-        assert_eq!(rt; one.extent, span(0, first), "first of {text}");
-        let two = number_at(alloc, &mut input, false)?.ok_or("no second number")?;
-        assert_eq!(rt; two.extent, span(first, second), "second of {text}");
-        assert!(rt; one.value.is_ok() && two.value.is_ok(), "{text}");
+        write_number(alloc, &mut line, &mut input, false)?;
+        line.push_str("; ")?;
+        write_number(alloc, &mut line, &mut input, false)?;
     }
-    Ok(())
+    Ok(line)
 }
 
+const TWO_NUMBERS: [(&str, &str); 4] = [
+    (
+        "0b12",
+        "0..3 Num Binary borrowed 1 = 1; 3..4 Num Decimal borrowed 2 = 2",
+    ),
+    (
+        "00.0",
+        "0..2 Num Octal borrowed 00 = 0, Strict LegacyOctal 0..2; 2..4 Num Decimal borrowed .0",
+    ),
+    (
+        "01.8e1",
+        "0..2 Num Octal borrowed 01 = 1, Strict LegacyOctal 0..2; 2..6 Num Decimal borrowed .8e1",
+    ),
+    // a name is no number
+    ("1na", "0..2 BigInt Decimal borrowed 1; "),
+];
+
 #[test]
-fn ends_where_another_number_begins(rt: HostRuntime) -> Result<(), Fail> {
-    for (text, first, second) in [("0b12", 3, 4), ("00.0", 2, 4), ("01.8e1", 2, 6)] {
-        assert_two(&rt, rt.alloc(), text, first, second)?;
+fn ends_where_another_number_or_a_name_begins(rt: HostRuntime) -> Result<(), Fail> {
+    for (text, line) in TWO_NUMBERS {
+        check(&rt, text, two_numbers_of(rt.alloc(), text), line)?;
     }
-    let binary = Row {
-        end: 3,
-        value: Ok(number("0b1", Radix::Binary, "1", Some(1))),
-        faults: &[],
-    };
-    assert_row(&rt, rt.alloc(), "0b12", false, binary)?;
-    let before_name = Row {
-        end: 2,
-        value: Ok(big("1n", Radix::Decimal, "1")),
-        faults: &[],
-    };
-    assert_row(&rt, rt.alloc(), "1na", false, before_name)
+    Ok(())
 }

@@ -1,107 +1,125 @@
-//! Words with escapes: where they end, which word they are, and what is said of them.
-use super::strings::{held, summary, told};
+//! Words, with escapes and without: where they end, which word they are, and what is said of them.
+use super::written::{check, write_found_word};
 use crate::word::scan_word;
 use ecma_place::{BytePos, CharExt, StringInput};
-use ecma_syntax::{Context, IdentLike, Word};
-use std::alloc::Global;
-use std::process::Abort;
+use ecma_syntax::Context;
+use std::alloc::{AllocError, Global};
 use std::test::Fail;
 
-/// Asserts what is found of the word with which the text begins.
-fn assert_word(
-    rt: &impl Abort,
+/// Writes what is found of the word at the cursor, where one begins.
+fn write_word(
     alloc: Global,
-    text: &str,
+    line: &mut String,
+    input: &mut StringInput,
     context: &Context,
-    line: &str,
-) -> Result<(), Fail> {
-    if !StringInput::fits(text, BytePos(0)) {
-        return Err(Fail::from("no word"));
-    }
-    let mut input = StringInput::new(text, BytePos(0));
+) -> Result<(), AllocError> {
     match input.cur() {
         Some(c) if c.is_ident_start() || c == '\\' => {}
-        _ => return Err(Fail::from("no word")),
+        _ => return Ok(()),
     }
-    let found = scan_word(alloc, &mut input, context)?;
-    let value = match &found.value {
-        Ok(Word::Ident(IdentLike::Other(text))) => held(alloc, text)?,
-        Ok(Word::Keyword(keyword)) => format!(in alloc; "keyword {}", keyword.as_str())?,
-        Ok(word) => format!(in alloc; "known {}", word.as_str())?,
-        Err(error) => told(alloc, error)?,
-    };
-    assert_eq!(rt;
-        summary(alloc, found.extent, value.as_str(), &found.faults)?.as_str(),
-        line
-    );
-    assert_eq!(rt; input.cur_pos(), found.extent.hi);
-    assert!(rt; !found.line_break);
+    let found = scan_word(alloc, input, context)?;
+    write_found_word(line, &found, input)
+}
+
+/// What is found of the word with which a text at a place begins, written.
+fn word_of(
+    alloc: Global,
+    text: &str,
+    start: BytePos,
+    context: &Context,
+) -> Result<String, AllocError> {
+    let mut line = String::new(alloc);
+    if StringInput::fits(text, start) {
+        let mut input = StringInput::new(text, start);
+        write_word(alloc, &mut line, &mut input, context)?;
+    }
+    Ok(line)
+}
+
+/// Each with the place where the text starts.
+const WORDS: [(&str, u32, &str); 13] = [
+    ("let1 let", 3, "3..7 borrowed \"let1\""),
+    ("let", 0, "0..3 keyword let"),
+    ("abc d", 0, "0..3 borrowed \"abc\""),
+    ("été", 0, "0..5 borrowed \"été\""),
+    ("a\\u{62}c", 0, "0..8 owned \"abc\""),
+    ("\\u0061€", 0, "0..6 owned \"a\""),
+    ("é\\u{e9}é1", 0, "0..11 owned \"ééé1\""),
+    ("l\\u0065t", 0, "0..8 keyword let"),
+    ("\\u0061\\u0073", 0, "0..12 known as"),
+    (
+        "\\u0031a",
+        0,
+        "0..7 owned \"1a\", Always InvalidIdentChar 0..6",
+    ),
+    ("a\\u0031", 0, "0..7 owned \"a1\""),
+    (
+        "a\\u0020b",
+        0,
+        "0..8 owned \"a b\", Always InvalidIdentChar 1..7",
+    ),
+    (
+        "a\\ud800",
+        0,
+        "0..7 owned \"a\\\\ud800\", Always InvalidIdentChar 1..7",
+    ),
+];
+
+#[test]
+fn reads_words(rt: HostRuntime) -> Result<(), Fail> {
+    let context = Context::default();
+    for (text, start, line) in WORDS {
+        let written = word_of(rt.alloc(), text, BytePos(start), &context);
+        check(&rt, text, written, line)?;
+    }
     Ok(())
 }
 
-#[test]
-fn reads_words_with_escapes(rt: HostRuntime) -> Result<(), Fail> {
-    let rows = [
-        ("abc d", "0..3 borrowed \"abc\""),
-        ("été", "0..5 borrowed \"été\""),
-        ("let", "0..3 keyword let"),
-        ("a\\u{62}c", "0..8 owned \"abc\""),
-        ("\\u0061€", "0..6 owned \"a\""),
-        ("é\\u{e9}é1", "0..11 owned \"ééé1\""),
-        ("l\\u0065t", "0..8 keyword let"),
-        ("\\u0061\\u0073", "0..12 known as"),
-        (
-            "\\u0031a",
-            "0..7 owned \"1a\", Always InvalidIdentChar 0..6",
-        ),
-        ("a\\u0031", "0..7 owned \"a1\""),
-        (
-            "a\\u0020b",
-            "0..8 owned \"a b\", Always InvalidIdentChar 1..7",
-        ),
-        (
-            "a\\ud800",
-            "0..7 owned \"a\\\\ud800\", Always InvalidIdentChar 1..7",
-        ),
-    ];
-    for (text, line) in rows {
-        assert_word(&rt, rt.alloc(), text, &Context::default(), line)?;
-    }
-    Ok(())
-}
+const REFUSED_WORDS: [(&str, &str); 6] = [
+    (
+        "\\u0062reak",
+        "0..10 EscapeInReservedWord { word: \"break\" } 0..10",
+    ),
+    (
+        "n\\u{75}ll",
+        "0..9 EscapeInReservedWord { word: \"null\" } 0..9",
+    ),
+    ("a\\x", "0..2 ExpectedUnicodeEscape 1..1"),
+    ("ab\\", "0..3 ExpectedUnicodeEscape 2..2"),
+    ("\\u{61", "0..5 InvalidUnicodeEscape 3..5"),
+    (
+        "\\u0031\\u61",
+        "0..10 BadCharacterEscapeSequence { expected: \"4 hex characters\" } 10..10, Always InvalidIdentChar 0..6",
+    ),
+];
 
 #[test]
 fn refuses_words(rt: HostRuntime) -> Result<(), Fail> {
-    let rows = [
-        (
-            "\\u0062reak",
-            "0..10 EscapeInReservedWord { word: \"break\" } 0..10",
-        ),
-        (
-            "n\\u{75}ll",
-            "0..9 EscapeInReservedWord { word: \"null\" } 0..9",
-        ),
-        ("a\\x", "0..2 ExpectedUnicodeEscape 1..1"),
-        ("ab\\", "0..3 ExpectedUnicodeEscape 2..2"),
-        ("\\u{61", "0..5 InvalidUnicodeEscape 3..5"),
-        (
-            "\\u0031\\u61",
-            "0..10 BadCharacterEscapeSequence { expected: \"4 hex characters\" } 10..10, Always InvalidIdentChar 0..6",
-        ),
-    ];
-    for (text, line) in rows {
-        assert_word(&rt, rt.alloc(), text, &Context::default(), line)?;
+    let context = Context::default();
+    for (text, line) in REFUSED_WORDS {
+        let written = word_of(rt.alloc(), text, BytePos(0), &context);
+        check(&rt, text, written, line)?;
     }
-    let strict = Context {
+    Ok(())
+}
+
+const STRICT_WORDS: [(&str, &str); 2] = [
+    ("let", "0..3 keyword let"),
+    (
+        "l\\u0065t",
+        "0..8 EscapeInReservedWord { word: \"let\" } 0..8",
+    ),
+];
+
+#[test]
+fn refuses_escapes_in_words_of_strict_code(rt: HostRuntime) -> Result<(), Fail> {
+    let context = Context {
         strict: true,
         ..Context::default()
     };
-    assert_word(&rt, rt.alloc(), "let", &strict, "0..3 keyword let")?;
-    assert_word(
-        &rt,
-        rt.alloc(),
-        "l\\u0065t",
-        &strict,
-        "0..8 EscapeInReservedWord { word: \"let\" } 0..8",
-    )
+    for (text, line) in STRICT_WORDS {
+        let written = word_of(rt.alloc(), text, BytePos(0), &context);
+        check(&rt, text, written, line)?;
+    }
+    Ok(())
 }

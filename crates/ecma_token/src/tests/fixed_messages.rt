@@ -1,559 +1,561 @@
-//! The bytes of the message of each of the parser's errors that hold nothing.
+//! The bytes of the message of each of the parser's errors that hold nothing, and their names.
 
-use super::{assert_messages, span};
-use crate::{Error, SyntaxError};
+use super::names::named;
+use super::{assert_message, span};
+use crate::{Error, PlainError, SyntaxError};
+use std::alloc::Global;
+use std::process::Abort;
 use std::test::Fail;
+
+type Row = (PlainError, &'static str);
+
+const PARSER: [Row; 30] = [
+    (PlainError::Eof, "Unexpected eof"),
+    (PlainError::DeclNotAllowed, "Declaration is not allowed"),
+    (
+        PlainError::UsingDeclNotAllowed,
+        "Using declaration is not allowed",
+    ),
+    (
+        PlainError::UsingDeclNotAllowedForForInLoop,
+        "Using declaration is not allowed in for-in loop",
+    ),
+    (
+        PlainError::UsingDeclNotEnabled,
+        "Using declaration is not enabled. Set jsc.parser.explicitResourceManagement to true",
+    ),
+    (
+        PlainError::InvalidNameInUsingDecl,
+        "Using declaration only allows identifiers",
+    ),
+    (
+        PlainError::InitRequiredForUsingDecl,
+        "Using declaration requires initializer",
+    ),
+    (
+        PlainError::PrivateNameInInterface,
+        "private names are not allowed in interface",
+    ),
+    (PlainError::InvalidSuperCall, "Invalid `super()`"),
+    (PlainError::InvalidSuper, "Invalid access to super"),
+    (
+        PlainError::InvalidSuperPrivateName,
+        "Index super with private name is not allowed",
+    ),
+    (
+        PlainError::InvalidNewTarget,
+        "'new.target' is only allowed in the body of a function declaration, function expression, or class.",
+    ),
+    (PlainError::InvalidImport, "Import is not allowed here"),
+    (
+        PlainError::ArrowNotAllowed,
+        "An arrow function is not allowed here",
+    ),
+    (PlainError::ExportNotAllowed, "`export` is not allowed here"),
+    (
+        PlainError::GetterSetterCannotBeReadonly,
+        "A getter or a setter cannot be readonly",
+    ),
+    (
+        PlainError::GetterSetterCannotBeOptional,
+        "A getter or a setter cannot be optional",
+    ),
+    (
+        PlainError::GetterParam,
+        "A `get` accessor cannot have parameters",
+    ),
+    (
+        PlainError::SetterParam,
+        "A `set` accessor must have exactly one parameter",
+    ),
+    (
+        PlainError::TopLevelAwaitInScript,
+        "top level await is only allowed in module",
+    ),
+    (
+        PlainError::SetterParamRequired,
+        "Setter should have exactly one parameter",
+    ),
+    (
+        PlainError::RestPatInSetter,
+        "Rest pattern is not allowed in setter",
+    ),
+    (
+        PlainError::InvalidIdentInAsync,
+        "`await` cannot be used as an identifier in an async context",
+    ),
+    (
+        PlainError::EvalAndArgumentsInStrict,
+        "'eval' and 'arguments' cannot be used as a binding identifier in strict mode",
+    ),
+    (
+        PlainError::ArgumentsInClassField,
+        "'arguments' is only allowed in functions and class methods",
+    ),
+    (
+        PlainError::IllegalLanguageModeDirective,
+        "Illegal 'use strict' directive in function with non-simple parameter list.",
+    ),
+    (PlainError::Hash, "Unexpected token '#'"),
+    (
+        PlainError::LineBreakInThrow,
+        "LineBreak cannot follow 'throw'",
+    ),
+    (
+        PlainError::LineBreakBeforeArrow,
+        "Unexpected line break between arrow head and arrow",
+    ),
+    (
+        PlainError::ReservedWordInImport,
+        "cannot import as reserved word",
+    ),
+];
+
+const STATEMENTS: [Row; 30] = [
+    (
+        PlainError::AssignProperty,
+        "assignment property is invalid syntax",
+    ),
+    (
+        PlainError::AwaitStar,
+        "await* has been removed from the async functions proposal. Use Promise.all() instead.",
+    ),
+    (
+        PlainError::ReservedWordInObjShorthandOrPat,
+        "Cannot use a reserved word as a shorthand property",
+    ),
+    (
+        PlainError::NullishCoalescingWithLogicalOp,
+        "Nullish coalescing operator(??) requires parens when mixing with logical operators",
+    ),
+    (
+        PlainError::CommaAfterRestElement,
+        "Trailing comma isn't permitted after a rest element",
+    ),
+    (
+        PlainError::NonLastRestParam,
+        "Rest element must be final element",
+    ),
+    (
+        PlainError::SpreadInParenExpr,
+        "Parenthesized expression cannot contain spread operator",
+    ),
+    (
+        PlainError::EmptyParenExpr,
+        "Parenthesized expression cannot be empty",
+    ),
+    (PlainError::InvalidPat, "Not a pattern"),
+    (PlainError::InvalidExpr, "Not an expression"),
+    (PlainError::NotSimpleAssign, "Cannot assign to this"),
+    (PlainError::InvalidAssignTarget, "Invalid assignment target"),
+    (PlainError::ExpectedIdent, "Expected ident"),
+    (PlainError::ExpectedSemi, "Expected ';' or line break"),
+    (
+        PlainError::AsyncGenerator,
+        "An async function cannot be generator",
+    ),
+    (
+        PlainError::NonTopLevelImportExport,
+        "'import', and 'export' are not permitted here",
+    ),
+    (
+        PlainError::ImportExportInScript,
+        "'import', and 'export' cannot be used outside of module code",
+    ),
+    (
+        PlainError::ImportMetaInScript,
+        "'import.meta' cannot be used outside of module code.",
+    ),
+    (
+        PlainError::PatVarWithoutInit,
+        "Destructuring bindings require initializers",
+    ),
+    (
+        PlainError::WithInStrict,
+        "With statement are not allowed in strict mode",
+    ),
+    (
+        PlainError::ReturnNotAllowed,
+        "Return statement is not allowed here",
+    ),
+    (
+        PlainError::TooManyVarInForInHead,
+        "Expected one variable binding",
+    ),
+    (
+        PlainError::VarInitializerInForInHead,
+        "Unexpected initializer in for in/of loop",
+    ),
+    (
+        PlainError::LabelledGeneratorOrAsync,
+        "Generator or async function cannot be labelled",
+    ),
+    (
+        PlainError::LabelledFunctionInStrict,
+        "Function cannot be labelled in strict mode",
+    ),
+    (
+        PlainError::YieldParamInGen,
+        "'yield' cannot be used as a parameter within generator",
+    ),
+    (
+        PlainError::AwaitParamInAsync,
+        "`await` expressions cannot be used in a parameter initializer.",
+    ),
+    (
+        PlainError::AwaitForStmt,
+        "for await syntax is valid only for for-of statement",
+    ),
+    (
+        PlainError::AwaitInFunction,
+        "await isn't allowed in non-async function",
+    ),
+    (
+        PlainError::UnterminatedJSXContents,
+        "Unterminated JSX contents",
+    ),
+];
+
+const CLASSES: [Row; 28] = [
+    (
+        PlainError::EmptyJSXAttr,
+        "JSX attributes must only be assigned a non-empty expression",
+    ),
+    (
+        PlainError::InvalidJSXValue,
+        "JSX value should be either an expression or a quoted JSX text",
+    ),
+    (
+        PlainError::JSXExpectedClosingTagForLtGt,
+        "Expected corresponding JSX closing tag for <>",
+    ),
+    (
+        PlainError::InvalidLeadingDecorator,
+        "Leading decorators must be attached to a class declaration",
+    ),
+    (
+        PlainError::DecoratorOnExport,
+        "Using the export keyword between a decorator and a class is not allowed. Please use `export @dec class` instead.",
+    ),
+    (
+        PlainError::TsRequiredAfterOptional,
+        "A required element cannot follow an optional element.",
+    ),
+    (
+        PlainError::TsInvalidParamPropPat,
+        "Typescript parameter property must be an identifier or assignment pattern",
+    ),
+    (
+        PlainError::SpaceBetweenHashAndIdent,
+        "Unexpected space between # and identifier",
+    ),
+    (
+        PlainError::AsyncConstructor,
+        "Constructor can't be an async function",
+    ),
+    (
+        PlainError::PropertyNamedConstructor,
+        "Classes may not have a non-static field named 'constructor'",
+    ),
+    (
+        PlainError::PrivateConstructor,
+        "Classes can't have a private field named '#constructor'.",
+    ),
+    (
+        PlainError::ConstructorAccessor,
+        "Class constructor can't be an accessor.",
+    ),
+    (PlainError::ReadOnlyMethod, "A method cannot be readonly"),
+    (
+        PlainError::GeneratorConstructor,
+        "A constructor cannot be generator",
+    ),
+    (
+        PlainError::DuplicateConstructor,
+        "A class can only have one constructor",
+    ),
+    (
+        PlainError::TsBindingPatCannotBeOptional,
+        "A binding pattern parameter cannot be optional in an implementation signature.",
+    ),
+    (
+        PlainError::SuperCallOptional,
+        "Super call cannot be optional",
+    ),
+    (
+        PlainError::OptChainCannotFollowConstructorCall,
+        "Constructor in/after an optional chaining is not allowed.",
+    ),
+    (
+        PlainError::TaggedTplInOptChain,
+        "Tagged template literal is not allowed in optional chain.",
+    ),
+    (
+        PlainError::TrailingCommaInsideImport,
+        "Trailing comma is disallowed inside import(...) arguments",
+    ),
+    (
+        PlainError::ExportDefaultWithOutFrom,
+        "export default statements required from '...';",
+    ),
+    (
+        PlainError::DotsWithoutIdentifier,
+        "`...` must be followed by an identifier in declaration contexts",
+    ),
+    (
+        PlainError::ExportBindingIsString,
+        "A string literal cannot be used as an exported binding without `from`.",
+    ),
+    (
+        PlainError::ConstDeclarationsRequireInitialization,
+        "'const' declarations must be initialized",
+    ),
+    (
+        PlainError::UnknownRegExpFlags,
+        "Unknown regular expression flags.",
+    ),
+    (
+        PlainError::TSTypeAnnotationAfterAssign,
+        "Type annotations must come before default assignments",
+    ),
+    (
+        PlainError::ReservedTypeAssertion,
+        "This syntax is reserved in files with the .mts or .cts extension. Use an `as` expression instead.",
+    ),
+    (
+        PlainError::ReservedArrowTypeParam,
+        "This syntax is reserved in files with the .mts or .cts extension. Add a trailing comma, as in `<T,>() => ...`.",
+    ),
+];
+
+const TYPESCRIPT: [Row; 30] = [
+    (PlainError::TS1003, "Expected an identifier"),
+    (PlainError::TS1005, "Expected a semicolon"),
+    (PlainError::TS1009, "Trailing comma is not allowed"),
+    (
+        PlainError::TS1014,
+        "A rest parameter must be last in a parameter list",
+    ),
+    (
+        PlainError::TS1015,
+        "Parameter cannot have question mark and initializer",
+    ),
+    (
+        PlainError::TS1031,
+        "`declare` modifier cannot appear on class elements of this kind",
+    ),
+    (
+        PlainError::TS1038,
+        "`declare` modifier not allowed for code already in an ambient context",
+    ),
+    (PlainError::TS1042, "`async` modifier cannot be used here"),
+    (PlainError::TS1047, "A rest parameter cannot be optional"),
+    (
+        PlainError::TS1048,
+        "A rest parameter cannot have an initializer",
+    ),
+    (
+        PlainError::TS1056,
+        "jsc.target should be es5 or upper to use getter / setter",
+    ),
+    (
+        PlainError::TS1092,
+        "Type parameters cannot appear on a constructor declaration",
+    ),
+    (
+        PlainError::TS1093,
+        "Type annotation cannot appear on a constructor declaration",
+    ),
+    (
+        PlainError::TS1096,
+        "An index signature must have exactly one parameter",
+    ),
+    (PlainError::TS1098, "Type parameter list cannot be empty"),
+    (
+        PlainError::TS1100,
+        "Invalid use of 'arguments' in strict mode",
+    ),
+    (
+        PlainError::TS1102,
+        "'delete' cannot be called on an identifier in strict mode",
+    ),
+    (
+        PlainError::TS1105,
+        "A 'break' statement can only be used within an enclosing iteration or switch statement",
+    ),
+    (
+        PlainError::TS1106,
+        "The left-hand side of a `for...of` statement may not be `async`",
+    ),
+    (
+        PlainError::TS1107,
+        "Jump target cannot cross function boundary",
+    ),
+    (PlainError::TS1109, "Expression expected"),
+    (PlainError::TS1110, "type expected"),
+    (PlainError::TS1114, "Duplicate label"),
+    (
+        PlainError::TS1115,
+        "A 'continue' statement can only jump to a label of an enclosing iteration statement",
+    ),
+    (
+        PlainError::TS1116,
+        "A 'break' statement can only jump to a label of an enclosing statement",
+    ),
+    (
+        PlainError::TS1123,
+        "Variable declaration list cannot be empty",
+    ),
+    (
+        PlainError::TS1141,
+        "literal in an import type should be string literal",
+    ),
+    (
+        PlainError::TS1162,
+        "An object member cannot be declared optional",
+    ),
+    (
+        PlainError::TS1164,
+        "Computed property names are not allowed in enums",
+    ),
+    (
+        PlainError::TS1171,
+        "A comma expression is not allowed in a computed property name",
+    ),
+];
+
+const TYPES: [Row; 27] = [
+    (PlainError::TS1172, "`extends` clause already seen."),
+    (
+        PlainError::TS1173,
+        "'extends' clause must precede 'implements' clause.",
+    ),
+    (PlainError::TS1174, "Classes can only extend a single class"),
+    (PlainError::TS1175, "`implements` clause already seen"),
+    (
+        PlainError::TS1183,
+        "An implementation cannot be declared in ambient contexts",
+    ),
+    (PlainError::TS1184, "Modifiers cannot appear here"),
+    (
+        PlainError::TS1196,
+        "Catch clause variable cannot have a type annotation",
+    ),
+    (
+        PlainError::TS1242,
+        "`abstract` modifier can only appear on a class or method declaration",
+    ),
+    (
+        PlainError::TS1244,
+        "Abstract methods can only appear within an abstract class.",
+    ),
+    (
+        PlainError::TS1245,
+        "Abstract method cannot have an implementation.",
+    ),
+    (
+        PlainError::TS1267,
+        "Abstract property cannot have an initializer.",
+    ),
+    (
+        PlainError::TS2206,
+        "The 'type' modifier cannot be used on a named import when 'import type' is used on its import statement.",
+    ),
+    (
+        PlainError::TS2207,
+        "The 'type' modifier cannot be used on a named export when 'export type' is used on its export statement.",
+    ),
+    (
+        PlainError::TS2369,
+        "A parameter property is only allowed in a constructor implementation",
+    ),
+    (
+        PlainError::TS2371,
+        "A parameter initializer is only allowed in a function or constructor implementation",
+    ),
+    (
+        PlainError::TS2406,
+        "The left-hand side of an assignment expression must be a variable or a property access.",
+    ),
+    (
+        PlainError::TS2410,
+        "The 'with' statement is not supported. All symbols in a 'with' block will have type 'any'.",
+    ),
+    (PlainError::TS2414, "Invalid class name"),
+    (PlainError::TS2427, "interface name is invalid"),
+    (
+        PlainError::TS2452,
+        "An enum member cannot have a numeric name",
+    ),
+    (
+        PlainError::TS2483,
+        "The left-hand side of a 'for...of' statement cannot use a type annotation",
+    ),
+    (
+        PlainError::TS2491,
+        "The left-hand side of a 'for...in' statement cannot be a destructuring pattern",
+    ),
+    (
+        PlainError::TS2499,
+        "An interface can only extend an identifier/qualified-name with optional type arguments.",
+    ),
+    (
+        PlainError::TS2703,
+        "The operand of a delete operator must be a property reference.",
+    ),
+    (
+        PlainError::TS4112,
+        "This member cannot have an 'override' modifier because its containing class does not extend another class.",
+    ),
+    (
+        PlainError::TS8038,
+        "Decorators may not appear after `export` or `export default` if they also appear before `export`.",
+    ),
+    (
+        PlainError::TS18010,
+        "An accessibility modifier cannot be used with a private identifier.",
+    ),
+];
+
+// The error is the constant of its own name.
+fn assert_named(rt: &impl Abort, plain: PlainError) {
+    let error = SyntaxError::Plain(plain);
+    let found = named(&error);
+    drop(error);
+    assert_eq!(rt; found, Some(plain));
+}
+
+fn assert_rows(rt: &impl Abort, alloc: Global, rows: &[Row]) -> Result<(), Fail> {
+    for (plain, want) in rows {
+        assert_named(rt, *plain);
+        assert_message(rt, alloc, SyntaxError::Plain(*plain), want)?;
+    }
+    Ok(())
+}
 
 #[test]
 fn parser_messages(rt: HostRuntime) -> Result<(), Fail> {
-    assert_messages(
-        &rt,
-        rt.alloc(),
-        &[
-            (SyntaxError::Eof, "Unexpected eof"),
-            (SyntaxError::DeclNotAllowed, "Declaration is not allowed"),
-            (
-                SyntaxError::UsingDeclNotAllowed,
-                "Using declaration is not allowed",
-            ),
-            (
-                SyntaxError::UsingDeclNotAllowedForForInLoop,
-                "Using declaration is not allowed in for-in loop",
-            ),
-            (
-                SyntaxError::UsingDeclNotEnabled,
-                "Using declaration is not enabled. Set jsc.parser.explicitResourceManagement to true",
-            ),
-            (
-                SyntaxError::InvalidNameInUsingDecl,
-                "Using declaration only allows identifiers",
-            ),
-            (
-                SyntaxError::InitRequiredForUsingDecl,
-                "Using declaration requires initializer",
-            ),
-            (
-                SyntaxError::PrivateNameInInterface,
-                "private names are not allowed in interface",
-            ),
-            (SyntaxError::InvalidSuperCall, "Invalid `super()`"),
-            (SyntaxError::InvalidSuper, "Invalid access to super"),
-            (
-                SyntaxError::InvalidSuperPrivateName,
-                "Index super with private name is not allowed",
-            ),
-            (
-                SyntaxError::InvalidNewTarget,
-                "'new.target' is only allowed in the body of a function declaration, function expression, or class.",
-            ),
-            (SyntaxError::InvalidImport, "Import is not allowed here"),
-            (
-                SyntaxError::ArrowNotAllowed,
-                "An arrow function is not allowed here",
-            ),
-            (
-                SyntaxError::ExportNotAllowed,
-                "`export` is not allowed here",
-            ),
-            (
-                SyntaxError::GetterSetterCannotBeReadonly,
-                "A getter or a setter cannot be readonly",
-            ),
-            (
-                SyntaxError::GetterSetterCannotBeOptional,
-                "A getter or a setter cannot be optional",
-            ),
-            (
-                SyntaxError::GetterParam,
-                "A `get` accessor cannot have parameters",
-            ),
-            (
-                SyntaxError::SetterParam,
-                "A `set` accessor must have exactly one parameter",
-            ),
-            (
-                SyntaxError::TopLevelAwaitInScript,
-                "top level await is only allowed in module",
-            ),
-            (
-                SyntaxError::SetterParamRequired,
-                "Setter should have exactly one parameter",
-            ),
-            (
-                SyntaxError::RestPatInSetter,
-                "Rest pattern is not allowed in setter",
-            ),
-            (
-                SyntaxError::InvalidIdentInAsync,
-                "`await` cannot be used as an identifier in an async context",
-            ),
-            (
-                SyntaxError::EvalAndArgumentsInStrict,
-                "'eval' and 'arguments' cannot be used as a binding identifier in strict mode",
-            ),
-            (
-                SyntaxError::ArgumentsInClassField,
-                "'arguments' is only allowed in functions and class methods",
-            ),
-            (
-                SyntaxError::IllegalLanguageModeDirective,
-                "Illegal 'use strict' directive in function with non-simple parameter list.",
-            ),
-            (SyntaxError::Hash, "Unexpected token '#'"),
-            (
-                SyntaxError::LineBreakInThrow,
-                "LineBreak cannot follow 'throw'",
-            ),
-            (
-                SyntaxError::LineBreakBeforeArrow,
-                "Unexpected line break between arrow head and arrow",
-            ),
-            (
-                SyntaxError::ReservedWordInImport,
-                "cannot import as reserved word",
-            ),
-        ],
-    )
+    assert_rows(&rt, rt.alloc(), &PARSER)
 }
 
 #[test]
 fn parser_messages_of_statements(rt: HostRuntime) -> Result<(), Fail> {
-    assert_messages(
-        &rt,
-        rt.alloc(),
-        &[
-            (
-                SyntaxError::AssignProperty,
-                "assignment property is invalid syntax",
-            ),
-            (
-                SyntaxError::AwaitStar,
-                "await* has been removed from the async functions proposal. Use Promise.all() instead.",
-            ),
-            (
-                SyntaxError::ReservedWordInObjShorthandOrPat,
-                "Cannot use a reserved word as a shorthand property",
-            ),
-            (
-                SyntaxError::NullishCoalescingWithLogicalOp,
-                "Nullish coalescing operator(??) requires parens when mixing with logical operators",
-            ),
-            (
-                SyntaxError::CommaAfterRestElement,
-                "Trailing comma isn't permitted after a rest element",
-            ),
-            (
-                SyntaxError::NonLastRestParam,
-                "Rest element must be final element",
-            ),
-            (
-                SyntaxError::SpreadInParenExpr,
-                "Parenthesized expression cannot contain spread operator",
-            ),
-            (
-                SyntaxError::EmptyParenExpr,
-                "Parenthesized expression cannot be empty",
-            ),
-            (SyntaxError::InvalidPat, "Not a pattern"),
-            (SyntaxError::InvalidExpr, "Not an expression"),
-            (SyntaxError::NotSimpleAssign, "Cannot assign to this"),
-            (
-                SyntaxError::InvalidAssignTarget,
-                "Invalid assignment target",
-            ),
-            (SyntaxError::ExpectedIdent, "Expected ident"),
-            (SyntaxError::ExpectedSemi, "Expected ';' or line break"),
-            (
-                SyntaxError::AsyncGenerator,
-                "An async function cannot be generator",
-            ),
-            (
-                SyntaxError::NonTopLevelImportExport,
-                "'import', and 'export' are not permitted here",
-            ),
-            (
-                SyntaxError::ImportExportInScript,
-                "'import', and 'export' cannot be used outside of module code",
-            ),
-            (
-                SyntaxError::ImportMetaInScript,
-                "'import.meta' cannot be used outside of module code.",
-            ),
-            (
-                SyntaxError::PatVarWithoutInit,
-                "Destructuring bindings require initializers",
-            ),
-            (
-                SyntaxError::WithInStrict,
-                "With statement are not allowed in strict mode",
-            ),
-            (
-                SyntaxError::ReturnNotAllowed,
-                "Return statement is not allowed here",
-            ),
-            (
-                SyntaxError::TooManyVarInForInHead,
-                "Expected one variable binding",
-            ),
-            (
-                SyntaxError::VarInitializerInForInHead,
-                "Unexpected initializer in for in/of loop",
-            ),
-            (
-                SyntaxError::LabelledGeneratorOrAsync,
-                "Generator or async function cannot be labelled",
-            ),
-            (
-                SyntaxError::LabelledFunctionInStrict,
-                "Function cannot be labelled in strict mode",
-            ),
-            (
-                SyntaxError::YieldParamInGen,
-                "'yield' cannot be used as a parameter within generator",
-            ),
-            (
-                SyntaxError::AwaitParamInAsync,
-                "`await` expressions cannot be used in a parameter initializer.",
-            ),
-            (
-                SyntaxError::AwaitForStmt,
-                "for await syntax is valid only for for-of statement",
-            ),
-            (
-                SyntaxError::AwaitInFunction,
-                "await isn't allowed in non-async function",
-            ),
-            (
-                SyntaxError::UnterminatedJSXContents,
-                "Unterminated JSX contents",
-            ),
-        ],
-    )
+    assert_rows(&rt, rt.alloc(), &STATEMENTS)
 }
 
 #[test]
 fn parser_messages_of_classes(rt: HostRuntime) -> Result<(), Fail> {
-    assert_messages(
-        &rt,
-        rt.alloc(),
-        &[
-            (
-                SyntaxError::EmptyJSXAttr,
-                "JSX attributes must only be assigned a non-empty expression",
-            ),
-            (
-                SyntaxError::InvalidJSXValue,
-                "JSX value should be either an expression or a quoted JSX text",
-            ),
-            (
-                SyntaxError::JSXExpectedClosingTagForLtGt,
-                "Expected corresponding JSX closing tag for <>",
-            ),
-            (
-                SyntaxError::InvalidLeadingDecorator,
-                "Leading decorators must be attached to a class declaration",
-            ),
-            (
-                SyntaxError::DecoratorOnExport,
-                "Using the export keyword between a decorator and a class is not allowed. Please use `export @dec class` instead.",
-            ),
-            (
-                SyntaxError::TsRequiredAfterOptional,
-                "A required element cannot follow an optional element.",
-            ),
-            (
-                SyntaxError::TsInvalidParamPropPat,
-                "Typescript parameter property must be an identifier or assignment pattern",
-            ),
-            (
-                SyntaxError::SpaceBetweenHashAndIdent,
-                "Unexpected space between # and identifier",
-            ),
-            (
-                SyntaxError::AsyncConstructor,
-                "Constructor can't be an async function",
-            ),
-            (
-                SyntaxError::PropertyNamedConstructor,
-                "Classes may not have a non-static field named 'constructor'",
-            ),
-            (
-                SyntaxError::PrivateConstructor,
-                "Classes can't have a private field named '#constructor'.",
-            ),
-            (
-                SyntaxError::ConstructorAccessor,
-                "Class constructor can't be an accessor.",
-            ),
-            (SyntaxError::ReadOnlyMethod, "A method cannot be readonly"),
-            (
-                SyntaxError::GeneratorConstructor,
-                "A constructor cannot be generator",
-            ),
-            (
-                SyntaxError::DuplicateConstructor,
-                "A class can only have one constructor",
-            ),
-            (
-                SyntaxError::TsBindingPatCannotBeOptional,
-                "A binding pattern parameter cannot be optional in an implementation signature.",
-            ),
-            (
-                SyntaxError::SuperCallOptional,
-                "Super call cannot be optional",
-            ),
-            (
-                SyntaxError::OptChainCannotFollowConstructorCall,
-                "Constructor in/after an optional chaining is not allowed.",
-            ),
-            (
-                SyntaxError::TaggedTplInOptChain,
-                "Tagged template literal is not allowed in optional chain.",
-            ),
-            (
-                SyntaxError::TrailingCommaInsideImport,
-                "Trailing comma is disallowed inside import(...) arguments",
-            ),
-            (
-                SyntaxError::ExportDefaultWithOutFrom,
-                "export default statements required from '...';",
-            ),
-            (
-                SyntaxError::DotsWithoutIdentifier,
-                "`...` must be followed by an identifier in declaration contexts",
-            ),
-            (
-                SyntaxError::ExportBindingIsString,
-                "A string literal cannot be used as an exported binding without `from`.",
-            ),
-            (
-                SyntaxError::ConstDeclarationsRequireInitialization,
-                "'const' declarations must be initialized",
-            ),
-            (
-                SyntaxError::UnknownRegExpFlags,
-                "Unknown regular expression flags.",
-            ),
-            (
-                SyntaxError::TSTypeAnnotationAfterAssign,
-                "Type annotations must come before default assignments",
-            ),
-            (
-                SyntaxError::ReservedTypeAssertion,
-                "This syntax is reserved in files with the .mts or .cts extension. Use an `as` expression instead.",
-            ),
-            (
-                SyntaxError::ReservedArrowTypeParam,
-                "This syntax is reserved in files with the .mts or .cts extension. Add a trailing comma, as in `<T,>() => ...`.",
-            ),
-        ],
-    )
+    assert_rows(&rt, rt.alloc(), &CLASSES)
 }
 
 #[test]
 fn typescript_messages(rt: HostRuntime) -> Result<(), Fail> {
-    assert_messages(
-        &rt,
-        rt.alloc(),
-        &[
-            (SyntaxError::TS1003, "Expected an identifier"),
-            (SyntaxError::TS1005, "Expected a semicolon"),
-            (SyntaxError::TS1009, "Trailing comma is not allowed"),
-            (
-                SyntaxError::TS1014,
-                "A rest parameter must be last in a parameter list",
-            ),
-            (
-                SyntaxError::TS1015,
-                "Parameter cannot have question mark and initializer",
-            ),
-            (
-                SyntaxError::TS1031,
-                "`declare` modifier cannot appear on class elements of this kind",
-            ),
-            (
-                SyntaxError::TS1038,
-                "`declare` modifier not allowed for code already in an ambient context",
-            ),
-            (SyntaxError::TS1042, "`async` modifier cannot be used here"),
-            (SyntaxError::TS1047, "A rest parameter cannot be optional"),
-            (
-                SyntaxError::TS1048,
-                "A rest parameter cannot have an initializer",
-            ),
-            (
-                SyntaxError::TS1056,
-                "jsc.target should be es5 or upper to use getter / setter",
-            ),
-            (
-                SyntaxError::TS1092,
-                "Type parameters cannot appear on a constructor declaration",
-            ),
-            (
-                SyntaxError::TS1093,
-                "Type annotation cannot appear on a constructor declaration",
-            ),
-            (
-                SyntaxError::TS1096,
-                "An index signature must have exactly one parameter",
-            ),
-            (SyntaxError::TS1098, "Type parameter list cannot be empty"),
-            (
-                SyntaxError::TS1100,
-                "Invalid use of 'arguments' in strict mode",
-            ),
-            (
-                SyntaxError::TS1102,
-                "'delete' cannot be called on an identifier in strict mode",
-            ),
-            (
-                SyntaxError::TS1105,
-                "A 'break' statement can only be used within an enclosing iteration or switch statement",
-            ),
-            (
-                SyntaxError::TS1106,
-                "The left-hand side of a `for...of` statement may not be `async`",
-            ),
-            (
-                SyntaxError::TS1107,
-                "Jump target cannot cross function boundary",
-            ),
-            (SyntaxError::TS1109, "Expression expected"),
-            (SyntaxError::TS1110, "type expected"),
-            (SyntaxError::TS1114, "Duplicate label"),
-            (
-                SyntaxError::TS1115,
-                "A 'continue' statement can only jump to a label of an enclosing iteration statement",
-            ),
-            (
-                SyntaxError::TS1116,
-                "A 'break' statement can only jump to a label of an enclosing statement",
-            ),
-            (
-                SyntaxError::TS1123,
-                "Variable declaration list cannot be empty",
-            ),
-            (
-                SyntaxError::TS1141,
-                "literal in an import type should be string literal",
-            ),
-            (
-                SyntaxError::TS1162,
-                "An object member cannot be declared optional",
-            ),
-            (
-                SyntaxError::TS1164,
-                "Computed property names are not allowed in enums",
-            ),
-            (
-                SyntaxError::TS1171,
-                "A comma expression is not allowed in a computed property name",
-            ),
-        ],
-    )
+    assert_rows(&rt, rt.alloc(), &TYPESCRIPT)
 }
 
 #[test]
 fn typescript_messages_of_types(rt: HostRuntime) -> Result<(), Fail> {
-    assert_messages(
-        &rt,
-        rt.alloc(),
-        &[
-            (SyntaxError::TS1172, "`extends` clause already seen."),
-            (
-                SyntaxError::TS1173,
-                "'extends' clause must precede 'implements' clause.",
-            ),
-            (
-                SyntaxError::TS1174,
-                "Classes can only extend a single class",
-            ),
-            (SyntaxError::TS1175, "`implements` clause already seen"),
-            (
-                SyntaxError::TS1183,
-                "An implementation cannot be declared in ambient contexts",
-            ),
-            (SyntaxError::TS1184, "Modifiers cannot appear here"),
-            (
-                SyntaxError::TS1196,
-                "Catch clause variable cannot have a type annotation",
-            ),
-            (
-                SyntaxError::TS1242,
-                "`abstract` modifier can only appear on a class or method declaration",
-            ),
-            (
-                SyntaxError::TS1244,
-                "Abstract methods can only appear within an abstract class.",
-            ),
-            (
-                SyntaxError::TS1245,
-                "Abstract method cannot have an implementation.",
-            ),
-            (
-                SyntaxError::TS1267,
-                "Abstract property cannot have an initializer.",
-            ),
-            (
-                SyntaxError::TS2206,
-                "The 'type' modifier cannot be used on a named import when 'import type' is used on its import statement.",
-            ),
-            (
-                SyntaxError::TS2207,
-                "The 'type' modifier cannot be used on a named export when 'export type' is used on its export statement.",
-            ),
-            (
-                SyntaxError::TS2369,
-                "A parameter property is only allowed in a constructor implementation",
-            ),
-            (
-                SyntaxError::TS2371,
-                "A parameter initializer is only allowed in a function or constructor implementation",
-            ),
-            (
-                SyntaxError::TS2406,
-                "The left-hand side of an assignment expression must be a variable or a property access.",
-            ),
-            (
-                SyntaxError::TS2410,
-                "The 'with' statement is not supported. All symbols in a 'with' block will have type 'any'.",
-            ),
-            (SyntaxError::TS2414, "Invalid class name"),
-            (SyntaxError::TS2427, "interface name is invalid"),
-            (
-                SyntaxError::TS2452,
-                "An enum member cannot have a numeric name",
-            ),
-            (
-                SyntaxError::TS2483,
-                "The left-hand side of a 'for...of' statement cannot use a type annotation",
-            ),
-            (
-                SyntaxError::TS2491,
-                "The left-hand side of a 'for...in' statement cannot be a destructuring pattern",
-            ),
-            (
-                SyntaxError::TS2499,
-                "An interface can only extend an identifier/qualified-name with optional type arguments.",
-            ),
-            (
-                SyntaxError::TS2703,
-                "The operand of a delete operator must be a property reference.",
-            ),
-            (
-                SyntaxError::TS4112,
-                "This member cannot have an 'override' modifier because its containing class does not extend another class.",
-            ),
-            (
-                SyntaxError::TS8038,
-                "Decorators may not appear after `export` or `export default` if they also appear before `export`.",
-            ),
-            (
-                SyntaxError::TS18010,
-                "An accessibility modifier cannot be used with a private identifier.",
-            ),
-        ],
-    )
+    assert_rows(&rt, rt.alloc(), &TYPES)
 }
 
 #[test]
