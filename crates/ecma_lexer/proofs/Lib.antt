@@ -11,6 +11,7 @@ pub mod ItemLemmas
 pub mod OpeningLemmas
 pub mod ProgressLemmas
 pub mod ReadingLemmas
+pub mod ReplayLemmas
 pub mod SlashLemmas
 pub mod TilingLemmas
 pub mod TokenLemmas

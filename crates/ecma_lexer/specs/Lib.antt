@@ -15,6 +15,7 @@ pub mod Mode
 pub mod Reading
 pub mod Run
 pub mod Session
+pub mod Replay
 pub mod Slashes
 pub mod State
 pub mod Tiling

@@ -1,14 +1,16 @@
 //! The lexer.
-ghost use Rattle.std.specs.Prelude.{◌≡◌, ◌<◌, true, false, None, Err, alloc_error, length, map, option_map, IfOk, IsOk, OnOk, OnErr};
+ghost use Rattle.std.specs.Prelude.{◌≡◌, ◌<◌, true, false, None, Err, alloc_error, drop, is_some, length, map, option_map, IfOk, IsOk, OnOk, OnErr};
 ghost use Rattle.ecma_token.specs.View.{error_view, spanned_view};
 ghost use Rattle.ecma_lexer.specs.Besides.{IsBeside, TakesNone, seen_beside, state_taking};
 ghost use Rattle.ecma_lexer.specs.Slashes.{IsAnswer, MayReread, slash_answered};
 ghost use Rattle.ecma_lexer.specs.Session.{Session, kept_in, lexer_state, state_of};
 ghost use Rattle.ecma_lexer.specs.declared.step.Step.{Step};
-ghost use Rattle.ecma_lexer.specs.Run.{act, answer_in, is_free_read, mode_of, reading_of, start_of, state_allowing, state_behind, state_rereading};
+ghost use Rattle.ecma_lexer.specs.Run.{act, answer_in, is_free_read, mode_of, reading_of, start_of, state_allowing, state_behind, state_rereading, state_with_contexts};
+ghost use Rattle.ecma_lexer.specs.Contexts.{innermost};
+ghost use Rattle.ecma_lexer.specs.Errors.{errors_view};
 
 use crate::commented::Commented;
-use crate::comments_buffer::CommentsBuffer;
+use crate::comments_buffer::{BufferedComment, CommentsBuffer};
 use crate::error_list::ErrorList;
 use crate::errors::ErrorLists;
 use crate::kept::Kept;
@@ -151,6 +153,41 @@ impl<'a> Lexer<'a> {
             comments: self.comments.copy()?,
             refused: self.refused,
         })
+    }
+
+    /// Whether the next read begins at a slash.
+    pub(crate) fn reads_again(&self) -> bool
+        ensures { result ≡ is_some self.now.reread }
+    {
+        self.reread.is_some()
+    }
+
+    /// Takes the innermost context away, and answers whether there was one.
+    pub(crate) fn pop_context(&mut self) -> bool
+        ensures some { result ≡ is_some (innermost self.old.state.contexts) }
+        ensures after { lexer_state self.new ≡ state_with_contexts (drop 1 self.old.state.contexts) (lexer_state self.old) }
+    {
+        self.state.contexts.pop().is_some()
+    }
+
+    /// The errors, the comments, and whether the last answer was the end.
+    pub(crate) fn into_parts(self) -> (ErrorLists<'a>, Vec<BufferedComment<'a>>, bool)
+        ensures errors { errors_view result.0 ≡ (lexer_state self.entry).errors }
+        ensures comments { result.1.items ≡ self.entry.comments }
+        ensures ended { result.2 ≡ self.entry.state.seen.ended }
+    {
+        let Lexer {
+            alloc: _,
+            settings: _,
+            input: _,
+            context: _,
+            state,
+            reread: _,
+            errors,
+            mut comments,
+            refused: _,
+        } = self;
+        (errors, comments.take_comments(), state.seen.ended)
     }
 
     /// What the next read goes by.

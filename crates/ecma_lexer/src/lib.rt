@@ -1,6 +1,7 @@
 //! The lexer: what it reads by, the token at a place, and one read after another.
 #![tactic(auto)]
 
+pub mod answer;
 mod attachment;
 pub mod commented;
 pub mod comments_buffer;
@@ -12,7 +13,10 @@ pub mod laws;
 pub mod lexer;
 pub mod mode;
 mod opening;
+mod player;
 mod read;
+pub mod replayed;
+pub mod runner;
 pub mod settings;
 pub mod state;
 pub mod step;
@@ -25,10 +29,13 @@ pub mod tokens;
 mod transition;
 
 pub use commented::{Commented, hand_comments};
+pub use answer::Answer;
 pub use comments_buffer::{BufferedComment, BufferedCommentKind, CommentsBuffer};
 pub use error_list::ErrorList;
 pub use kept::Kept;
 pub use lexer::Lexer;
+pub use replayed::Replay;
+pub use runner::replay;
 pub use settings::Settings;
 pub use state::State;
 pub use step::Step;
