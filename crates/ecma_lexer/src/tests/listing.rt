@@ -234,6 +234,10 @@ fn write_held(out: &mut String, token: &Token) -> Result<(), AllocError> {
             write!(out, " {radix:?}")?;
             write_text(out, digits)
         }
+        Token::Regex(body, flags) => {
+            write_text(out, body)?;
+            write_text(out, flags)
+        }
         Token::Shebang(text) => write_text(out, text),
         Token::Error(error) => {
             out.push_str(" ")?;
@@ -258,7 +262,11 @@ fn flag_name(flag: bool) -> &'static str {
 }
 
 /// Writes a token, and also the flag of the lexer where that is another than the token's.
-fn write_token(out: &mut String, token: &TokenAndSpan, flag: bool) -> Result<bool, AllocError> {
+pub(super) fn write_token(
+    out: &mut String,
+    token: &TokenAndSpan,
+    flag: bool,
+) -> Result<bool, AllocError> {
     begin(out)?;
     write_span(out, token.span)?;
     out.push_str(flag_name(token.had_line_break))?;
@@ -278,7 +286,7 @@ pub(super) fn write_next(out: &mut String, lexer: &mut Lexer) -> Result<bool, Al
 }
 
 /// Writes the tokens up to the end, and any that is given behind the end.
-fn write_tokens(out: &mut String, lexer: &mut Lexer) -> Result<(), AllocError> {
+pub(super) fn write_tokens(out: &mut String, lexer: &mut Lexer) -> Result<(), AllocError> {
     for _ in 0..READS {
         if !write_next(out, lexer)? {
             break;
