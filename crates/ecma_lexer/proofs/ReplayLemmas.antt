@@ -1,6 +1,6 @@
 -- One more step of a replay, and where all of them lead.
-use Rattle.std.proofs.Common.{◌≡◌, ◌∙◌, ℕ, zero, suc, Bool, List, [], ◌∷◌, ◌++◌, append_assoc, map, Option, Some, None, Result, Ok, Err, refl, sym, subst, ap}
-use Rattle.std.specs.Prelude.{fold, slice_get, IfOk}
+use Rattle.std.proofs.Common.{◌≡◌, ◌∙◌, ℕ, zero, suc, ◌<◌, ◌≤◌, Bool, List, length, arith, [], ◌∷◌, ◌++◌, append_assoc, map, Option, Some, None, Result, Ok, Err, refl, sym, subst, ap}
+use Rattle.std.specs.Prelude.{fold, slice_get, slice_index_or, IfOk}
 use Rattle.std.proofs.lemmas.List.{append-nil, map-append}
 use Rattle.std.proofs.lemmas.List.Sums.{fold-append}
 use Rattle.ecma_syntax.specs.declared.context.Context.{Context}
@@ -120,6 +120,17 @@ save_follows begin xs old new saved follows same player saves kept =
     kept refl
 
 -- a way back
+
+pub get-some : (ps : List PlayerKept) (n : ℕ) (p : PlayerKept) → n < length ps → ((d : PlayerKept) → p ≡ slice_index_or ps n d) → slice_get ps n ≡ Some p
+get-some [] n p less is = absurd (omega (arith, less))
+get-some (q ∷ qs) zero p less is = ap (λ x. Some x) (sym (is p))
+get-some (q ∷ qs) (suc n) p less is = get-some qs n p (omega (arith, less)) is
+
+pub get-none : (ps : List PlayerKept) (n : ℕ) → length ps ≤ n → slice_get ps n ≡ None
+get-none [] zero past = refl
+get-none [] (suc n) past = refl
+get-none (q ∷ qs) zero past = absurd (omega (arith, past))
+get-none (q ∷ qs) (suc n) past = get-none qs n (omega (arith, past))
 
 -- the save of a number has come to where the steps of that number lead
 all-get : (begin : Session) (steps : List (List Step)) (ps : List PlayerKept) (n : ℕ) (p : PlayerKept) → AllAt begin steps ps → slice_get ps n ≡ Some p
