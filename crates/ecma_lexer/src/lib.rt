@@ -28,8 +28,8 @@ pub mod token_contexts;
 pub mod tokens;
 mod transition;
 
-pub use commented::{Commented, hand_comments};
 pub use answer::Answer;
+pub use commented::{Commented, hand_comments};
 pub use comments_buffer::{BufferedComment, BufferedCommentKind, CommentsBuffer};
 pub use error_list::ErrorList;
 pub use kept::Kept;

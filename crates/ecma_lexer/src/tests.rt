@@ -11,6 +11,7 @@ mod gaps;
 mod items;
 mod listing;
 mod numbers;
+mod replays;
 mod rereads;
 mod states;
 mod strings;

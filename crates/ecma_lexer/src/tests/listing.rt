@@ -296,7 +296,11 @@ pub(super) fn write_tokens(out: &mut String, lexer: &mut Lexer) -> Result<(), Al
     Ok(())
 }
 
-fn write_errors(out: &mut String, what: &str, errors: &[Error]) -> Result<(), AllocError> {
+pub(super) fn write_errors(
+    out: &mut String,
+    what: &str,
+    errors: &[Error],
+) -> Result<(), AllocError> {
     for error in errors {
         write_note(out, what)?;
         write_error(out, error)?;
