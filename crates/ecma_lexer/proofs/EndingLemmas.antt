@@ -1,5 +1,5 @@
 -- A text is read to its end by enough reads.
-use Rattle.std.proofs.Common.{subst, ◌≡◌, ◌∙◌, ℕ, zero, suc, ◌+◌, ◌-◌, ◌<◌, ◌≤◌, Bool, true, false, List, [], ◌∷◌, ◌++◌, append-nil, Option, Some, None, length, refl, sym, ap, arith, reverse}
+use Rattle.std.proofs.Common.{◌≡◌, ◌∙◌, ℕ, zero, suc, ◌+◌, ◌-◌, ◌<◌, ◌≤◌, Bool, true, false, List, [], ◌∷◌, ◌++◌, append-nil, Option, Some, None, length, refl, sym, ap, arith, reverse}
 use Rattle.std.specs.Prelude.{fold, is_some, option_map, Result, Ok, Err, IfOk, OnOk}
 use Rattle.std.proofs.lemmas.Grind.{reverse_onto}
 use Rattle.ecma_place.specs.Text.{Text, byte_len}

@@ -1,5 +1,5 @@
 -- Each item of a lexer leaves fewer.
-use Rattle.std.proofs.Common.{◌≡◌, ◌∙◌, ◌+◌, ◌<◌, Bool, true, false, Option, Some, None, refl, sym, subst, ap, arith}
+use Rattle.std.proofs.Common.{◌≡◌, ◌∙◌, ◌<◌, Bool, true, false, Option, Some, None, refl, sym, subst, ap, arith}
 use Rattle.std.specs.Iterator.{IsFinite, size}
 use Rattle.ecma_place.specs.declared.place.BytePos.{BytePos}
 use Rattle.ecma_token.specs.View.{SpannedView}

@@ -1,13 +1,12 @@
 -- One more step of a replay, and where all of them lead.
-use Rattle.std.proofs.Common.{◌≡◌, ◌∙◌, ℕ, zero, suc, ◌<◌, ◌≤◌, Bool, List, length, arith, [], ◌∷◌, ◌++◌, append_assoc, map, Option, Some, None, Result, Ok, Err, refl, sym, subst, ap}
-use Rattle.std.specs.Prelude.{fold, slice_get, slice_index_or, IfOk}
-use Rattle.std.proofs.lemmas.List.{append-nil, map-append}
+use Rattle.std.proofs.Common.{◌≡◌, ◌∙◌, ℕ, zero, suc, ◌<◌, ◌≤◌, Bool, List, length, arith, [], ◌∷◌, ◌++◌, map, Some, None, Result, Ok, Err, refl, sym, subst, ap}
+use Rattle.std.specs.Prelude.{slice_get, slice_index_or, IfOk}
+use Rattle.std.proofs.lemmas.List.{map-append}
 use Rattle.std.proofs.lemmas.List.Sums.{fold-append}
 use Rattle.ecma_syntax.specs.declared.context.Context.{Context}
 use Rattle.ecma_lexer.specs.Contexts.{Contexts}
 use Rattle.ecma_lexer.specs.Counting.{Counted, count_all, count_step, counted, gone_back, none_yet}
 use Rattle.ecma_lexer.specs.Replay.{Acts, AllAt, Follows, IsAt, PlayerKept, RunnerKept, answer_view, with_answer}
-use Rattle.ecma_lexer.specs.Run as run
 use Rattle.ecma_lexer.specs.Run.{act, act_all, act_on, answer_behind, answers_behind, back_answer}
 use Rattle.ecma_lexer.specs.Session.{Session}
 use Rattle.ecma_lexer.specs.declared.answer.Answer.{Answer}

@@ -2,7 +2,7 @@
 use Rattle.std.specs.Prelude.{ℕ, ◌+◌, Bool, true, ◌≡◌, nat_lt, List, [], ◌∷◌, ◌++◌, length}
 use Rattle.std.specs.List.{list_all}
 use Rattle.ecma_lexer.specs.Counting.{none_yet, count_all, counting}
-use Rattle.ecma_lexer.specs.Run.{answers_behind, session}
+use Rattle.ecma_lexer.specs.Run.{answers_behind}
 use Rattle.ecma_lexer.specs.Session.{Session}
 use Rattle.ecma_lexer.specs.declared.step.Step.{Step}
 use Rattle.ecma_lexer.specs.declared.step.Step.TheVariants.{Save, Back}

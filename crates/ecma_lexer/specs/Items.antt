@@ -1,5 +1,5 @@
 -- What a lexer gives as an iterator.
-use Rattle.std.specs.Prelude.{◌≡◌, ◌+◌, true, false, Bool, Option, Some, None, Result, Ok, Err, option_map}
+use Rattle.std.specs.Prelude.{◌≡◌, ◌+◌, true, false, Bool, Option, Some, None, Result, Ok, Err}
 use Rattle.std.specs.Iterator.{Count, at_most, endless}
 use Rattle.std.specs.declared.alloc.AllocError.{AllocError}
 use Rattle.ecma_place.specs.declared.place.BytePos.{BytePos}

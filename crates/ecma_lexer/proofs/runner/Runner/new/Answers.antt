@@ -1,5 +1,4 @@
-use Rattle.std.proofs.Common.{ap, map, refl}
-use Rattle.ecma_lexer.specs.Replay.{answer_view}
+use Rattle.std.proofs.Common.{refl}
 use Rattle.ecma_lexer.specs.Run.{start_of}
 use Rattle.ecma_lexer.proofs.ReplayLemmas.{start_follows}
 use Rattle.ecma_lexer.proofs.runner.Runner.new.Goals as goal
