@@ -1,13 +1,14 @@
 -- What is written of the comments of a text: a line each. The form of the lines is our own choice.
-use Rattle.std.specs.Prelude.{ℕ, true, List, [], ◌∷◌, ◌++◌, codes, decimal, flat_map}
+use Rattle.std.specs.Prelude.{ℕ, true, List, [], ◌∷◌, ◌++◌, Option, codes, decimal, flat_map, option_map}
 use Rattle.ecma_place.specs.declared.comment.CommentKind.{CommentKind}
 use Rattle.ecma_place.specs.declared.comment.CommentKind.TheVariants.{Line, Block}
 use Rattle.ecma_lexer.specs.Ending.{comments_of}
+use Rattle.ecma_lexer.specs.Session.{Session}
 use Rattle.ecma_lexer.specs.declared.comments_buffer.BufferedComment.{BufferedComment}
 use Rattle.ecma_lexer.specs.declared.comments_buffer.BufferedCommentKind.{BufferedCommentKind}
 use Rattle.ecma_lexer.specs.declared.comments_buffer.BufferedCommentKind.TheVariants.{Leading, Trailing}
-use Rattle.ecma_lex.specs.Begin.{begin}
 use Rattle.ecma_lex.specs.Lines.{escaped}
+use Rattle.ecma_lex.specs.Opening.{opening}
 use Rattle.ecma_lex.specs.declared.command.Options.{Options}
 
 abbrev pub side_name : BufferedCommentKind → List ℕ
@@ -33,5 +34,8 @@ abbrev pub comment_lines : List BufferedComment → List ℕ
 comment_lines comments = flat_map comment_line comments
 
 -- the comments in the order in which the lexer hands them over
-abbrev pub comments_text : Options → List ℕ → List ℕ
-comments_text options bytes = comment_lines (comments_of (begin true options bytes))
+abbrev pub comments_from : Session → List ℕ
+comments_from s = comment_lines (comments_of s)
+
+abbrev pub comments_text : Options → List ℕ → List ℕ → Option (List ℕ)
+comments_text options rereads bytes = option_map comments_from (opening true options rereads bytes)

@@ -1,12 +1,13 @@
 -- What is written of the errors of a text: a line each. The form of the lines is our own choice.
-use Rattle.std.specs.Prelude.{ℕ, false, List, [], ◌∷◌, ◌++◌, Option, Some, None, codes, decimal, flat_map}
+use Rattle.std.specs.Prelude.{ℕ, false, List, [], ◌∷◌, ◌++◌, Option, Some, None, codes, decimal, flat_map, option_map}
 use Rattle.ecma_place.specs.declared.place.Span.{Span}
 use Rattle.ecma_token.specs.View.{ErrorView, SpannedView, TokenView, error_token}
 use Rattle.ecma_lexer.specs.Disposition as lists
 use Rattle.ecma_lexer.specs.Ending.{errors_of, tokens_of}
-use Rattle.ecma_lex.specs.Begin.{begin}
+use Rattle.ecma_lexer.specs.Session.{Session}
 use Rattle.ecma_lex.specs.Lines.{escaped}
 use Rattle.ecma_lex.specs.MessageView.{view_message}
+use Rattle.ecma_lex.specs.Opening.{opening}
 use Rattle.ecma_lex.specs.declared.command.Options.{Options}
 
 -- what kind of error it is and where it lies, each with a space behind it
@@ -37,5 +38,8 @@ found_lines (Some t) = token_lines t
 abbrev pub list_lines : lists.Errors → List ℕ
 list_lines errors = error_lines (codes "recorded") errors.recorded ++ error_lines (codes "waiting") errors.waiting
 
-abbrev pub errors_text : Options → List ℕ → List ℕ
-errors_text options bytes = flat_map token_lines (tokens_of (begin false options bytes)) ++ list_lines (errors_of (begin false options bytes))
+abbrev pub errors_from : Session → List ℕ
+errors_from s = flat_map token_lines (tokens_of s) ++ list_lines (errors_of s)
+
+abbrev pub errors_text : Options → List ℕ → List ℕ → Option (List ℕ)
+errors_text options rereads bytes = option_map errors_from (opening false options rereads bytes)

@@ -1,14 +1,14 @@
 -- What is written of the tokens of a text: a line each. The form of the lines is our own choice.
-use Rattle.std.specs.Prelude.{ℕ, Bool, true, false, List, [], ◌∷◌, ◌++◌, map, flat_map, codes, decimal, slice_range, if◌then◌else◌, ◌==◌}
+use Rattle.std.specs.Prelude.{ℕ, Bool, true, false, List, [], ◌∷◌, ◌++◌, Option, option_map, map, flat_map, codes, decimal, slice_range, if◌then◌else◌, ◌==◌}
 use Rattle.ecma_syntax.specs.declared.word.WordKind.{WordKind}
 use Rattle.ecma_syntax.specs.declared.word.WordKind.TheVariants as word
 use Rattle.ecma_token.specs.declared.kind.TokenKind.{TokenKind}
 use Rattle.ecma_token.specs.declared.kind.TokenKind.TheVariants as kind
 use Rattle.ecma_lexer.specs.declared.kept.Kept.{Kept}
-use Rattle.ecma_lexer.specs.Session.{kept_of}
+use Rattle.ecma_lexer.specs.Session.{Session, kept_of}
 use Rattle.ecma_lexer.specs.Ending.{tokens_of}
 use Rattle.ecma_lex.specs.declared.command.Options.{Options}
-use Rattle.ecma_lex.specs.Begin.{begin}
+use Rattle.ecma_lex.specs.Opening.{opening}
 
 -- a backslash, a line feed and a carriage return are written with a backslash
 abbrev pub escaped_byte : ℕ → List ℕ
@@ -79,6 +79,10 @@ line bytes t = head t ++ escaped (slice_range bytes t.span.lo.0 t.span.hi.0) ++ 
 abbrev pub lines : List ℕ → List Kept → List ℕ
 lines bytes tokens = flat_map (line bytes) tokens
 
--- what is written of the tokens of a text
-abbrev pub tokens_text : Options → List ℕ → List ℕ
-tokens_text options bytes = lines bytes (map kept_of (tokens_of (begin false options bytes)))
+-- what is written of the tokens of a text that is read on from a session
+abbrev pub tokens_from : List ℕ → Session → List ℕ
+tokens_from bytes s = lines bytes (map kept_of (tokens_of s))
+
+-- what is written of the tokens of a text, some of which are read again
+abbrev pub tokens_text : Options → List ℕ → List ℕ → Option (List ℕ)
+tokens_text options rereads bytes = option_map (tokens_from bytes) (opening false options rereads bytes)

@@ -1,11 +1,14 @@
 //! The words of the command line, and what they ask for.
-ghost use Rattle.std.specs.Prelude.{◌≡◌, ◌^◌, ◌<◌, Some, IfOk, length, map, string_bytes};
+ghost use Rattle.std.specs.Prelude.{◌≡◌, ◌^◌, ◌<◌, true, Some, MatchResult, is_some, length, map, option_map, string_bytes};
+ghost use Rattle.ecma_lex.specs.Command.{named_command, once, request_of, request_view, with_option};
+ghost use Rattle.ecma_lex.specs.Opening.{Lacks};
 ghost use Rattle.ecma_lex.specs.Reply.{program_text};
-ghost use Rattle.ecma_lex.specs.Command.{named_command, once, options_behind, request_of, with_option, no_options};
 
 use crate::comments::comments_text;
 use crate::errors::errors_text;
+use crate::fault::Fault;
 use crate::lines::tokens_text;
+use crate::particulars::Particulars;
 use std::alloc::{AllocError, Global};
 
 /// What is to be written of a text.
@@ -53,7 +56,7 @@ impl Options {
     }
 
     /// The options with one more, which a word names, and which was not there before.
-    fn with(self, word: &str) -> Option<Options>
+    pub fn with(self, word: &str) -> Option<Options>
         ensures { result ≡ with_option self word.now }
     {
         match word {
@@ -75,52 +78,60 @@ impl Options {
             _ => None,
         }
     }
-
-    /// The options that the words name.
-    fn from_words(words: &[String]) -> Option<Options>
-        ensures { result ≡ options_behind (Some no_options) (map string_bytes words.now) }
-    {
-        let mut options = Options::default();
-        for word in words {
-            options = options.with(word.as_str())?;
-        }
-        Some(options)
-    }
 }
 
 /// What the words ask for.
-#[derive(Clone, Copy, Debug, PartialEq, Eq)]
+#[derive(Drop)]
 pub struct Request {
     pub command: Command,
     pub options: Options,
+    /// The numbers of the tokens that are read again, in order.
+    pub rereads: Vec<u64>,
 }
 
 impl Request {
     /// What the words ask for, or nothing where they are bad. No word asks for the tokens.
-    pub fn from_words(words: &[String]) -> Option<Request>
-        ensures { result ≡ request_of (map string_bytes words.now) }
+    ///
+    /// # Errors
+    ///
+    /// `AllocError` where the words are good, and there is no memory for the numbers in them.
+    pub fn from_words(alloc: Global, words: &[String]) -> Result<Option<Request>, AllocError>
+        ensures { MatchResult result
+            (λ request. option_map request_view request ≡ request_of (map string_bytes words.now))
+            (λ _. is_some (request_of (map string_bytes words.now)) ≡ true) }
     {
-        match words {
-            [] => Some(Request {
+        let [word, behind @ ..] = words else {
+            return Ok(Some(Request {
                 command: Command::Tokens,
                 options: Options::default(),
-            }),
-            [command, options @ ..] => Some(Request {
-                command: Command::named(command.as_str())?,
-                options: Options::from_words(options)?,
-            }),
+                rereads: Vec::new(alloc),
+            }));
+        };
+        let Some(command) = Command::named(word.as_str()) else {
+            return Ok(None);
+        };
+        match Particulars::from_words(alloc, behind) {
+            Some(particulars) => Ok(Some(particulars.with_command(command)?)),
+            None => Ok(None),
         }
     }
 
     /// What is written for a text.
-    pub fn text(self, alloc: Global, text: &str) -> Result<Vec<u8>, AllocError>
+    ///
+    /// # Errors
+    ///
+    /// `NoSlash` where a token that is to be read again is no slash or isn't there; `OutOfMemory`.
+    pub fn text(&self, alloc: Global, text: &str) -> Result<Vec<u8>, Fault>
         requires { length text.now < 2 ^ 32 }
-        ensures { IfOk result (λ written. written.items ≡ program_text self text.now) }
+        ensures { MatchResult result
+            (λ written. program_text (request_view self.now) text.now ≡ Some written.items)
+            (λ fault. Lacks (program_text (request_view self.now) text.now) fault) }
     {
+        let rereads = self.rereads.as_slice();
         match self.command {
-            Command::Tokens => tokens_text(alloc, self.options, text),
-            Command::Errors => errors_text(alloc, self.options, text),
-            Command::Comments => comments_text(alloc, self.options, text),
+            Command::Tokens => tokens_text(alloc, self.options, rereads, text),
+            Command::Errors => errors_text(alloc, self.options, rereads, text),
+            Command::Comments => comments_text(alloc, self.options, rereads, text),
         }
     }
 }

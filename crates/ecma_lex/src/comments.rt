@@ -1,14 +1,16 @@
 //! What is written of the comments of a text: a line each.
-ghost use Rattle.std.specs.Prelude.{◌≡◌, ◌++◌, ◌∷◌, [], None, ◌^◌, ◌<◌, true, is_some, length, string_bytes, IfOk, IfErr, OnOk, OnErr};
+ghost use Rattle.std.specs.Prelude.{◌≡◌, ◌++◌, ◌∷◌, [], None, Some, ◌^◌, ◌<◌, true, is_some, length, string_bytes, IfOk, IfErr, MatchResult, OnOk, OnErr};
 ghost use Rattle.ecma_lexer.specs.Ending.{comments_of};
 ghost use Rattle.ecma_lexer.specs.HandOver.{has_comments};
 ghost use Rattle.ecma_lexer.specs.Run.{reading_of, state_behind};
 ghost use Rattle.ecma_lexer.specs.Session.{Session, lexer_state, state_of};
 ghost use Rattle.ecma_lex.specs.CommentLines as grammar;
+ghost use Rattle.ecma_lex.specs.Opening.{Lacks};
 
-use crate::begin::begin;
 use crate::command::Options;
+use crate::fault::Fault;
 use crate::lines::push_escaped;
+use crate::opening::open;
 use ecma_lexer::{BufferedComment, BufferedCommentKind, Lexer, hand_comments};
 use ecma_place::{BytePos, Comment, CommentKind, Comments};
 use std::alloc::{AllocError, Global};
@@ -132,12 +134,23 @@ fn read_out(lexer: &mut Lexer) -> Result<(), AllocError>
     Ok(())
 }
 
-/// The lines of the comments of a text that starts at the place 0.
-pub fn comments_text(alloc: Global, options: Options, text: &str) -> Result<Vec<u8>, AllocError>
+/// The lines of the comments of a text that starts at the place 0, where the tokens with these numbers are read again.
+///
+/// # Errors
+///
+/// `NoSlash` where one of those is no slash or isn't there; `OutOfMemory`.
+pub fn comments_text(
+    alloc: Global,
+    options: Options,
+    rereads: &[u64],
+    text: &str,
+) -> Result<Vec<u8>, Fault>
     requires { length text.now < 2 ^ 32 }
-    ensures { IfOk result (λ out. out.items ≡ grammar.comments_text options text.now) }
+    ensures { MatchResult result
+        (λ out. grammar.comments_text options rereads.now text.now ≡ Some out.items)
+        (λ fault. Lacks (grammar.comments_text options rereads.now text.now) fault) }
 {
-    let mut lexer = begin(alloc, true, options, text)?;
+    let mut lexer = open(alloc, true, options, rereads, text)?.lexer;
     read_out(&mut lexer)?;
     let mut handed = Handed {
         comments: Vec::new(alloc),

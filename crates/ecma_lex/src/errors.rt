@@ -1,18 +1,20 @@
 //! What is written of the errors of a text: a line each.
-ghost use Rattle.std.specs.Prelude.{◌≡◌, ◌++◌, ◌^◌, ◌<◌, codes, length, map, string_bytes, is_some, IfOk, OnOk};
+ghost use Rattle.std.specs.Prelude.{◌≡◌, ◌++◌, ◌^◌, ◌<◌, Some, codes, flat_map, length, map, string_bytes, is_some, IfOk, MatchResult, OnOk};
 ghost use Rattle.std.specs.Cow.{cow_str_bytes};
-ghost use Rattle.ecma_token.specs.View.{error_view, kind_view, token_view};
+ghost use Rattle.ecma_token.specs.View.{error_view, kind_view, spanned_view, token_view};
 ghost use Rattle.ecma_lexer.specs.Run.{reading_of, state_behind};
 ghost use Rattle.ecma_lexer.specs.Session.{lexer_state};
 ghost use Rattle.ecma_lex.specs.ErrorLines as grammar;
 ghost use Rattle.ecma_lex.specs.MessageView.{view_message};
+ghost use Rattle.ecma_lex.specs.Opening.{Lacks};
 
-use crate::begin::begin;
 use crate::command::Options;
+use crate::fault::Fault;
 use crate::lines::push_escaped;
+use crate::opening::{Opened, open};
 use ecma_lexer::{Lexer, Tokens};
 use ecma_place::{Span, Spanned};
-use ecma_token::{Error, SyntaxError, Token};
+use ecma_token::{Error, SyntaxError, Token, TokenAndSpan};
 use std::alloc::{AllocError, Global};
 use std::borrow::CowStr;
 
@@ -94,13 +96,39 @@ fn push_lists(alloc: Global, out: &mut Vec<u8>, lexer: &mut Lexer) -> Result<(),
     push_errors(alloc, out, "waiting", lexer.module_errors())
 }
 
-/// The lines of the errors of a text that starts at the place 0.
-pub fn errors_text(alloc: Global, options: Options, text: &str) -> Result<Vec<u8>, AllocError>
-    requires { length text.now < 2 ^ 32 }
-    ensures { IfOk result (λ out. out.items ≡ grammar.errors_text options text.now) }
+/// Adds the lines of the errors of these tokens that are one, in order.
+fn push_refusals(
+    alloc: Global,
+    out: &mut Vec<u8>,
+    tokens: &[TokenAndSpan],
+) -> Result<(), AllocError>
+    ensures { OnOk result (out.new.items ≡ out.old.items ++ flat_map grammar.token_lines (map spanned_view tokens.now)) }
 {
-    let mut lexer = begin(alloc, false, options, text)?;
+    for token in tokens {
+        push_refusal(alloc, out, &token.token)?;
+    }
+    Ok(())
+}
+
+/// The lines of the errors of a text that starts at the place 0, where the tokens with these numbers are read again.
+///
+/// # Errors
+///
+/// `NoSlash` where one of those is no slash or isn't there; `OutOfMemory`.
+pub fn errors_text(
+    alloc: Global,
+    options: Options,
+    rereads: &[u64],
+    text: &str,
+) -> Result<Vec<u8>, Fault>
+    requires { length text.now < 2 ^ 32 }
+    ensures { MatchResult result
+        (λ out. grammar.errors_text options rereads.now text.now ≡ Some out.items)
+        (λ fault. Lacks (grammar.errors_text options rereads.now text.now) fault) }
+{
+    let Opened { mut lexer, tokens } = open(alloc, false, options, rereads, text)?;
     let mut out = Vec::new(alloc);
+    push_refusals(alloc, &mut out, &tokens)?;
     'tokens: while push_next(alloc, &mut out, &mut lexer)? {}
     push_lists(alloc, &mut out, &mut lexer)?;
     Ok(out)

@@ -10,6 +10,8 @@ pub enum Fault {
     BadWords,
     NotUtf8,
     TooLong,
+    /// A token that is to be read again is no slash, or isn't there.
+    NoSlash,
     OutOfMemory,
 }
 
@@ -19,7 +21,7 @@ impl Fault {
         ensures { result ≡ fault_status self }
     {
         match self {
-            Fault::BadWords => 2,
+            Fault::BadWords | Fault::NoSlash => 2,
             Fault::NotUtf8 | Fault::TooLong => 3,
             Fault::OutOfMemory => 5,
         }
@@ -33,8 +35,19 @@ impl Fault {
             Fault::BadWords => b"bad words\n",
             Fault::NotUtf8 => b"not UTF-8\n",
             Fault::TooLong => b"too long\n",
+            Fault::NoSlash => b"no slash\n",
             Fault::OutOfMemory => b"out of memory\n",
         }
+    }
+}
+
+impl From<AllocError> for Fault {
+    ghost use Rattle.ecma_lex.specs.declared.fault.Fault.{Fault};
+
+    ghost from_gives = { λ _ fault. fault ≡ Fault.OutOfMemory };
+
+    fn from(_: AllocError) -> Fault {
+        Fault::OutOfMemory
     }
 }
 

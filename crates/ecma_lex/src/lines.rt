@@ -1,14 +1,17 @@
 //! What is written of the tokens of a text: a line each.
-ghost use Rattle.std.specs.Prelude.{◌≡◌, ◌++◌, ◌+◌, ◌^◌, ◌<◌, ◌≤◌, length, string_bytes, option_map, IfOk, OnOk};
+ghost use Rattle.std.specs.Prelude.{◌≡◌, ◌++◌, ◌+◌, ◌^◌, ◌<◌, ◌≤◌, Some, length, map, string_bytes, option_map, IfOk, MatchResult, OnOk};
 ghost use Rattle.ecma_lexer.specs.Run.{reading_of, state_behind};
 ghost use Rattle.ecma_lexer.specs.Session.{kept_of, lexer_state};
+ghost use Rattle.ecma_token.specs.View.{spanned_view};
 ghost use Rattle.ecma_lex.specs.Lines as grammar;
+ghost use Rattle.ecma_lex.specs.Opening.{AllWithin, Lacks};
 
-use crate::begin::begin;
 use crate::command::Options;
+use crate::fault::Fault;
+use crate::opening::{Opened, open};
 use ecma_lexer::{Kept, Lexer};
 use ecma_syntax::WordKind;
-use ecma_token::TokenKind;
+use ecma_token::{TokenAndSpan, TokenKind};
 use std::alloc::{AllocError, Global};
 
 fn word_name(kind: WordKind) -> &'static str
@@ -121,6 +124,18 @@ fn push_line(alloc: Global, out: &mut Vec<u8>, bytes: &[u8], token: Kept) -> Res
     Ok(())
 }
 
+/// What is kept of a token.
+#[tactic(auto, using(ecma_token::proofs::KindLemmas::kind_of_token_view))]
+fn kept(token: &TokenAndSpan) -> Kept
+    ensures { result ≡ kept_of (spanned_view token.now) }
+{
+    Kept {
+        kind: token.token.kind(),
+        span: token.span,
+        flag: token.had_line_break,
+    }
+}
+
 /// What is kept of the next token, or nothing at the end.
 fn next_kept(lexer: &mut Lexer) -> Result<Option<Kept>, AllocError>
     ensures kept { IfOk result (λ kept. kept ≡ option_map kept_of (reading_of (lexer_state lexer.old)).found) }
@@ -132,13 +147,41 @@ fn next_kept(lexer: &mut Lexer) -> Result<Option<Kept>, AllocError>
     }
 }
 
-/// The lines of the tokens of a text that starts at the place 0.
-pub fn tokens_text(alloc: Global, options: Options, text: &str) -> Result<Vec<u8>, AllocError>
-    requires { length text.now < 2 ^ 32 }
-    ensures { IfOk result (λ out. out.items ≡ grammar.tokens_text options text.now) }
+/// Adds the lines of these tokens of the text, in order.
+fn push_lines(
+    alloc: Global,
+    out: &mut Vec<u8>,
+    bytes: &[u8],
+    tokens: &[TokenAndSpan],
+) -> Result<(), AllocError>
+    requires { AllWithin (length bytes.now) (map spanned_view tokens.now) }
+    ensures { OnOk result (out.new.items ≡ out.old.items ++ grammar.lines bytes.now (map kept_of (map spanned_view tokens.now))) }
 {
-    let mut lexer = begin(alloc, false, options, text)?;
+    for token in tokens {
+        push_line(alloc, out, bytes, kept(token))?;
+    }
+    Ok(())
+}
+
+/// The lines of the tokens of a text that starts at the place 0, where those with these numbers are read again.
+///
+/// # Errors
+///
+/// `NoSlash` where one of those is no slash or isn't there; `OutOfMemory`.
+pub fn tokens_text(
+    alloc: Global,
+    options: Options,
+    rereads: &[u64],
+    text: &str,
+) -> Result<Vec<u8>, Fault>
+    requires { length text.now < 2 ^ 32 }
+    ensures { MatchResult result
+        (λ out. grammar.tokens_text options rereads.now text.now ≡ Some out.items)
+        (λ fault. Lacks (grammar.tokens_text options rereads.now text.now) fault) }
+{
+    let Opened { mut lexer, tokens } = open(alloc, false, options, rereads, text)?;
     let mut out = Vec::new(alloc);
+    push_lines(alloc, &mut out, text.as_bytes(), &tokens)?;
     'tokens: while let Some(token) = next_kept(&mut lexer)? {
         push_line(alloc, &mut out, text.as_bytes(), token)?;
     }

@@ -8,7 +8,9 @@ mod errors;
 mod fault;
 mod input;
 mod lines;
+mod opening;
 mod output;
+mod particulars;
 mod program;
 #[cfg(test)]
 mod tests;

@@ -1,7 +1,7 @@
 //! Words and bytes in, lines out.
 ghost use Rattle.std.specs.Prelude.{◌≡◌, ◌⊎◌, ℕ, List, MatchResult, Some, None, Ok, Err, map, string_bytes, IsOkAnd};
 ghost use Rattle.std.specs.Io.KnownBytes.{Appends};
-ghost use Rattle.ecma_lex.specs.Command.{request_of};
+ghost use Rattle.ecma_lex.specs.Command.{request_of, request_view};
 ghost use Rattle.ecma_lex.specs.Reply.{reply_to, reply_of, fault_line};
 ghost use Rattle.ecma_lex.specs.Sending.{Answers, IsInput, Halts, Sends};
 
@@ -19,11 +19,10 @@ const LONGEST: usize = 4_294_967_295;
 const MOST_TURNS: u64 = 4_294_967_296;
 
 /// What the request makes of the input, which may be no text or one that is too long.
-#[tactic(auto, using(crate::proofs::Replies::reply_not_utf8, crate::proofs::Replies::reply_too_long, crate::proofs::Replies::reply_whole))]
-fn text_for(alloc: Global, request: Request, input: &[u8]) -> Result<Vec<u8>, Fault>
+fn text_for(alloc: Global, request: &Request, input: &[u8]) -> Result<Vec<u8>, Fault>
     ensures { MatchResult result
-        (λ text. reply_to (Some request) input.now ≡ Ok text.items)
-        (λ fault. (reply_to (Some request) input.now ≡ Err fault) ⊎ (fault ≡ Fault.OutOfMemory)) }
+        (λ text. reply_to (Some (request_view request.now)) input.now ≡ Ok text.items)
+        (λ fault. (reply_to (Some (request_view request.now)) input.now ≡ Err fault) ⊎ (fault ≡ Fault.OutOfMemory)) }
 {
     let Ok(text) = str::from_utf8(input) else {
         return Err(Fault::NotUtf8);
@@ -31,7 +30,7 @@ fn text_for(alloc: Global, request: Request, input: &[u8]) -> Result<Vec<u8>, Fa
     if text.len() > LONGEST {
         return Err(Fault::TooLong);
     }
-    request.text(alloc, text).map_err(|_| Fault::OutOfMemory)
+    request.text(alloc, text)
 }
 
 /// Judges the words, reads all of the input, and makes the text that is to be written.
@@ -42,11 +41,11 @@ fn reply<R: Read>(alloc: Global, words: &[String], reader: &mut R) -> Result<Vec
     ensures bad_words { request_of (map string_bytes words.now) ≡ None →
         (result ≡ Err (Halt.Fault Fault.BadWords)) × (reader.new ≡ reader.old) }
 {
-    let Some(request) = Request::from_words(words) else {
+    let Some(request) = Request::from_words(alloc, words)? else {
         return Err(Halt::Fault(Fault::BadWords));
     };
     let input = read_all(alloc, reader, MOST_TURNS)?;
-    let text = text_for(alloc, request, input.as_slice())?;
+    let text = text_for(alloc, &request, input.as_slice())?;
     Ok(text)
 }
 

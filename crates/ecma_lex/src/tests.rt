@@ -269,6 +269,102 @@ fn writes_the_lists(rt: HostRuntime) -> Result<(), Fail> {
     assert_words(&rt, alloc, &["errors", "ts"], b"012", 0, lines)
 }
 
+/// Asserts what is written where some tokens are read again.
+fn assert_rows(
+    rt: &impl Abort,
+    alloc: Global,
+    rows: &[(&[&str], &[u8], u8, &[u8])],
+) -> Result<(), Fail> {
+    for (words, input, status, output) in rows {
+        assert_words(rt, alloc, words, input, *status, output)?;
+    }
+    Ok(())
+}
+
+#[test]
+fn judges_the_numbers(rt: HostRuntime) -> Result<(), Fail> {
+    let alloc = rt.alloc();
+    let bad: [&[&str]; 10] = [
+        &["reread", "1"],
+        &["tokens", "reread"],
+        &["tokens", "reread", "0"],
+        &["tokens", "reread", "01"],
+        &["tokens", "reread", "+1"],
+        &["tokens", "reread", "1x"],
+        &["tokens", "reread", ""],
+        &["tokens", "reread", "18446744073709551616"],
+        &["tokens", "reread", "2", "ts", "reread", "2"],
+        &["tokens", "reread", "10", "reread", "9"],
+    ];
+    for words in bad {
+        assert_bad(&rt, alloc, words)?;
+    }
+    Ok(())
+}
+
+#[test]
+fn tells_where_no_slash_is(rt: HostRuntime) -> Result<(), Fail> {
+    let most: &[&str] = &["tokens", "reread", "18446744073709551615"];
+    assert_rows(
+        &rt,
+        rt.alloc(),
+        &[
+            (&["tokens", "reread", "1"], b"a", 2, b"no slash\n"),
+            (&["tokens", "reread", "2"], b"a", 2, b"no slash\n"),
+            (&["errors", "reread", "3"], b"a/", 2, b"no slash\n"),
+            (&["comments", "reread", "1"], b"", 2, b"no slash\n"),
+            (most, b"a/", 2, b"no slash\n"),
+            (most, b"\xff", 3, b"not UTF-8\n"),
+        ],
+    )
+}
+
+#[test]
+fn reads_slashes_again(rt: HostRuntime) -> Result<(), Fail> {
+    assert_rows(
+        &rt,
+        rt.alloc(),
+        &[
+            (
+                &["tokens", "reread", "3"],
+                b"a / /b/g",
+                0,
+                b"0 1 lf Ident a\n2 3 - BinOp /\n4 8 - Regex /b/g\n",
+            ),
+            (
+                &["tokens", "reread", "1"],
+                b"/x/g\\u0069",
+                0,
+                b"0 10 lf Regex /x/g\\\\u0069\n",
+            ),
+            (
+                &["tokens", "reread", "2"],
+                b"a /b\n",
+                0,
+                b"0 1 lf Ident a\n2 4 - Error /b\n",
+            ),
+            (
+                &["errors", "reread", "2"],
+                b"a /b\n",
+                0,
+                b"token 2 4 Unterminated regexp literal\n",
+            ),
+            (
+                &["tokens", "reread", "1", "ts", "reread", "2"],
+                b"/a/ /=b/;",
+                0,
+                b"0 3 lf Regex /a/\n4 8 - Regex /=b/\n8 9 - Semi ;\n",
+            ),
+            (
+                &["comments", "reread", "1"],
+                b"/a/ //x",
+                0,
+                b"trailing 3 4 7 line x\n",
+            ),
+        ],
+    )
+}
+
 #[test]
 fn writes_the_tokens_of_templates(rt: HostRuntime) {
     let lines =
@@ -390,7 +486,7 @@ fn answers_whole_or_out_of_memory(rt: HostRuntime) {
 /// No allocation here is the test's own, as above.
 #[test]
 fn gathers_all_comments_or_is_refused(rt: HostRuntime) {
-    let gathered = comments_text(rt.alloc(), Options::default(), "a /*b*/; /*c*/ d");
+    let gathered = comments_text(rt.alloc(), Options::default(), &[], "a /*b*/; /*c*/ d");
     if let Ok(lines) = gathered {
         assert_eq!(rt;
             lines.as_slice(),
