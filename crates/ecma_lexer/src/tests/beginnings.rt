@@ -12,23 +12,6 @@ use std::alloc::{AllocError, Global};
 use std::process::Abort;
 use std::test::Fail;
 
-const ALL_ROWS: &[&[Row]] = &[
-    attached::ROWS,
-    attached::ODD_ROWS,
-    code::ROWS,
-    copies::ROWS,
-    errors::ROWS,
-    gaps::ROWS,
-    gaps::HTML_LIKE_ROWS,
-    gaps::MARKER_ROWS,
-    numbers::ROWS,
-    strings::ROWS,
-    templates::ROWS,
-    templates::COOKED_ROWS,
-    templates::INSIDE_ROWS,
-    words::ROWS,
-];
-
 /// Texts of other tables.
 const MORE_TEXTS: &[&str] = &[
     "a / /b/g",
@@ -159,22 +142,8 @@ fn assert_beginnings(rt: &impl Abort, reader: Reader, text: &str) -> Result<(), 
     Ok(())
 }
 
-fn assert_rows(rt: &impl Abort, reader: Reader, rows: &[Row]) -> Result<(), Fail> {
-    for (_, text, _) in rows {
-        assert_beginnings(rt, reader, text)?;
-    }
-    Ok(())
-}
-
-fn assert_all_rows(rt: &impl Abort, reader: Reader) -> Result<(), Fail> {
-    for rows in ALL_ROWS {
-        assert_rows(rt, reader, rows)?;
-    }
-    Ok(())
-}
-
-fn assert_more_texts(rt: &impl Abort, reader: Reader) -> Result<(), Fail> {
-    for text in MORE_TEXTS {
+fn assert_each(rt: &impl Abort, reader: Reader, texts: &[&str]) -> Result<(), Fail> {
+    for text in texts {
         assert_beginnings(rt, reader, text)?;
     }
     Ok(())
@@ -192,7 +161,13 @@ fn steps_of(alloc: Global, strict: bool) -> Result<Vec<Step>, AllocError> {
     Ok(steps)
 }
 
-fn assert_all(rt: &impl Abort, alloc: Global, syntax: Syntax, strict: bool) -> Result<(), Fail> {
+fn assert_under(
+    rt: &impl Abort,
+    alloc: Global,
+    syntax: Syntax,
+    strict: bool,
+    texts: &[&str],
+) -> Result<(), Fail> {
     let settings = Settings {
         syntax,
         target: EsVersion::default(),
@@ -204,20 +179,68 @@ fn assert_all(rt: &impl Abort, alloc: Global, syntax: Syntax, strict: bool) -> R
         settings,
         steps: &steps,
     };
-    assert_all_rows(rt, reader)?;
-    assert_more_texts(rt, reader)
+    assert_each(rt, reader, texts)
+}
+
+/// Asserts that each beginning of these texts is read whole, in both languages, strict and not.
+fn assert_texts(rt: &impl Abort, alloc: Global, texts: &[&str]) -> Result<(), Fail> {
+    let es = Syntax::Es(EsSyntax::default());
+    assert_under(rt, alloc, es, false, texts)?;
+    assert_under(rt, alloc, es, true, texts)?;
+    let ts = Syntax::Typescript(TsSyntax::default());
+    assert_under(rt, alloc, ts, false, texts)?;
+    assert_under(rt, alloc, ts, true, texts)
+}
+
+fn texts_of(alloc: Global, rows: &[Row]) -> Result<Vec<&'static str>, AllocError> {
+    let mut texts = Vec::new(alloc);
+    for (_, text, _) in rows {
+        texts.push(*text)?;
+    }
+    Ok(texts)
+}
+
+/// Asserts the same of the texts of a table.
+fn assert_rows(rt: &impl Abort, alloc: Global, rows: &[Row]) -> Result<(), Fail> {
+    let texts = texts_of(alloc, rows)?;
+    assert_texts(rt, alloc, &texts)
 }
 
 #[test]
-fn beginnings_of_ecmascript_are_read_whole(rt: HostRuntime) -> Result<(), Fail> {
-    let syntax = Syntax::Es(EsSyntax::default());
-    assert_all(&rt, rt.alloc(), syntax, false)?;
-    assert_all(&rt, rt.alloc(), syntax, true)
+fn beginnings_with_comments_are_read_whole(rt: HostRuntime) -> Result<(), Fail> {
+    assert_rows(&rt, rt.alloc(), attached::ROWS)?;
+    assert_rows(&rt, rt.alloc(), attached::ODD_ROWS)
 }
 
 #[test]
-fn beginnings_of_typescript_are_read_whole(rt: HostRuntime) -> Result<(), Fail> {
-    let syntax = Syntax::Typescript(TsSyntax::default());
-    assert_all(&rt, rt.alloc(), syntax, false)?;
-    assert_all(&rt, rt.alloc(), syntax, true)
+fn beginnings_with_gaps_are_read_whole(rt: HostRuntime) -> Result<(), Fail> {
+    assert_rows(&rt, rt.alloc(), gaps::ROWS)?;
+    assert_rows(&rt, rt.alloc(), gaps::HTML_LIKE_ROWS)?;
+    assert_rows(&rt, rt.alloc(), gaps::MARKER_ROWS)
+}
+
+#[test]
+fn beginnings_of_code_are_read_whole(rt: HostRuntime) -> Result<(), Fail> {
+    assert_rows(&rt, rt.alloc(), code::ROWS)?;
+    assert_rows(&rt, rt.alloc(), words::ROWS)?;
+    assert_rows(&rt, rt.alloc(), errors::ROWS)
+}
+
+#[test]
+fn beginnings_of_literals_are_read_whole(rt: HostRuntime) -> Result<(), Fail> {
+    assert_rows(&rt, rt.alloc(), numbers::ROWS)?;
+    assert_rows(&rt, rt.alloc(), strings::ROWS)?;
+    assert_rows(&rt, rt.alloc(), copies::ROWS)
+}
+
+#[test]
+fn beginnings_of_templates_are_read_whole(rt: HostRuntime) -> Result<(), Fail> {
+    assert_rows(&rt, rt.alloc(), templates::ROWS)?;
+    assert_rows(&rt, rt.alloc(), templates::COOKED_ROWS)?;
+    assert_rows(&rt, rt.alloc(), templates::INSIDE_ROWS)
+}
+
+#[test]
+fn beginnings_of_more_texts_are_read_whole(rt: HostRuntime) -> Result<(), Fail> {
+    assert_texts(&rt, rt.alloc(), MORE_TEXTS)
 }
