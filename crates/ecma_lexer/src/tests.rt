@@ -1,5 +1,6 @@
 //! Tests of the lexer: rows of texts, each with its listing, and what no listing shows.
 mod attached;
+mod beginnings;
 mod code;
 mod comments;
 mod contexts;
@@ -11,6 +12,7 @@ mod gaps;
 mod items;
 mod listing;
 mod numbers;
+mod played;
 mod replays;
 mod rereads;
 mod states;

@@ -44,7 +44,7 @@ fn a_copy_reads_what_the_original_does(rt: HostRuntime) -> Result<(), Fail> {
 }
 
 /// Each text leaves something behind its tokens: a copy has it too, and taking it from there leaves the original's.
-const ROWS: &[Row] = &[
+pub(super) const ROWS: &[Row] = &[
     (
         PLAIN,
         "1__2",

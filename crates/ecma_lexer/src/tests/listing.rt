@@ -4,6 +4,7 @@
 //! collected each comment as it is handed over, and the contexts at the end, unless they are those of a new lexer. Texts
 //! that a token or a comment holds stand in brackets, with `owned` before those that aren't borrowed.
 use super::comments::Store;
+use super::played::assert_played;
 use crate::commented::hand_comments;
 use crate::comments_buffer::{BufferedComment, BufferedCommentKind};
 use crate::lexer::Lexer;
@@ -88,7 +89,8 @@ pub(super) const FROM_SEVEN: Settings = Settings {
 /// What a text is read by, the text, and its listing.
 pub(super) type Row = (Settings, &'static str, &'static str);
 
-fn syntax(settings: Settings) -> Syntax {
+/// The language of the text, with every option off that the settings don't name.
+pub(super) fn syntax(settings: Settings) -> Syntax {
     if settings.ts {
         Syntax::Typescript(TsSyntax {
             tsx: settings.jsx,
@@ -137,17 +139,21 @@ pub(super) fn opened<'a>(
     ))
 }
 
-/// Puts these contexts, the innermost last, in the place of those that the lexer is in.
-pub(super) fn enter(
+/// These contexts, the innermost last.
+pub(super) fn contexts_of(
     alloc: Global,
-    lexer: &mut Lexer,
     contexts: &[TokenContext],
-) -> Result<(), AllocError> {
+) -> Result<TokenContexts, AllocError> {
     let mut around = TokenContexts::new(alloc);
     for context in contexts {
         around.push(*context)?;
     }
-    lexer.set_token_context(around);
+    Ok(around)
+}
+
+/// Puts these contexts, the innermost last, in the place of those that the lexer is in.
+fn enter(alloc: Global, lexer: &mut Lexer, contexts: &[TokenContext]) -> Result<(), AllocError> {
+    lexer.set_token_context(contexts_of(alloc, contexts)?);
     Ok(())
 }
 
@@ -399,11 +405,18 @@ pub(super) fn listing(alloc: Global, settings: Settings, text: &str) -> Result<S
     Ok(out)
 }
 
-/// Reads the text of each row, and asserts its listing.
+fn assert_listing(rt: &impl Abort, alloc: Global, row: &Row) -> Result<(), Fail> {
+    let (settings, text, expected) = row;
+    let found = listing(alloc, *settings, text)?;
+    assert_eq!(rt; found.as_str(), *expected, "{text:?}");
+    Ok(())
+}
+
+/// Reads the text of each row, by a lexer and by a replay, and asserts its listing.
 pub(super) fn assert_listings(rt: &impl Abort, alloc: Global, rows: &[Row]) -> Result<(), Fail> {
-    for (settings, text, expected) in rows {
-        let found = listing(alloc, *settings, text)?;
-        assert_eq!(rt; found.as_str(), *expected, "{text:?}");
+    for row in rows {
+        assert_listing(rt, alloc, row)?;
+        assert_played(rt, alloc, row)?;
     }
     Ok(())
 }

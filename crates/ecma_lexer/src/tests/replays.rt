@@ -1,13 +1,13 @@
 //! Steps that are replayed: what each answers, and what they come to.
 use super::listing::{write_comments, write_errors, write_note, write_token};
+use super::played::played;
 use crate::answer::Answer;
 use crate::kept::Kept;
 use crate::replayed::Replay;
-use crate::runner::replay;
 use crate::settings::Settings;
 use crate::step::Step;
 use crate::token_contexts::TokenContexts;
-use ecma_place::{BytePos, StringInput};
+use ecma_place::BytePos;
 use ecma_syntax::{Context, EsVersion, Syntax};
 use std::alloc::{AllocError, Global};
 use std::process::Abort;
@@ -201,16 +201,12 @@ fn steps_of(alloc: Global, commands: &[Command]) -> Result<Vec<Step>, AllocError
 
 /// What the steps answer and come to, with comments collected.
 fn replayed<'a>(alloc: Global, text: &'a str, steps: &[Step]) -> Result<Replay<'a>, AllocError> {
-    let start = BytePos(0);
-    if !StringInput::fits(text, start) {
-        return Err(AllocError);
-    }
     let settings = Settings {
         syntax: Syntax::default(),
         target: EsVersion::default(),
         comments: true,
     };
-    replay(alloc, &settings, text, start, steps)
+    played(alloc, &settings, text, BytePos(0), steps)
 }
 
 fn write_steps(
