@@ -1,6 +1,6 @@
 -- No two tokens without characters stand one after the other.
 use Rattle.std.proofs.Common.{eqb-true, ◌≡◌, ◌∙◌, ℕ, ◌+◌, ◌<◌, ◌==◌, Bool, true, false, cond, ◌&&◌, List, [], ◌∷◌, drop, length, Option, Some, None, refl, sym, subst, ap, arith}
-use Rattle.std.specs.Prelude.{fold, is_some}
+use Rattle.std.specs.Prelude.{is_some}
 use Rattle.std.proofs.lemmas.Option.{none-some}
 use Rattle.ecma_place.proofs.CursorLemmas.{byte_len-cons}
 use Rattle.std.proofs.lemmas.Str.{len_utf8_bounds}
@@ -15,24 +15,23 @@ use Rattle.ecma_scan.specs.Expressions.{body_cutter, body_pieces, closed_express
 use Rattle.ecma_scan.specs.Fronts.{next_is}
 use Rattle.ecma_scan.specs.Pieces.{remainder, spelled}
 use Rattle.ecma_scan.specs.Readings.{GapView}
-use Rattle.ecma_lexer.specs.Contexts.{Contexts}
 use Rattle.ecma_lexer.specs.Counting.{counting}
 use Rattle.ecma_lexer.specs.EmptyTokens.{EmptyTokensStandAlone, NeverTwoEmpty, is_empty_token}
 use Rattle.ecma_lexer.specs.Mode.{is_tpl_element}
 use Rattle.ecma_lexer.specs.Reading.{Reading, behind_gap, gap_in, reading, reading_again, reading_behind, reading_code, reading_if, shebang_token, stands_shebang}
-use Rattle.ecma_lexer.specs.Run.{act_on, acted_on, at_place, given_in, mode_of, popped_from, reading_from, reread_from, start_of}
+use Rattle.ecma_lexer.specs.Run.{act_on, acted_on, at_place, given_in, mode_of, reading_from, start_of}
 use Rattle.ecma_lexer.specs.Session.{Again, Past, Plain, Session, kept_back, last_flag, seen_of, state_of}
-use Rattle.ecma_lexer.specs.State.{last_slash, previous}
+use Rattle.ecma_lexer.specs.State.{previous}
 use Rattle.ecma_lexer.specs.TokenAt.{token_at}
 use Rattle.ecma_lexer.specs.declared.mode.Mode.{Mode}
-use Rattle.ecma_lexer.specs.declared.step.Step.{Step}
-use Rattle.ecma_lexer.specs.declared.step.Step.TheVariants.{Read, SetCtx, SetExprAllowed, SetContexts, PopContext, Reread, Withdraw, Save, Back, TakeErrors}
+use Rattle.ecma_lexer.specs.declared.step.Step.TheVariants.{Read}
 use Rattle.ecma_lexer.proofs.EndLemmas.{token-extent}
 use Rattle.ecma_lexer.proofs.ProgressLemmas.{Nothing, Reads, Something, token-reads}
+use Rattle.ecma_lexer.proofs.StepLemmas.{fold-holds}
 
 -- what holds characters is not empty
 
-bytes-some : (text : Text) → 0 < length text → 0 < byte_len text
+pub bytes-some : (text : Text) → 0 < length text → 0 < byte_len text
 bytes-some [] some = absurd (omega (arith, some))
 bytes-some (c ∷ cs) some = omega (arith, byte_len-cons c cs, (len_utf8_bounds c).0)
 
@@ -133,7 +132,7 @@ expression-some text = go (next_is 47 (remainder body_cutter tt (drop 1 text)))
     go true = omega arith
     go false = omega arith
 
-again-holds : (flag : Bool) (here : Cursor) (t : SpannedView) → (reading_again flag here).found ≡ Some t → is_empty_token t ≡ false
+pub again-holds : (flag : Bool) (here : Cursor) (t : SpannedView) → (reading_again flag here).found ≡ Some t → is_empty_token t ≡ false
 again-holds flag here t found = go (is_empty_token t) refl
   where
     text : Text
@@ -187,30 +186,6 @@ read-alone s alone = go s.reread refl
         read_again true same = again-alone s.past _ alone (again-holds (last_flag s.past) (at_place p s.input) _ refl)
         read_again false same = cc
 
-popped-alone : (s : Session) (contexts : Contexts) → Alone s.past → Alone (popped_from s contexts).after.past
-popped-alone s [] alone = alone
-popped-alone s (top ∷ below) alone = alone
-
-reread-alone : (s : Session) (slash : Option BytePos) → Alone s.past → Alone (reread_from s slash).after.past
-reread-alone s None alone = alone
-reread-alone s (Some p) alone = alone
-
-act-alone : (s : Session) (step : Step) → Alone s.past → Alone (act_on s step).past
-act-alone s Read alone = read-alone s alone
-act-alone s (SetCtx context) alone = alone
-act-alone s (SetExprAllowed allowed) alone = alone
-act-alone s (SetContexts contexts) alone = alone
-act-alone s PopContext alone = popped-alone s s.contexts alone
-act-alone s Reread alone = reread-alone s (last_slash (seen_of s.past)) alone
-act-alone s Withdraw alone = alone
-act-alone s TakeErrors alone = alone
-act-alone s Save alone = alone
-act-alone s (Back n) alone = alone
-
-fold-alone : (s : Session) (steps : List Step) → Alone s.past → Alone (fold act_on s steps).past
-fold-alone s [] alone = alone
-fold-alone s (step ∷ steps) alone = fold-alone (act_on s step) steps (act-alone s step alone)
-
 pub empty_tokens_stand_alone : EmptyTokensStandAlone
 empty_tokens_stand_alone settings input steps =
-    (fold-alone (start_of settings input) (counting steps) record { neighbours = tt; last = λ t ts same e. cc }).neighbours
+    (fold-holds (λ _ past. Alone past) read-alone (start_of settings input) (counting steps) record { neighbours = tt; last = λ t ts same e. cc }).neighbours

@@ -105,7 +105,7 @@ token-on input s front =
     hi_in None = 0
     hi_in (Some t) = t.span.hi.0
 
-stands-opens : (none_given : Bool) (text : Text) → (none_given && opens_shebang text) ≡ true → opens_shebang text ≡ true
+pub stands-opens : (none_given : Bool) (text : Text) → (none_given && opens_shebang text) ≡ true → opens_shebang text ≡ true
 stands-opens true text h = h
 stands-opens false text h = cc
 
@@ -224,6 +224,10 @@ unfolding reading_code
 code-less mode input t found =
     less-behind mode (gap_in mode (place input) (rest input)) input (behind_gap mode input) (length (gap_spelling (gap_mode mode) (rest input))) (rest (behind_gap mode input)) t refl refl found
 
+pub opens-some : (text : Text) → opens_shebang text ≡ true → 0 < length text
+opens-some [] h = cc
+opens-some (c ∷ cs) h = omega arith
+
 -- a shebang holds its two signs at least
 shebang-less : (previous : Option TokenKind) (input : Cursor) (t : SpannedView) → opens_shebang (rest input) ≡ true
     → most (shebang_reading input).input (Some (kind_of t.token)) < most input previous
@@ -233,10 +237,6 @@ shebang-less previous input t opens =
     rw (← drop-drop n input.at input.text) (length-drop n (rest input)) in
     let two : 2 ≤ n = omega arith in
     omega (arith, left, two, opens-some (rest input) opens, room-le (Some (kind_of t.token)))
-  where
-    opens-some : (text : Text) → opens_shebang text ≡ true → 0 < length text
-    opens-some [] h = cc
-    opens-some (c ∷ cs) h = omega arith
 
 pub reading-less : (mode : Mode) (input : Cursor) (t : SpannedView) → (reading mode input).found ≡ Some t → most (reading mode input).input (Some (kind_of t.token)) < most input mode.previous
 reading-less mode input t found = go (stands_shebang mode (rest input)) refl found

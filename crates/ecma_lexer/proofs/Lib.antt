@@ -5,14 +5,17 @@ pub mod EmptyLemmas
 pub mod EndLemmas
 pub mod EndingLemmas
 pub mod ErrorLemmas
+pub mod FewLemmas
 pub mod FrontLemmas
 pub mod GoingBack
 pub mod ItemLemmas
 pub mod OpeningLemmas
+pub mod OrderLemmas
 pub mod ProgressLemmas
 pub mod ReadingLemmas
 pub mod ReplayLemmas
 pub mod SlashLemmas
+pub mod StepLemmas
 pub mod TilingLemmas
 pub mod TokenLemmas
 pub mod TransitionRows

@@ -20,15 +20,11 @@ use Rattle.ecma_lexer.specs.Reading.{Reading, reading, reading_again, spanned}
 use Rattle.ecma_lexer.specs.Session.{Again, AtEnd, Past, Plain, Session, has_ended, kept_back, kept_of, last_flag, seen_of, state_of}
 use Rattle.ecma_lexer.specs.State.{is_slash, last_slash, slash_in}
 use Rattle.ecma_lexer.specs.Run.{act_on, acted_on, at_place, given_in, mode_of, popped_from, reading_from, reread_from, session, start_of}
+use Rattle.ecma_lexer.specs.Order.{InOrder, TokensAreInOrder}
 use Rattle.ecma_lexer.specs.Tiling.{Tiles, bytes_between, joined}
 use Rattle.ecma_lexer.proofs.EndLemmas.{ReadsOn, reading-on}
 use Rattle.ecma_lexer.proofs.FrontLemmas.{expression-front}
 use Rattle.ecma_lexer.proofs.SlashLemmas.{again-kind, begins-reading, expression-no-slash, moved-begins, place-there, slash-is}
-
--- tokens, the newest first, stand in order behind a place and before another
-abbrev pub InOrder : ℕ → List SpannedView → ℕ → Type 0
-InOrder begin [] end = begin ≤ end
-InOrder begin (t ∷ ts) end = (t.span.lo.0 ≤ t.span.hi.0) × (t.span.hi.0 ≤ end) × InOrder begin ts t.span.lo.0
 
 later : (begin p q : ℕ) (ts : List SpannedView) → p ≤ q → InOrder begin ts p → InOrder begin ts q
 later begin p q [] h order = omega arith
@@ -220,6 +216,9 @@ pub session_standing : (settings : Settings) (input : Cursor) (steps : List Step
 session_standing settings input steps =
     fold_standing input (start_of settings input) (counting steps)
     record { start = refl; text = refl; order = omega arith; ended = λ h. cc; answered = λ p h. cc; reread = λ p h. cc }
+
+pub tokens_are_in_order : TokensAreInOrder
+tokens_are_in_order settings input steps = (session_standing settings input steps).order
 
 -- two slices that meet are one
 between-parts : (input : Cursor) (low middle high : ℕ) → input.start ≤ low → low ≤ middle → middle ≤ high

@@ -9,9 +9,11 @@ pub mod EmptyTokens
 pub mod Ending
 pub mod Errors
 pub mod Excursion
+pub mod FewTokens
 pub mod HandOver
 pub mod Items
 pub mod Mode
+pub mod Order
 pub mod Reading
 pub mod Run
 pub mod Session

@@ -3,6 +3,8 @@ ghost use Rattle.ecma_lexer.specs.Collecting.{CollectingChangesNothing, Comments
 ghost use Rattle.ecma_lexer.specs.EmptyTokens.{EmptyTokensStandAlone};
 ghost use Rattle.ecma_lexer.specs.Excursion.{GoingBackUndoes};
 ghost use Rattle.ecma_lexer.specs.Ending.{ReadsOut, TokensRunOut};
+ghost use Rattle.ecma_lexer.specs.FewTokens.{TokensAreFew};
+ghost use Rattle.ecma_lexer.specs.Order.{AnswersAreInOrder, TokensAreInOrder};
 ghost use Rattle.ecma_lexer.specs.Reading.{ReadingIsDetermined};
 ghost use Rattle.ecma_lexer.specs.Tiling.{Tiles};
 
@@ -38,6 +40,21 @@ pub fn tokens_run_out()
 /// No two tokens without characters stand one after the other.
 pub fn empty_tokens_stand_alone()
     ensures { EmptyTokensStandAlone }
+{}
+
+/// Every run keeps at most two tokens for each byte of its text.
+pub fn tokens_are_few()
+    ensures { TokensAreFew }
+{}
+
+/// The tokens that a run keeps lie in order, and none over another, whatever its steps were.
+pub fn tokens_are_in_order()
+    ensures { TokensAreInOrder }
+{}
+
+/// So do the tokens that are answered where no step goes back or has a slash read again: they are those that are kept.
+pub fn answers_are_in_order()
+    ensures { AnswersAreInOrder }
 {}
 
 /// Going back undoes all that came since the save, whatever that was: what follows answers as if it had never been.
