@@ -1,0 +1,3 @@
+pub mod Counting
+pub mod Replies
+pub mod Writing
