@@ -1,7 +1,12 @@
-use Rattle.std.proofs.Common.{sym, ◌∙◌}
+use Rattle.std.proofs.Common.{arith, sym, ◌∙◌}
 use Rattle.ecma_lexer.specs.Session.{lexer_state}
-use Rattle.ecma_bench.proofs.Counting.{counted-end, counted-less, counted-next}
+use Rattle.ecma_bench.proofs.Counting.{counted-end, counted-fits, counted-less, counted-next}
 use Rattle.ecma_bench.proofs.count.count_tokens.Goals as goal
+
+pub overflow_add-count : goal.overflow_add-count
+overflow_add-count c =
+    let bound = counted-fits c.args.typescript c.args.text.now c.tokens.count (lexer_state c.tokens.lexer) c.utf8.text c.tokens.invariant in
+    omega (arith, bound, c.requires)
 
 pub tokens-smaller : goal.tokens-smaller
 tokens-smaller c =
