@@ -1,0 +1,4 @@
+pub mod Counting
+pub mod Halting
+pub mod Replies
+pub mod Writing

@@ -1,0 +1,4 @@
+pub mod Begin
+pub mod Command
+pub mod Reply
+pub mod Sending

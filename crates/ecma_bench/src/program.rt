@@ -1,0 +1,93 @@
+//! Words and bytes in, a line out.
+ghost use Rattle.std.specs.Prelude.{◌≡◌, ◌^◌, ◌<◌, ℕ, Bool, List, Result, MatchResult, IfOk, Some, Ok, Err, length, map, string_bytes};
+ghost use Rattle.ecma_bench.specs.Command.{count_asked};
+ghost use Rattle.ecma_bench.specs.Reply.{count_reply, text_reply};
+ghost use Rattle.ecma_bench.specs.Sending.{Answers, IsInput, Halts};
+
+use crate::command::{Measure, count_asked};
+use crate::count::count_text;
+use crate::fault::{Fault, Halt};
+use crate::input::read_all;
+use crate::output::{FAILED, send, send_fault};
+use crate::speed::speed_text;
+use crate::timing::measure;
+use std::alloc::Global;
+use std::io::{Read, Write};
+use std::time::Clock;
+
+/// The longest text whose places all have a number.
+const LONGEST: usize = 4_294_967_295;
+
+/// So many reads are made; a reader that has not ended then is taken for one that never ends.
+const MOST_TURNS: u64 = 4_294_967_296;
+
+/// The text of an input.
+#[tactic(auto, using(crate::proofs::Replies::reply_not_utf8, crate::proofs::Replies::reply_too_long, crate::proofs::Replies::reply_whole))]
+fn text_of(input: &[u8]) -> Result<&str, Fault>
+    ensures judged { MatchResult result (λ text. text_reply input.now ≡ Ok text.now) (λ fault. text_reply input.now ≡ Err fault) }
+    ensures short { IfOk result (λ text. length text.now < 2 ^ 32) }
+{
+    let Ok(text) = str::from_utf8(input) else {
+        return Err(Fault::NotUtf8);
+    };
+    if text.len() > LONGEST {
+        return Err(Fault::TooLong);
+    }
+    Ok(text)
+}
+
+/// What is written of the tokens of the input.
+fn counted<R: Read>(alloc: Global, typescript: bool, reader: &mut R) -> Result<String, Halt>
+    ensures { (input : List ℕ) × IsInput (R.remaining reader.old) input × MatchResult result
+        (λ text. count_reply typescript input ≡ Ok (string_bytes text))
+        (λ halt. Halts (count_reply typescript input) halt) }
+{
+    let input = read_all(alloc, reader, MOST_TURNS)?;
+    let text = text_of(input.as_slice())?;
+    Ok(count_text(alloc, typescript, text)?)
+}
+
+/// What is written of the speed at which the input is read.
+fn timed<C: Clock, R: Read>(
+    clock: &C,
+    alloc: Global,
+    words: &[String],
+    reader: &mut R,
+) -> Result<String, Halt> {
+    let asked = Measure::from_words(alloc, words)?;
+    let input = read_all(alloc, reader, MOST_TURNS)?;
+    let text = text_of(input.as_slice())?;
+    let measured = measure(clock, alloc, &asked, text)?;
+    Ok(speed_text(alloc, &measured, text.len())?)
+}
+
+/// Writes the text, or the line of the fault in its place, and answers the exit status.
+fn answer<W: Write>(reply: Result<String, Halt>, writer: &mut W) -> u8
+    ensures { (wanted : Result (List ℕ) Fault) → MatchResult reply (λ text. wanted ≡ Ok (string_bytes text)) (λ halt. Halts wanted halt)
+        → Answers wanted (W.contents writer.old) (W.contents writer.new) result }
+{
+    match reply {
+        Ok(text) => send(writer, 0, text.as_bytes()),
+        Err(Halt::Fault(fault)) => send_fault(writer, fault),
+        Err(Halt::ReadFailed) => FAILED,
+    }
+}
+
+/// Writes what the words ask for of the input, or one line that tells of a fault, and answers the exit
+/// status.
+pub fn run<C: Clock, R: Read, W: Write>(
+    clock: &C,
+    alloc: Global,
+    words: &[String],
+    reader: &mut R,
+    writer: &mut W,
+) -> u8
+    // Where the tokens are to be counted, the writer was answered to an input, the reader's own where it tells its bytes.
+    ensures { (ts : Bool) → count_asked (map string_bytes words.now) ≡ Some ts → (input : List ℕ) × IsInput (R.remaining reader.old) input ×
+        Answers (count_reply ts input) (W.contents writer.old) (W.contents writer.new) result }
+{
+    match count_asked(words) {
+        Some(typescript) => answer(counted(alloc, typescript, reader), writer),
+        None => answer(timed(clock, alloc, words, reader), writer),
+    }
+}
