@@ -1,5 +1,5 @@
 //! The words behind a command, and what they ask for.
-ghost use Rattle.std.specs.Prelude.{◌≡◌, None, Some, ⊤, MatchOption, MatchResult, map, string_bytes};
+ghost use Rattle.std.specs.Prelude.{◌≡◌, false, None, Some, MatchOption, MatchResult, map, string_bytes};
 ghost use Rattle.ecma_lex.specs.Command as grammar;
 ghost use Rattle.ecma_lex.specs.Command.{behind, no_particulars, number_of, request_view, with_number, with_word};
 ghost use Rattle.ecma_lex.specs.Gathered.{Follows, Holds};
@@ -105,7 +105,7 @@ impl Particulars {
     ///
     /// `AllocError` where there was no memory for the numbers.
     pub fn with_command(self, command: Command) -> Result<Request, AllocError>
-        ensures { (p : grammar.Particulars) → Holds p self → MatchResult result (λ request. request_view request ≡ grammar.of_particulars command p) (λ _. ⊤) }
+        ensures { (p : grammar.Particulars) → Holds p self → MatchResult result (λ request. request_view request ≡ grammar.of_particulars command p) (λ _. self.holds_all ≡ false) }
     {
         if self.holds_all {
             Ok(Request {
