@@ -124,18 +124,6 @@ fn push_line(alloc: Global, out: &mut Vec<u8>, bytes: &[u8], token: Kept) -> Res
     Ok(())
 }
 
-/// What is kept of a token.
-#[tactic(auto, using(ecma_token::proofs::KindLemmas::kind_of_token_view))]
-fn kept(token: &TokenAndSpan) -> Kept
-    ensures { result ≡ kept_of (spanned_view token.now) }
-{
-    Kept {
-        kind: token.token.kind(),
-        span: token.span,
-        flag: token.had_line_break,
-    }
-}
-
 /// What is kept of the next token, or nothing at the end.
 fn next_kept(lexer: &mut Lexer) -> Result<Option<Kept>, AllocError>
     ensures kept { IfOk result (λ kept. kept ≡ option_map kept_of (reading_of (lexer_state lexer.old)).found) }
@@ -158,7 +146,7 @@ fn push_lines(
     ensures { OnOk result (out.new.items ≡ out.old.items ++ grammar.lines bytes.now (map kept_of (map spanned_view tokens.now))) }
 {
     for token in tokens {
-        push_line(alloc, out, bytes, kept(token))?;
+        push_line(alloc, out, bytes, Kept::of(token))?;
     }
     Ok(())
 }

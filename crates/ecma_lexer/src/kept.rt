@@ -21,7 +21,7 @@ pub struct Kept {
 impl Kept {
     /// What is kept of a token.
     #[tactic(auto, using(ecma_token::proofs::KindLemmas::kind_of_token_view))]
-    pub(crate) fn of(token: &TokenAndSpan) -> Kept
+    pub fn of(token: &TokenAndSpan) -> Kept
         ensures { result ≡ kept_of (spanned_view token.now) }
     {
         Kept {

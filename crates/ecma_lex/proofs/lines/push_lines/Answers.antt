@@ -4,8 +4,8 @@ use Rattle.ecma_lex.proofs.lines.push_lines.Goals as goal
 
 pub push_line-requires-clause-in_order : goal.push_line-requires-clause-in_order
 push_line-requires-clause-in_order c =
-    rw (c.kept.ensures) (within-item (length c.args.bytes.now) c.args.tokens.now c.loop-token.token-index c.token-item.result c.requires c.loop-token-test.true c.token-item.is).0
+    rw (c.of.ensures) (within-item (length c.args.bytes.now) c.args.tokens.now c.loop-token.token-index c.token-item.result c.requires c.loop-token-test.true c.token-item.is).0
 
 pub push_line-requires-clause-within : goal.push_line-requires-clause-within
 push_line-requires-clause-within c =
-    rw (c.kept.ensures) (within-item (length c.args.bytes.now) c.args.tokens.now c.loop-token.token-index c.token-item.result c.requires c.loop-token-test.true c.token-item.is).1
+    rw (c.of.ensures) (within-item (length c.args.bytes.now) c.args.tokens.now c.loop-token.token-index c.token-item.result c.requires c.loop-token-test.true c.token-item.is).1
