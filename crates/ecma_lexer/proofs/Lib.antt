@@ -11,6 +11,7 @@ pub mod GoingBack
 pub mod ItemLemmas
 pub mod OpeningLemmas
 pub mod OrderLemmas
+pub mod PlainLemmas
 pub mod ProgressLemmas
 pub mod ReadingLemmas
 pub mod ReplayLemmas

@@ -24,6 +24,10 @@ seen_beside b =
       comments = b.gap_comments.items ++ b.token_comments.items;
     }
 
+-- neither a fault nor a comment
+abbrev pub bare : Bool → BesidesView
+bare end_flag = record { end_flag = end_flag; faults = []; comments = [] }
+
 -- it is that of a reading
 pub record IsBeside (b : Besides) (r : Reading) : Type 0 where
   pub end_flag : b.end_flag ≡ r.end_flag

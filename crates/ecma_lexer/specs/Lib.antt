@@ -14,6 +14,7 @@ pub mod HandOver
 pub mod Items
 pub mod Mode
 pub mod Order
+pub mod Plain
 pub mod Reading
 pub mod Run
 pub mod Session

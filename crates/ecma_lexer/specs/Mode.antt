@@ -25,9 +25,15 @@ abbrev pub type_mode : Mode → Bool
 type_mode mode = is_typescript mode.settings.syntax && (mode.context.in_type && not mode.context.should_not_lex_lt_or_gt_as_type)
 
 -- the innermost context keeps white space
-abbrev keeps_space : Option TokenContext → Bool
+abbrev pub keeps_space : Option TokenContext → Bool
 keeps_space (Some JSXExpr) = true
 keeps_space _ = false
+
+-- it lets white space be passed before a token
+abbrev pub passes_space : Option TokenContext → Bool
+passes_space (Some Tpl) = false
+passes_space (Some JSXExpr) = false
+passes_space _ = true
 
 -- a template's text is read
 abbrev pub is_template : Option TokenContext → Bool

@@ -1,5 +1,5 @@
 //! What is kept of the answers.
-ghost use Rattle.std.specs.Prelude.{◌≡◌, option_map};
+ghost use Rattle.std.specs.Prelude.{◌≡◌, None, Some, option_map};
 ghost use Rattle.ecma_token.specs.View.{spanned_view};
 ghost use Rattle.ecma_lexer.specs.Session.{kept_of, kept_in};
 ghost use Rattle.ecma_lexer.specs.State as grammar;
@@ -21,6 +21,7 @@ pub struct Kept {
 impl Kept {
     /// What is kept of a token.
     #[tactic(auto, using(ecma_token::proofs::KindLemmas::kind_of_token_view))]
+    #[inline(always)]
     pub fn of(token: &TokenAndSpan) -> Kept
         ensures { result ≡ kept_of (spanned_view token.now) }
     {
@@ -95,24 +96,22 @@ impl Seen {
         }
     }
 
-    /// What is kept behind one more answer: a token, or the end with the flag before it.
-    pub(crate) fn behind(self, answer: Option<Kept>, end_flag: bool) -> Seen
-        ensures { result ≡ seen_behind self end_flag answer }
+    /// Takes in a token that is given.
+    pub(crate) fn give(&mut self, token: Kept)
+        ensures { self.new ≡ seen_behind self.old token.flag (Some token) }
     {
-        match answer {
-            Some(token) => Seen {
-                first: is_shebang(token.kind) && self.first,
-                last: Some(token),
-                flag: token.flag,
-                ended: false,
-            },
-            None => Seen {
-                first: self.first,
-                last: self.last,
-                flag: end_flag,
-                ended: true,
-            },
-        }
+        self.first = is_shebang(token.kind) && self.first;
+        self.last = Some(token);
+        self.flag = token.flag;
+        self.ended = false;
+    }
+
+    /// Takes in the end, with the flag before it.
+    pub(crate) fn end(&mut self, flag: bool)
+        ensures { self.new ≡ seen_behind self.old flag None }
+    {
+        self.flag = flag;
+        self.ended = true;
     }
 
     /// The kind of the token that was given last.

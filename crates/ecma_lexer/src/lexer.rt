@@ -1,7 +1,8 @@
 //! The lexer.
-ghost use Rattle.std.specs.Prelude.{◌≡◌, ◌<◌, true, false, None, Err, alloc_error, drop, is_some, length, map, option_map, IfOk, IsOk, OnOk, OnErr};
+ghost use Rattle.std.specs.Prelude.{◌≡◌, ◌<◌, true, false, None, Err, alloc_error, Some, drop, is_some, length, map, option_map, IfNone, IfOk, IfSome, IsOk, OnOk, OnErr};
 ghost use Rattle.ecma_token.specs.View.{error_view, spanned_view};
-ghost use Rattle.ecma_lexer.specs.Besides.{IsBeside, TakesNone, seen_beside, state_taking};
+ghost use Rattle.ecma_lexer.specs.Besides.{IsBeside, TakesNone, bare, seen_beside, state_taking};
+ghost use Rattle.ecma_lexer.specs.Plain.{IsBare};
 ghost use Rattle.ecma_lexer.specs.Slashes.{IsAnswer, MayReread, slash_answered};
 ghost use Rattle.ecma_lexer.specs.Session.{Session, kept_in, lexer_state, state_of};
 ghost use Rattle.ecma_lexer.specs.declared.step.Step.{Step};
@@ -15,6 +16,7 @@ use crate::error_list::ErrorList;
 use crate::errors::ErrorLists;
 use crate::kept::Kept;
 use crate::mode::Mode;
+use crate::plain::read_plain;
 use crate::read::{Besides, Reading, read_again, read_from};
 use crate::settings::Settings;
 use crate::state::State;
@@ -191,6 +193,7 @@ impl<'a> Lexer<'a> {
     }
 
     /// What the next read goes by.
+    #[inline(always)]
     fn mode(&self) -> Mode
         ensures { result ≡ mode_of (lexer_state self.now) }
     {
@@ -261,9 +264,42 @@ impl<'a> Lexer<'a> {
             .take_read(&self.context, gap_faults, token_faults)
     }
 
-    /// Reads without asking whether memory was refused before.
+    /// What the next read finds, where that is a token behind white space alone of which nothing is to be told besides. The
+    /// cursor then stands behind it; else nothing is changed.
+    #[inline(always)]
+    fn find_plain(&mut self) -> Option<TokenAndSpan<'a>>
+        ensures found { IfSome result (λ t. Some (spanned_view t) ≡ (reading_of (lexer_state self.old)).found) }
+        ensures bare { IfSome result (λ t. IsBare t.had_line_break (reading_of (lexer_state self.old))) }
+        ensures moved { IfSome result (λ t. self.new ≡ record self.old { input = (reading_of (lexer_state self.old)).input }) }
+        ensures same { IfNone result (self.new ≡ self.old) }
+        ensures answer { IfSome result (λ t. IsAnswer self.new (kept_in (Some (spanned_view t)))) }
+    {
+        if self.reread.is_some() {
+            return None;
+        }
+        let Ok(mut input) = self.input.clone() else {
+            return None;
+        };
+        let token = read_plain(self.alloc, &mut input, &self.mode())?;
+        self.input = input;
+        Some(token)
+    }
+
+    /// Takes in a token that was found with nothing besides: the contexts change.
+    fn take_plain(&mut self, token: Kept) -> Result<(), AllocError>
+        requires { IsAnswer self.old (Some token) }
+        ensures after { OnOk result (lexer_state self.new ≡ state_taking (lexer_state self.old) (Some token) (bare token.flag)) }
+        ensures kept { OnErr result (self.new.errors ≡ self.old.errors) }
+        ensures free { length self.old.state.contexts < 128 → IsOk result }
+    {
+        self.state.take_token(token)?;
+        Ok(())
+    }
+
+    /// Reads with all that is found besides the token.
+    #[inline(never)]
     #[tactic(auto, using(crate::proofs::SlashLemmas::free_read_faults, crate::proofs::SlashLemmas::free_read_comments))]
-    fn next_answer(&mut self) -> Result<Option<TokenAndSpan<'a>>, AllocError>
+    fn next_with_besides(&mut self) -> Result<Option<TokenAndSpan<'a>>, AllocError>
         ensures answer { IfOk result (λ answer. option_map spanned_view answer ≡ (reading_of (lexer_state self.old)).found) }
         ensures after { OnOk result (lexer_state self.new ≡ state_behind (lexer_state self.old) (reading_of (lexer_state self.old))) }
         ensures kept { OnErr result (self.new.errors ≡ self.old.errors) }
@@ -272,6 +308,20 @@ impl<'a> Lexer<'a> {
         let Reading { found, besides } = self.find()?;
         self.take_in(Kept::of_answer(&found), besides)?;
         Ok(found)
+    }
+
+    /// Reads without asking whether memory was refused before.
+    fn next_answer(&mut self) -> Result<Option<TokenAndSpan<'a>>, AllocError>
+        ensures answer { IfOk result (λ answer. option_map spanned_view answer ≡ (reading_of (lexer_state self.old)).found) }
+        ensures after { OnOk result (lexer_state self.new ≡ state_behind (lexer_state self.old) (reading_of (lexer_state self.old))) }
+        ensures kept { OnErr result (self.new.errors ≡ self.old.errors) }
+        ensures free { length self.old.state.contexts < 128 → is_free_read (lexer_state self.old) ≡ true → IsOk result }
+    {
+        let Some(token) = self.find_plain() else {
+            return self.next_with_besides();
+        };
+        self.take_plain(Kept::of(&token))?;
+        Ok(Some(token))
     }
 
     /// The next token, or nothing at the end.

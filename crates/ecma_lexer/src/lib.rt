@@ -13,6 +13,7 @@ pub mod laws;
 pub mod lexer;
 pub mod mode;
 mod opening;
+mod plain;
 mod player;
 mod read;
 pub mod replayed;

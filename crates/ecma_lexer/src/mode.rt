@@ -1,6 +1,6 @@
 //! What a read goes by besides the text.
 ghost use Rattle.std.specs.Prelude.{◌≡◌};
-ghost use Rattle.ecma_lexer.specs.Mode.{type_mode, gap_mode, is_template, is_tpl_element};
+ghost use Rattle.ecma_lexer.specs.Mode.{type_mode, gap_mode, is_template, is_tpl_element, passes_space};
 ghost use Rattle.ecma_lexer.specs.TokenAt.{ts1085};
 
 use crate::settings::Settings;
@@ -57,6 +57,14 @@ impl Mode {
         ensures { result ≡ is_tpl_element self.now.previous }
     {
         matches!(self.previous, Some(TokenKind::Template))
+    }
+
+    /// Whether white space is passed before a token.
+    #[inline(always)]
+    pub fn passes_space(&self) -> bool
+        ensures { result ≡ passes_space self.now.top }
+    {
+        !matches!(self.top, Some(TokenContext::Tpl | TokenContext::JSXExpr))
     }
 
     /// What the gap before the next token is read by.

@@ -23,6 +23,7 @@ pub enum Opening {
 }
 
 /// Whether a number stands at the cursor, which stands before the character `c`.
+#[inline(always)]
 fn stands_number(input: &StringInput, c: char) -> bool
     requires { slice_get (rest input.now) 0 ≡ Some c }
     ensures { result ≡ opens_number (rest input.now) }
@@ -39,6 +40,7 @@ fn stands_bars(input: &StringInput) -> bool
 
 impl Opening {
     /// What stands at the cursor, which stands before the character `c`, behind a gap whose flag stands or not.
+    #[inline(always)]
     pub fn at(input: &StringInput, mode: &Mode, flag: bool, c: char) -> Opening
         requires { slice_get (rest input.now) 0 ≡ Some c }
         ensures { result ≡ grammar.opening mode.now flag (rest input.now) }

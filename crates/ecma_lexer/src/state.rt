@@ -1,5 +1,5 @@
 //! What a lexer keeps between two reads, and what is asked of it.
-ghost use Rattle.std.specs.Prelude.{◌≡◌, ◌<◌, ◌≤◌, length, IsOk, IfOk, OnOk, OnErr};
+ghost use Rattle.std.specs.Prelude.{◌≡◌, ◌<◌, ◌≤◌, Some, length, IsOk, IfOk, OnOk, OnErr};
 ghost use Rattle.ecma_scan.specs.Comments.{can_trail_line, can_trail_block};
 ghost use Rattle.ecma_lexer.specs.Contexts as contexts;
 ghost use Rattle.ecma_lexer.specs.Mode.{is_tpl_element};
@@ -151,6 +151,22 @@ impl State {
         Ok(())
     }
 
+    /// Takes in a token that is answered. Fewer than 128 contexts take no memory.
+    ///
+    /// # Errors
+    ///
+    /// `AllocError` where there is no memory for one more context. Nothing is then changed.
+    #[inline(never)]
+    pub(crate) fn take_token(&mut self, token: Kept) -> Result<(), AllocError>
+        ensures ok { OnOk result (self.new ≡ grammar.behind_answer self.old token.flag (Some token)) }
+        ensures err { OnErr result (self.new ≡ self.old) }
+        ensures free { length self.old.contexts < 128 → IsOk result }
+    {
+        self.turn(token)?;
+        self.seen.give(token);
+        Ok(())
+    }
+
     /// Takes in an answer: a token, or the end with the flag before it. Fewer than 128 contexts take no memory.
     ///
     /// # Errors
@@ -161,11 +177,13 @@ impl State {
         ensures err { OnErr result (self.new ≡ self.old) }
         ensures free { length self.old.contexts < 128 → IsOk result }
     {
-        if let Some(token) = answer {
-            self.turn(token)?;
+        match answer {
+            Some(token) => self.take_token(token),
+            None => {
+                self.seen.end(end_flag);
+                Ok(())
+            }
         }
-        self.seen = self.seen.behind(answer, end_flag);
-        Ok(())
     }
 
     /// The same state. Up to 128 contexts take no memory.

@@ -11,12 +11,15 @@ use Rattle.ecma_scan.specs.Fronts.{after, front, next_is}
 use Rattle.ecma_scan.proofs.Fronts.{after_drop, front-is, length-take_while}
 
 -- what follows the white space at a cursor
+pub after-run : (p : ℕ → Bool) (old now : Cursor) → now ≡ passed (prefix_len p (rest old)) old → rest now ≡ after p (rest old)
+after-run p old now moved =
+    let count : length (front p (rest old)) ≡ prefix_len p (rest old) =
+    ap length (front-is p (rest old)) ∙ length-take_while p (rest old) in
+    let there : rest (passed (prefix_len p (rest old)) old) ≡ drop (prefix_len p (rest old)) (rest old) = sym (drop-drop (prefix_len p (rest old)) old.at old.text) in
+    ap rest moved ∙ there ∙ ap (λ n. drop n (rest old)) (sym count) ∙ sym (after_drop p (rest old))
+
 pub after-white : (old now : Cursor) → now ≡ passed (prefix_len is_white_space (rest old)) old → rest now ≡ after is_white_space (rest old)
-after-white old now moved =
-    let count : length (front is_white_space (rest old)) ≡ prefix_len is_white_space (rest old) =
-    ap length (front-is is_white_space (rest old)) ∙ length-take_while is_white_space (rest old) in
-    let there : rest (passed (prefix_len is_white_space (rest old)) old) ≡ drop (prefix_len is_white_space (rest old)) (rest old) = sym (drop-drop (prefix_len is_white_space (rest old)) old.at old.text) in
-    ap rest moved ∙ there ∙ ap (λ n. drop n (rest old)) (sym count) ∙ sym (after_drop is_white_space (rest old))
+after-white = after-run is_white_space
 
 first-is : (x : ℕ) (text : Text) (b : Bool) → (IsTrue b ↔ (slice_get text 0 ≡ Some x)) → b ≡ next_is x text
 first-is x [] true e = let no = e.0 refl in cc

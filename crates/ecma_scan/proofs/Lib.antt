@@ -2,6 +2,7 @@ pub mod Agreement
 pub mod AttachmentLemmas
 pub mod BarsLaws
 pub mod BarsLemmas
+pub mod BlankGapLemmas
 pub mod BodyLemmas
 pub mod CharacterLaws
 pub mod CommentLaws

@@ -1,6 +1,10 @@
 -- A word, as its reader finds it of a name.
-use Rattle.std.proofs.Common.{◌≡◌, ℕ, ◌+◌, Bool, true, false, cond, List, map, refl, ap, ◌∙◌, arith, Result, Ok, Err}
+use Rattle.std.proofs.Common.{◌≡◌, ℕ, ◌+◌, Bool, true, false, cond, List, map, refl, sym, ap, ◌∙◌, arith, Result, Ok, Err}
+use Rattle.std.specs.Prelude.{encode_utf8_all}
+use Rattle.std.specs.List.{prefix_len, take_while}
 use Rattle.ecma_place.specs.Text.{Text, byte_len}
+use Rattle.ecma_place.specs.Character.{is_ident_part}
+use Rattle.ecma_place.specs.Cursor.{Cursor, rest, passed}
 use Rattle.ecma_place.specs.Atom.{AtomView, owned_atom}
 use Rattle.ecma_syntax.specs.Reserved.{is_reserved}
 use Rattle.ecma_syntax.specs.Word.{word_of, word_kind, word_of_kind}
@@ -16,9 +20,14 @@ use Rattle.ecma_syntax.specs.declared.word.Word.TheVariants as word_of_text
 use Rattle.ecma_syntax.proofs.Words.{word_of-kind}
 use Rattle.ecma_token.specs.View.{ErrorView, plain}
 use Rattle.ecma_token.specs.declared.error.SyntaxError.{EscapeInReservedWord}
-use Rattle.ecma_scan.specs.Found.{FoundView, Scanned, fault_behind, value_behind, placeless, found_at, span_of}
+use Rattle.ecma_scan.specs.EscapeAnswers.{opens_escape}
+use Rattle.ecma_scan.specs.Found.{FoundView, Scanned, fault_behind, value_behind, placeless, found_at, scanned, span_of}
+use Rattle.ecma_scan.specs.Fronts.{next_is}
 use Rattle.ecma_scan.specs.NameParts.{word_at}
-use Rattle.ecma_scan.specs.Words.{owned_word, word_value, found_word}
+use Rattle.ecma_scan.specs.Words.{owned_word, word, word_value, found_word}
+use Rattle.ecma_scan.proofs.AttachmentLemmas.{after-run}
+use Rattle.ecma_scan.proofs.Fronts.{front-is}
+use Rattle.ecma_scan.proofs.WordLaws.{plain_word_is_its_row}
 
 -- An owned word, by the row of its text
 
@@ -70,3 +79,12 @@ word-found context name p found v e none is =
     (is ∙ ap (λ f. word_at context f.extent f.value) e ∙ word-value context p name.spelling name.value)
     ∙ ap (λ f. let word : FoundView Word = record { value = value; faults = f.faults; extent = f.extent; line_break = f.line_break } in word) e
     ∙ ap (λ b. let word : FoundView Word = record { value = value; faults = map (fault_behind p) name.faults; extent = span_of p (p + byte_len name.spelling); line_break = b } in word) none
+
+-- A word without an escape
+
+-- the part characters at a cursor, before no backslash, are a word
+pub plain-row : (context : Context) (old now : Cursor) → now ≡ passed (prefix_len is_ident_part (rest old)) old → opens_escape (rest now) ≡ false
+    → word context (rest old) ≡ scanned (word_of (encode_utf8_all (take_while is_ident_part (rest old)))) (take_while is_ident_part (rest old))
+plain-row context old now moved none =
+    plain_word_is_its_row context (rest old) (ap (next_is 92) (sym (after-run is_ident_part old now moved)) ∙ none)
+    ∙ ap (λ (spelling : Text). scanned (word_of (encode_utf8_all spelling)) spelling) (front-is is_ident_part (rest old))

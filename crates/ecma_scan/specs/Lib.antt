@@ -1,4 +1,5 @@
 pub mod Bars
+pub mod BlankGaps
 pub mod Comments
 pub mod Cutters
 pub mod EscapeAnswers

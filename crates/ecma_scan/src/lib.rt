@@ -3,6 +3,7 @@
 
 mod attachment;
 pub mod bars;
+pub mod blank_gap;
 mod comment;
 mod element;
 mod escape;
@@ -25,14 +26,15 @@ mod white_space;
 pub mod word;
 
 pub use bars::{Bars, scan_bars};
+pub use blank_gap::{BlankGap, scan_blank_gap};
 pub use escape::scan_escape;
 pub use expression::scan_regexp;
 pub use found::{Blame, Found};
 pub use gap::{Gap, GapMode, scan_gap};
 pub use number::scan_number;
-pub use punctuator::scan_punct;
+pub use punctuator::{eat_punctuator, scan_punct};
 pub use shebang::scan_shebang;
 pub use skip_whitespace::SkipWhitespace;
 pub use string::scan_string;
 pub use template::scan_template;
-pub use word::scan_word;
+pub use word::{eat_plain_word, scan_word};

@@ -33,7 +33,8 @@ pub(crate) fn begins_name(input: &StringInput) -> bool
 
 /// Moves behind the part characters at the cursor, and answers their text.
 #[tactic(auto, using(ecma_place::proofs::ClassLemmas::word_runs))]
-fn part_characters<'a>(input: &mut StringInput<'a>) -> &'a str
+#[inline(always)]
+pub(crate) fn part_characters<'a>(input: &mut StringInput<'a>) -> &'a str
     ensures text { result.now ≡ encode_utf8_all (take_while is_ident_part (rest input.old)) }
     ensures moved { input.new ≡ passed (prefix_len is_ident_part (rest input.old)) input.old }
 {

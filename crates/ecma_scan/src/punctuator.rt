@@ -383,8 +383,9 @@ fn longest<'a>(input: &mut StringInput<'a>, first: char) -> Option<Token<'a>>
     }
 }
 
-/// Moves behind the punctuator at the cursor, if there is one.
-fn punctuator<'a>(input: &mut StringInput<'a>, type_mode: bool) -> Option<Token<'a>>
+/// Moves behind the punctuator at the cursor, if there is one, and answers it: what [`scan_punct`] finds, without its extent.
+/// No memory is taken.
+pub fn eat_punctuator<'a>(input: &mut StringInput<'a>, type_mode: bool) -> Option<Token<'a>>
     ensures token { result ≡ token_in (punctuator_in type_mode (rest input.old)) }
     ensures moved { input.new ≡ passed (length (spelling_in (punctuator_in type_mode (rest input.old)))) input.old }
 {
@@ -421,7 +422,7 @@ pub fn scan_punct<'a>(
     ensures free { IsOk result }
 {
     let start = input.cur_pos();
-    let token = punctuator(input, type_mode);
+    let token = eat_punctuator(input, type_mode);
     Ok(Found {
         value: Ok(token),
         faults: Vec::new(alloc),

@@ -1,5 +1,6 @@
 //! What each reader finds of texts, a module to a reader.
 
+mod blanks;
 mod expressions;
 mod gaps;
 mod numbers;

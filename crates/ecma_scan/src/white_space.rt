@@ -10,6 +10,7 @@ use ecma_place::{ByteClass, CharExt, StringInput};
 
 /// Whether the byte, which is ASCII, is white space or a line terminator.
 #[tactic(auto, using(crate::proofs::WhiteLemmas::white_bytes))]
+#[inline(always)]
 fn is_white_byte(b: u8) -> bool
     requires { b < 128 }
     ensures { result ≡ is_white_space b }
@@ -18,6 +19,7 @@ fn is_white_byte(b: u8) -> bool
 }
 
 /// The white space character at the cursor, if one stands there. Only past ASCII a character is decoded.
+#[inline(always)]
 fn white_space_at(input: &StringInput) -> Option<char>
     ensures first { IfSome result (λ c. slice_get (rest input.now) 0 ≡ Some c) }
     ensures white { IfSome result (λ c. is_white_space c ≡ true) }
@@ -39,7 +41,8 @@ fn white_space_at(input: &StringInput) -> Option<char>
 }
 
 /// Moves behind the white space at the cursor, and says whether it held a line terminator.
-pub(crate) fn skip_white_space(input: &mut StringInput) -> bool
+#[inline(never)]
+fn pass_white_space(input: &mut StringInput) -> bool
     ensures terminator { result ≡ list_any is_line_terminator (take_while is_white_space (rest input.old)) }
     ensures moved { input.new ≡ passed (prefix_len is_white_space (rest input.old)) input.old }
 {
@@ -47,7 +50,22 @@ pub(crate) fn skip_white_space(input: &mut StringInput) -> bool
     'chars: while let Some(c) = white_space_at(input) {
         terminator |= c.is_line_terminator();
         input.bump();
-        input.bump_bytes(input.run_bytes(ByteClass::Blank) as usize);
+        if input.is_byte(b' ') || input.is_byte(b'\t') {
+            input.bump_bytes(input.run_bytes(ByteClass::Blank) as usize);
+        }
     }
     terminator
+}
+
+/// Moves behind the white space at the cursor, and says whether it held a line terminator (ECMA-262 WhiteSpace and
+/// LineTerminator, 12.2 and 12.3).
+#[inline(always)]
+pub(crate) fn skip_white_space(input: &mut StringInput) -> bool
+    ensures terminator { result ≡ list_any is_line_terminator (take_while is_white_space (rest input.old)) }
+    ensures moved { input.new ≡ passed (prefix_len is_white_space (rest input.old)) input.old }
+{
+    if white_space_at(input).is_none() {
+        return false;
+    }
+    pass_white_space(input)
 }

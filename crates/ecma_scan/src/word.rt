@@ -1,15 +1,19 @@
 //! Words.
-ghost use Rattle.std.specs.Prelude.{◌≡◌, true, length, string_bytes, Result, Ok, Err, IfOk, IsOk, OnOk};
+ghost use Rattle.std.specs.Prelude.{◌≡◌, true, length, string_bytes, Result, Ok, Err, IfOk, IfSome, IsOk, OnOk};
+ghost use Rattle.std.specs.List.{prefix_len, take_while};
 ghost use Rattle.ecma_place.specs.Atom.{AtomView, owned_atom};
+ghost use Rattle.ecma_place.specs.Character.{is_ident_part};
 ghost use Rattle.ecma_place.specs.Cursor.{rest, place, passed};
 ghost use Rattle.ecma_syntax.specs.Reserved.{is_reserved};
 ghost use Rattle.ecma_syntax.specs.Word.{word_of, word_kind};
-ghost use Rattle.ecma_scan.specs.Found.{found_view, found_at, placeless, value_view};
+ghost use Rattle.ecma_syntax.specs.declared.context.Context.{Context};
+ghost use Rattle.ecma_scan.specs.Found.{found_view, found_at, placeless, scanned, value_view};
 ghost use Rattle.ecma_scan.specs.NameParts.{cow_atom, escaped_word_at, word_at};
 ghost use Rattle.ecma_scan.specs.Words as grammar;
 
+use crate::escape::at_escape;
 use crate::found::Found;
-use crate::name::read_name;
+use crate::name::{part_characters, read_name};
 use ecma_place::{Atom, Span, StringInput};
 use ecma_syntax::{Context, IdentKind, IdentLike, Word, WordKind};
 use ecma_token::{Error, SyntaxError};
@@ -79,6 +83,23 @@ fn word_of_name<'a>(
         Ok(CowStr::Borrowed(text)) => Ok(Ok(Word::from_str(text))),
         Ok(CowStr::Owned(text)) => escaped_word(alloc, context, text, span),
     }
+}
+
+/// Moves behind the word at the cursor, where it is written with no escape, and answers it: what [`scan_word`] finds, without
+/// its extent. It is the row of the table of words for the part characters that stand there, which are passed.
+///
+/// Where a backslash follows them there is no answer. No memory is taken. Our own, for speed.
+#[inline(always)]
+pub fn eat_plain_word<'a>(input: &mut StringInput<'a>) -> Option<Word<'a>>
+    ensures word { IfSome result (λ w. (context : Context) →
+        grammar.word context (rest input.old) ≡ scanned w (take_while is_ident_part (rest input.old))) }
+    ensures moved { input.new ≡ passed (prefix_len is_ident_part (rest input.old)) input.old }
+{
+    let text = part_characters(input);
+    if at_escape(input) {
+        return None;
+    }
+    Some(Word::from_str(text))
 }
 
 /// Reads the word at the cursor (ECMA-262 IdentifierName, 12.7): part characters and escapes of code points, as many
