@@ -45,7 +45,7 @@ fn plain_found<'a>(found: Found<'a, Token<'a>>, flag: bool) -> Option<TokenAndSp
 }
 
 /// The word at the cursor, behind a gap whose flag stands or not, where it is written with no escape.
-#[inline(always)]
+#[inline(never)]
 fn plain_word<'a>(input: &mut StringInput<'a>, flag: bool) -> Option<TokenAndSpan<'a>>
     ensures token { IfSome result (λ t. (mode : Mode) → found_at token_behind (place input.old) (grammar.word_token mode (rest input.old)) ≡ plain_view (spanned_view t)) }
     ensures flag { IfSome result (λ t. t.had_line_break ≡ flag) }
@@ -72,9 +72,9 @@ fn plain_punctuator<'a>(
     ensures moved { IfSome result (λ t. input.new ≡ passed (length (grammar.other_token mode.now (rest input.old)).spelling) input.old) }
 {
     let start = input.cur_pos();
-    let token = eat_punctuator(input, mode.type_mode())?;
+    let kind = eat_punctuator(input, mode.type_mode())?;
     Some(TokenAndSpan {
-        token,
+        token: kind.token(),
         had_line_break: flag,
         span: Span::new(start, input.cur_pos()),
     })

@@ -14,6 +14,7 @@ pub mod NameParts
 pub mod Numbers
 pub mod PieceParts
 pub mod Pieces
+pub mod PunctuatorKinds
 pub mod Punctuators
 pub mod Readings
 pub mod Shebangs

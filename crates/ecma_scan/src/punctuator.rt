@@ -4,12 +4,14 @@ ghost use Rattle.ecma_place.specs.Cursor.{rest, place, passed};
 ghost use Rattle.ecma_scan.specs.Found.{found_view, found_at, token_behind};
 ghost use Rattle.ecma_scan.specs.Punctuators as grammar;
 ghost use Rattle.ecma_scan.specs.Numbers.{opens_fraction};
+ghost use Rattle.ecma_scan.specs.PunctuatorKinds.{kind_token};
 ghost use Rattle.ecma_scan.specs.Fronts.{begins_with};
 ghost use Rattle.ecma_scan.specs.Punctuators.{first_of, punctuators, token_in, spelling_in, count_behind, is_lone, begins_more, punctuator_in, angle_in, spells};
 ghost use Rattle.ecma_place.specs.Text.{Text};
 ghost use Rattle.ecma_token.specs.View.{token_view};
 
 use crate::found::Found;
+use crate::punctuator_kind::PunctuatorKind;
 use ecma_place::{Span, StringInput};
 use ecma_syntax::{AssignOp, BinOpToken};
 use ecma_token::Token;
@@ -65,243 +67,243 @@ fn eat_three(input: &mut StringInput, first: char, second: char, third: char) ->
 
 /// The punctuator that begins with `.`, which stands before the cursor.
 #[tactic(auto, using(crate::proofs::PunctuatorLemmas::eating))]
-fn behind_dot<'a>(input: &mut StringInput<'a>) -> Token<'a>
-    ensures token { token_in (first_of punctuators (46 ∷ rest input.old)) ≡ Some result }
+fn behind_dot(input: &mut StringInput) -> PunctuatorKind
+    ensures token { token_in (first_of punctuators (46 ∷ rest input.old)) ≡ Some (kind_token result) }
     ensures moved { input.new ≡ passed (count_behind (first_of punctuators (46 ∷ rest input.old))) input.old }
 {
     if eat_two(input, '.', '.') {
-        Token::DotDotDot
+        PunctuatorKind::DotDotDot
     } else {
-        Token::Dot
+        PunctuatorKind::Dot
     }
 }
 
 /// The punctuator that begins with `=`, which stands before the cursor.
 #[tactic(auto, using(crate::proofs::PunctuatorLemmas::eating))]
-fn behind_equals<'a>(input: &mut StringInput<'a>) -> Token<'a>
-    ensures token { token_in (first_of punctuators (61 ∷ rest input.old)) ≡ Some result }
+fn behind_equals(input: &mut StringInput) -> PunctuatorKind
+    ensures token { token_in (first_of punctuators (61 ∷ rest input.old)) ≡ Some (kind_token result) }
     ensures moved { input.new ≡ passed (count_behind (first_of punctuators (61 ∷ rest input.old))) input.old }
 {
     if eat_two(input, '=', '=') {
-        Token::BinOp(BinOpToken::EqEqEq)
+        PunctuatorKind::BinOp(BinOpToken::EqEqEq)
     } else if eat_one(input, '=') {
-        Token::BinOp(BinOpToken::EqEq)
+        PunctuatorKind::BinOp(BinOpToken::EqEq)
     } else if eat_one(input, '>') {
-        Token::Arrow
+        PunctuatorKind::Arrow
     } else {
-        Token::AssignOp(AssignOp::Assign)
+        PunctuatorKind::AssignOp(AssignOp::Assign)
     }
 }
 
 /// The punctuator that begins with `!`, which stands before the cursor.
 #[tactic(auto, using(crate::proofs::PunctuatorLemmas::eating))]
-fn behind_bang<'a>(input: &mut StringInput<'a>) -> Token<'a>
-    ensures token { token_in (first_of punctuators (33 ∷ rest input.old)) ≡ Some result }
+fn behind_bang(input: &mut StringInput) -> PunctuatorKind
+    ensures token { token_in (first_of punctuators (33 ∷ rest input.old)) ≡ Some (kind_token result) }
     ensures moved { input.new ≡ passed (count_behind (first_of punctuators (33 ∷ rest input.old))) input.old }
 {
     if eat_two(input, '=', '=') {
-        Token::BinOp(BinOpToken::NotEqEq)
+        PunctuatorKind::BinOp(BinOpToken::NotEqEq)
     } else if eat_one(input, '=') {
-        Token::BinOp(BinOpToken::NotEq)
+        PunctuatorKind::BinOp(BinOpToken::NotEq)
     } else {
-        Token::Bang
+        PunctuatorKind::Bang
     }
 }
 
 /// The punctuator that begins with `<`, which stands before the cursor.
 #[tactic(auto, using(crate::proofs::PunctuatorLemmas::eating))]
-fn behind_less<'a>(input: &mut StringInput<'a>) -> Token<'a>
-    ensures token { token_in (first_of punctuators (60 ∷ rest input.old)) ≡ Some result }
+fn behind_less(input: &mut StringInput) -> PunctuatorKind
+    ensures token { token_in (first_of punctuators (60 ∷ rest input.old)) ≡ Some (kind_token result) }
     ensures moved { input.new ≡ passed (count_behind (first_of punctuators (60 ∷ rest input.old))) input.old }
 {
     if eat_two(input, '<', '=') {
-        Token::AssignOp(AssignOp::LShiftAssign)
+        PunctuatorKind::AssignOp(AssignOp::LShiftAssign)
     } else if eat_one(input, '<') {
-        Token::BinOp(BinOpToken::LShift)
+        PunctuatorKind::BinOp(BinOpToken::LShift)
     } else if eat_one(input, '=') {
-        Token::BinOp(BinOpToken::LtEq)
+        PunctuatorKind::BinOp(BinOpToken::LtEq)
     } else {
-        Token::BinOp(BinOpToken::Lt)
+        PunctuatorKind::BinOp(BinOpToken::Lt)
     }
 }
 
 /// The punctuator that begins with `>`, which stands before the cursor.
 #[tactic(auto, using(crate::proofs::PunctuatorLemmas::eating))]
-fn behind_greater<'a>(input: &mut StringInput<'a>) -> Token<'a>
-    ensures token { token_in (first_of punctuators (62 ∷ rest input.old)) ≡ Some result }
+fn behind_greater(input: &mut StringInput) -> PunctuatorKind
+    ensures token { token_in (first_of punctuators (62 ∷ rest input.old)) ≡ Some (kind_token result) }
     ensures moved { input.new ≡ passed (count_behind (first_of punctuators (62 ∷ rest input.old))) input.old }
 {
     if eat_three(input, '>', '>', '=') {
-        Token::AssignOp(AssignOp::ZeroFillRShiftAssign)
+        PunctuatorKind::AssignOp(AssignOp::ZeroFillRShiftAssign)
     } else if eat_two(input, '>', '>') {
-        Token::BinOp(BinOpToken::ZeroFillRShift)
+        PunctuatorKind::BinOp(BinOpToken::ZeroFillRShift)
     } else if eat_two(input, '>', '=') {
-        Token::AssignOp(AssignOp::RShiftAssign)
+        PunctuatorKind::AssignOp(AssignOp::RShiftAssign)
     } else if eat_one(input, '>') {
-        Token::BinOp(BinOpToken::RShift)
+        PunctuatorKind::BinOp(BinOpToken::RShift)
     } else if eat_one(input, '=') {
-        Token::BinOp(BinOpToken::GtEq)
+        PunctuatorKind::BinOp(BinOpToken::GtEq)
     } else {
-        Token::BinOp(BinOpToken::Gt)
+        PunctuatorKind::BinOp(BinOpToken::Gt)
     }
 }
 
 /// The punctuator that begins with `+`, which stands before the cursor.
 #[tactic(auto, using(crate::proofs::PunctuatorLemmas::eating))]
-fn behind_plus<'a>(input: &mut StringInput<'a>) -> Token<'a>
-    ensures token { token_in (first_of punctuators (43 ∷ rest input.old)) ≡ Some result }
+fn behind_plus(input: &mut StringInput) -> PunctuatorKind
+    ensures token { token_in (first_of punctuators (43 ∷ rest input.old)) ≡ Some (kind_token result) }
     ensures moved { input.new ≡ passed (count_behind (first_of punctuators (43 ∷ rest input.old))) input.old }
 {
     if eat_one(input, '+') {
-        Token::PlusPlus
+        PunctuatorKind::PlusPlus
     } else if eat_one(input, '=') {
-        Token::AssignOp(AssignOp::AddAssign)
+        PunctuatorKind::AssignOp(AssignOp::AddAssign)
     } else {
-        Token::BinOp(BinOpToken::Add)
+        PunctuatorKind::BinOp(BinOpToken::Add)
     }
 }
 
 /// The punctuator that begins with `-`, which stands before the cursor.
 #[tactic(auto, using(crate::proofs::PunctuatorLemmas::eating))]
-fn behind_minus<'a>(input: &mut StringInput<'a>) -> Token<'a>
-    ensures token { token_in (first_of punctuators (45 ∷ rest input.old)) ≡ Some result }
+fn behind_minus(input: &mut StringInput) -> PunctuatorKind
+    ensures token { token_in (first_of punctuators (45 ∷ rest input.old)) ≡ Some (kind_token result) }
     ensures moved { input.new ≡ passed (count_behind (first_of punctuators (45 ∷ rest input.old))) input.old }
 {
     if eat_one(input, '-') {
-        Token::MinusMinus
+        PunctuatorKind::MinusMinus
     } else if eat_one(input, '=') {
-        Token::AssignOp(AssignOp::SubAssign)
+        PunctuatorKind::AssignOp(AssignOp::SubAssign)
     } else {
-        Token::BinOp(BinOpToken::Sub)
+        PunctuatorKind::BinOp(BinOpToken::Sub)
     }
 }
 
 /// The punctuator that begins with `*`, which stands before the cursor.
 #[tactic(auto, using(crate::proofs::PunctuatorLemmas::eating))]
-fn behind_star<'a>(input: &mut StringInput<'a>) -> Token<'a>
-    ensures token { token_in (first_of punctuators (42 ∷ rest input.old)) ≡ Some result }
+fn behind_star(input: &mut StringInput) -> PunctuatorKind
+    ensures token { token_in (first_of punctuators (42 ∷ rest input.old)) ≡ Some (kind_token result) }
     ensures moved { input.new ≡ passed (count_behind (first_of punctuators (42 ∷ rest input.old))) input.old }
 {
     if eat_two(input, '*', '=') {
-        Token::AssignOp(AssignOp::ExpAssign)
+        PunctuatorKind::AssignOp(AssignOp::ExpAssign)
     } else if eat_one(input, '*') {
-        Token::BinOp(BinOpToken::Exp)
+        PunctuatorKind::BinOp(BinOpToken::Exp)
     } else if eat_one(input, '=') {
-        Token::AssignOp(AssignOp::MulAssign)
+        PunctuatorKind::AssignOp(AssignOp::MulAssign)
     } else {
-        Token::BinOp(BinOpToken::Mul)
+        PunctuatorKind::BinOp(BinOpToken::Mul)
     }
 }
 
 /// The punctuator that begins with `/`, which stands before the cursor.
 #[tactic(auto, using(crate::proofs::PunctuatorLemmas::eating))]
-fn behind_slash<'a>(input: &mut StringInput<'a>) -> Token<'a>
-    ensures token { token_in (first_of punctuators (47 ∷ rest input.old)) ≡ Some result }
+fn behind_slash(input: &mut StringInput) -> PunctuatorKind
+    ensures token { token_in (first_of punctuators (47 ∷ rest input.old)) ≡ Some (kind_token result) }
     ensures moved { input.new ≡ passed (count_behind (first_of punctuators (47 ∷ rest input.old))) input.old }
 {
     if eat_one(input, '=') {
-        Token::AssignOp(AssignOp::DivAssign)
+        PunctuatorKind::AssignOp(AssignOp::DivAssign)
     } else {
-        Token::BinOp(BinOpToken::Div)
+        PunctuatorKind::BinOp(BinOpToken::Div)
     }
 }
 
 /// The punctuator that begins with `%`, which stands before the cursor.
 #[tactic(auto, using(crate::proofs::PunctuatorLemmas::eating))]
-fn behind_percent<'a>(input: &mut StringInput<'a>) -> Token<'a>
-    ensures token { token_in (first_of punctuators (37 ∷ rest input.old)) ≡ Some result }
+fn behind_percent(input: &mut StringInput) -> PunctuatorKind
+    ensures token { token_in (first_of punctuators (37 ∷ rest input.old)) ≡ Some (kind_token result) }
     ensures moved { input.new ≡ passed (count_behind (first_of punctuators (37 ∷ rest input.old))) input.old }
 {
     if eat_one(input, '=') {
-        Token::AssignOp(AssignOp::ModAssign)
+        PunctuatorKind::AssignOp(AssignOp::ModAssign)
     } else {
-        Token::BinOp(BinOpToken::Mod)
+        PunctuatorKind::BinOp(BinOpToken::Mod)
     }
 }
 
 /// The punctuator that begins with `|`, which stands before the cursor.
 #[tactic(auto, using(crate::proofs::PunctuatorLemmas::eating))]
-fn behind_bar<'a>(input: &mut StringInput<'a>) -> Token<'a>
-    ensures token { token_in (first_of punctuators (124 ∷ rest input.old)) ≡ Some result }
+fn behind_bar(input: &mut StringInput) -> PunctuatorKind
+    ensures token { token_in (first_of punctuators (124 ∷ rest input.old)) ≡ Some (kind_token result) }
     ensures moved { input.new ≡ passed (count_behind (first_of punctuators (124 ∷ rest input.old))) input.old }
 {
     if eat_two(input, '|', '=') {
-        Token::AssignOp(AssignOp::OrAssign)
+        PunctuatorKind::AssignOp(AssignOp::OrAssign)
     } else if eat_one(input, '|') {
-        Token::BinOp(BinOpToken::LogicalOr)
+        PunctuatorKind::BinOp(BinOpToken::LogicalOr)
     } else if eat_one(input, '=') {
-        Token::AssignOp(AssignOp::BitOrAssign)
+        PunctuatorKind::AssignOp(AssignOp::BitOrAssign)
     } else {
-        Token::BinOp(BinOpToken::BitOr)
+        PunctuatorKind::BinOp(BinOpToken::BitOr)
     }
 }
 
 /// The punctuator that begins with `&`, which stands before the cursor.
 #[tactic(auto, using(crate::proofs::PunctuatorLemmas::eating))]
-fn behind_ampersand<'a>(input: &mut StringInput<'a>) -> Token<'a>
-    ensures token { token_in (first_of punctuators (38 ∷ rest input.old)) ≡ Some result }
+fn behind_ampersand(input: &mut StringInput) -> PunctuatorKind
+    ensures token { token_in (first_of punctuators (38 ∷ rest input.old)) ≡ Some (kind_token result) }
     ensures moved { input.new ≡ passed (count_behind (first_of punctuators (38 ∷ rest input.old))) input.old }
 {
     if eat_two(input, '&', '=') {
-        Token::AssignOp(AssignOp::AndAssign)
+        PunctuatorKind::AssignOp(AssignOp::AndAssign)
     } else if eat_one(input, '&') {
-        Token::BinOp(BinOpToken::LogicalAnd)
+        PunctuatorKind::BinOp(BinOpToken::LogicalAnd)
     } else if eat_one(input, '=') {
-        Token::AssignOp(AssignOp::BitAndAssign)
+        PunctuatorKind::AssignOp(AssignOp::BitAndAssign)
     } else {
-        Token::BinOp(BinOpToken::BitAnd)
+        PunctuatorKind::BinOp(BinOpToken::BitAnd)
     }
 }
 
 /// The punctuator that begins with `^`, which stands before the cursor.
 #[tactic(auto, using(crate::proofs::PunctuatorLemmas::eating))]
-fn behind_caret<'a>(input: &mut StringInput<'a>) -> Token<'a>
-    ensures token { token_in (first_of punctuators (94 ∷ rest input.old)) ≡ Some result }
+fn behind_caret(input: &mut StringInput) -> PunctuatorKind
+    ensures token { token_in (first_of punctuators (94 ∷ rest input.old)) ≡ Some (kind_token result) }
     ensures moved { input.new ≡ passed (count_behind (first_of punctuators (94 ∷ rest input.old))) input.old }
 {
     if eat_one(input, '=') {
-        Token::AssignOp(AssignOp::BitXorAssign)
+        PunctuatorKind::AssignOp(AssignOp::BitXorAssign)
     } else {
-        Token::BinOp(BinOpToken::BitXor)
+        PunctuatorKind::BinOp(BinOpToken::BitXor)
     }
 }
 
 /// The punctuator that begins with `?`, which stands before the cursor.
 #[tactic(auto, using(crate::proofs::PunctuatorLemmas::eating))]
-fn behind_question<'a>(input: &mut StringInput<'a>) -> Token<'a>
-    ensures token { token_in (first_of punctuators (63 ∷ rest input.old)) ≡ Some result }
+fn behind_question(input: &mut StringInput) -> PunctuatorKind
+    ensures token { token_in (first_of punctuators (63 ∷ rest input.old)) ≡ Some (kind_token result) }
     ensures moved { input.new ≡ passed (count_behind (first_of punctuators (63 ∷ rest input.old))) input.old }
 {
     if eat_two(input, '?', '=') {
-        Token::AssignOp(AssignOp::NullishAssign)
+        PunctuatorKind::AssignOp(AssignOp::NullishAssign)
     } else if eat_one(input, '?') {
-        Token::BinOp(BinOpToken::NullishCoalescing)
+        PunctuatorKind::BinOp(BinOpToken::NullishCoalescing)
     } else {
-        Token::QuestionMark
+        PunctuatorKind::QuestionMark
     }
 }
 
 /// The punctuator that is this character, whatever follows it.
 #[tactic(auto, unfolding(crate::specs::Punctuators::is_lone))]
-fn lone_token<'a>(first: char) -> Option<Token<'a>>
-    ensures some { IfSome result (λ token. (text : Text) →
-        first_of punctuators (first ∷ text) ≡ Some (spells (first ∷ []) token)) }
+fn lone(first: char) -> Option<PunctuatorKind>
+    ensures some { IfSome result (λ kind. (text : Text) →
+        first_of punctuators (first ∷ text) ≡ Some (spells (first ∷ []) (kind_token kind))) }
     ensures none { IfNone result (is_lone first ≡ false) }
 {
     match first {
-        '{' => Some(Token::LBrace),
-        '}' => Some(Token::RBrace),
-        '(' => Some(Token::LParen),
-        ')' => Some(Token::RParen),
-        '[' => Some(Token::LBracket),
-        ']' => Some(Token::RBracket),
-        ';' => Some(Token::Semi),
-        ',' => Some(Token::Comma),
-        '~' => Some(Token::Tilde),
-        '@' => Some(Token::At),
-        '#' => Some(Token::Hash),
-        ':' => Some(Token::Colon),
-        '`' => Some(Token::BackQuote),
+        '{' => Some(PunctuatorKind::LBrace),
+        '}' => Some(PunctuatorKind::RBrace),
+        '(' => Some(PunctuatorKind::LParen),
+        ')' => Some(PunctuatorKind::RParen),
+        '[' => Some(PunctuatorKind::LBracket),
+        ']' => Some(PunctuatorKind::RBracket),
+        ';' => Some(PunctuatorKind::Semi),
+        ',' => Some(PunctuatorKind::Comma),
+        '~' => Some(PunctuatorKind::Tilde),
+        '@' => Some(PunctuatorKind::At),
+        '#' => Some(PunctuatorKind::Hash),
+        ':' => Some(PunctuatorKind::Colon),
+        '`' => Some(PunctuatorKind::BackQuote),
         _ => None,
     }
 }
@@ -319,9 +321,9 @@ fn begins_more(first: char) -> bool
 
 /// The punctuator whose first character stands before the cursor.
 #[tactic(auto, unfolding(crate::specs::Punctuators::begins_more))]
-fn behind_first<'a>(input: &mut StringInput<'a>, first: char) -> Token<'a>
+fn behind_first(input: &mut StringInput, first: char) -> PunctuatorKind
     requires { begins_more first ≡ true }
-    ensures token { token_in (first_of punctuators (first ∷ rest input.old)) ≡ Some result }
+    ensures token { token_in (first_of punctuators (first ∷ rest input.old)) ≡ Some (kind_token result) }
     ensures moved { input.new ≡ passed (count_behind (first_of punctuators (first ∷ rest input.old))) input.old }
 {
     match first {
@@ -343,12 +345,12 @@ fn behind_first<'a>(input: &mut StringInput<'a>, first: char) -> Token<'a>
 }
 
 /// `<` or `>`, which stand alone among types.
-fn angle<'a>(type_mode: bool, first: char) -> Option<Token<'a>>
-    ensures { result ≡ angle_in type_mode first }
+fn angle(type_mode: bool, first: char) -> Option<PunctuatorKind>
+    ensures { option_map kind_token result ≡ angle_in type_mode first }
 {
     match first {
-        '<' if type_mode => Some(Token::BinOp(BinOpToken::Lt)),
-        '>' if type_mode => Some(Token::BinOp(BinOpToken::Gt)),
+        '<' if type_mode => Some(PunctuatorKind::BinOp(BinOpToken::Lt)),
+        '>' if type_mode => Some(PunctuatorKind::BinOp(BinOpToken::Gt)),
         _ => None,
     }
 }
@@ -367,14 +369,14 @@ fn opens_fraction(input: &StringInput) -> bool
 }
 
 /// Moves behind the punctuator at the cursor, which begins with this character.
-fn longest<'a>(input: &mut StringInput<'a>, first: char) -> Option<Token<'a>>
+fn longest(input: &mut StringInput, first: char) -> Option<PunctuatorKind>
     requires { slice_get (rest input.old) 0 ≡ Some first }
-    ensures token { result ≡ token_in (first_of punctuators (rest input.old)) }
+    ensures token { option_map kind_token result ≡ token_in (first_of punctuators (rest input.old)) }
     ensures moved { input.new ≡ passed (length (spelling_in (first_of punctuators (rest input.old)))) input.old }
 {
-    if let Some(token) = lone_token(first) {
+    if let Some(kind) = lone(first) {
         input.bump();
-        Some(token)
+        Some(kind)
     } else if begins_more(first) {
         input.bump();
         Some(behind_first(input, first))
@@ -384,17 +386,17 @@ fn longest<'a>(input: &mut StringInput<'a>, first: char) -> Option<Token<'a>>
 }
 
 /// Moves behind the punctuator at the cursor, if there is one, and answers it: what [`scan_punct`] finds, without its extent.
-/// No memory is taken.
-pub fn eat_punctuator<'a>(input: &mut StringInput<'a>, type_mode: bool) -> Option<Token<'a>>
-    ensures token { result ≡ token_in (punctuator_in type_mode (rest input.old)) }
+/// No memory is taken. Our own, for speed.
+pub fn eat_punctuator(input: &mut StringInput, type_mode: bool) -> Option<PunctuatorKind>
+    ensures token { option_map kind_token result ≡ token_in (punctuator_in type_mode (rest input.old)) }
     ensures moved { input.new ≡ passed (length (spelling_in (punctuator_in type_mode (rest input.old)))) input.old }
 {
     match input.cur() {
         None => None,
         Some(first) => match angle(type_mode, first) {
-            Some(token) => {
+            Some(kind) => {
                 input.bump();
-                Some(token)
+                Some(kind)
             }
             None => {
                 if opens_fraction(input) {
@@ -404,6 +406,16 @@ pub fn eat_punctuator<'a>(input: &mut StringInput<'a>, type_mode: bool) -> Optio
                 }
             }
         },
+    }
+}
+
+/// The token of a punctuator, if there is one.
+fn token_of<'a>(kind: Option<PunctuatorKind>) -> Option<Token<'a>>
+    ensures { result ≡ option_map kind_token kind }
+{
+    match kind {
+        Some(kind) => Some(kind.token()),
+        None => None,
     }
 }
 
@@ -422,9 +434,9 @@ pub fn scan_punct<'a>(
     ensures free { IsOk result }
 {
     let start = input.cur_pos();
-    let token = eat_punctuator(input, type_mode);
+    let kind = eat_punctuator(input, type_mode);
     Ok(Found {
-        value: Ok(token),
+        value: Ok(token_of(kind)),
         faults: Vec::new(alloc),
         extent: Span::new(start, input.cur_pos()),
         line_break: false,

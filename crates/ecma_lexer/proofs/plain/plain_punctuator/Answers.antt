@@ -1,4 +1,4 @@
-use Rattle.std.proofs.Common.{ap, sym, ◌∙◌, length}
+use Rattle.std.proofs.Common.{Some, ap, sym, ◌∙◌, length}
 use Rattle.ecma_place.specs.Cursor.{passed, place, rest}
 use Rattle.ecma_place.proofs.MoveLemmas.{place-passed-le, span-passed}
 use Rattle.ecma_scan.specs.Punctuators.{punctuator_in, spelling_in}
@@ -14,10 +14,10 @@ returns-clause-token c =
     let old = c.args.input.now in
     let found = punctuator_in c.type_mode.result (rest old) in
     let extent = c.new.ensures ∙ span-passed old _ (spelling_in found) _ _ (punctuator-front c.type_mode.result (rest old)) c.eat_punctuator.ensures.moved c.cur_pos-start.ensures c.cur_pos.ensures in
-    rw (← c.type_mode.ensures) (punctuator-plain (place old) found (rest old) c.in_ok-token.token c.args.flag c.new.result c.in_ok-token.ensures.token (punctuator-seen (place old) c.type_mode.result (rest old)) extent)
+    rw (← c.type_mode.ensures) (punctuator-plain (place old) found (rest old) c.token.result c.args.flag c.new.result (ap Some c.token.ensures ∙ c.in_ok-kind.ensures.token) (punctuator-seen (place old) c.type_mode.result (rest old)) extent)
 
 pub returns-clause-moved : goal.returns-clause-moved
 returns-clause-moved c =
     let old = c.args.input.now in
     let found = punctuator_in c.type_mode.result (rest old) in
-    rw (← c.type_mode.ensures) (c.eat_punctuator.ensures.moved ∙ ap (λ s. passed (length s) old) (punctuator-spelled found (rest old) c.in_ok-token.token c.in_ok-token.ensures.token))
+    rw (← c.type_mode.ensures) (c.eat_punctuator.ensures.moved ∙ ap (λ s. passed (length s) old) (punctuator-spelled found (rest old) c.token.result (ap Some c.token.ensures ∙ c.in_ok-kind.ensures.token)))

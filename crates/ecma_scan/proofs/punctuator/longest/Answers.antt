@@ -1,16 +1,17 @@
 use Rattle.std.proofs.Common.{◌∷◌, length, sym, ap, ◌∙◌}
 use Rattle.ecma_place.specs.Cursor.{rest, passed}
+use Rattle.ecma_scan.specs.PunctuatorKinds.{kind_token}
 use Rattle.ecma_scan.specs.Punctuators.{punctuators, first_of, token_in, spelling_in}
 use Rattle.ecma_scan.proofs.PunctuatorLemmas.{passed-zero, first_of-lone, first_of-none-at, rest-bumped, count_behind-found, moved-behind}
 use Rattle.ecma_scan.proofs.punctuator.longest.Goals as goal
 
 pub returns-in-Some-clause-token : goal.returns-in-Some-clause-token
 returns-in-Some-clause-token c =
-    sym (ap token_in (first_of-lone (rest c.args.input.now) c.args.first c.in-Some.token c.requires c.in-Some.ensures.some))
+    sym (ap token_in (first_of-lone (rest c.args.input.now) c.args.first (kind_token c.in-Some.kind) c.requires c.in-Some.ensures.some))
 
 pub returns-in-Some-clause-moved : goal.returns-in-Some-clause-moved
 returns-in-Some-clause-moved c =
-    let found = first_of-lone (rest c.args.input.now) c.args.first c.in-Some.token c.requires c.in-Some.ensures.some in
+    let found = first_of-lone (rest c.args.input.now) c.args.first (kind_token c.in-Some.kind) c.requires c.in-Some.ensures.some in
     c.bump.ensures ∙ ap (λ p. passed (length (spelling_in p)) c.args.input.now) (sym found)
 
 pub returns-then-begins_more-clause-token : goal.returns-then-begins_more-clause-token
@@ -22,7 +23,7 @@ pub returns-then-begins_more-clause-moved : goal.returns-then-begins_more-clause
 returns-then-begins_more-clause-moved c =
     let text = rest-bumped c.args.input.now _ c.args.first c.requires c.bump-then-begins_more.ensures in
     moved-behind _ _ _ _ _ c.bump-then-begins_more.ensures c.behind_first.ensures.moved
-    (count_behind-found (c.args.first ∷ rest c.bump-then-begins_more.new.self) c.behind_first.result c.behind_first.ensures.token ∙ ap (λ t. length (spelling_in (first_of punctuators t))) text)
+    (count_behind-found (c.args.first ∷ rest c.bump-then-begins_more.new.self) (kind_token c.behind_first.result) c.behind_first.ensures.token ∙ ap (λ t. length (spelling_in (first_of punctuators t))) text)
 
 pub returns-else-begins_more-clause-token : goal.returns-else-begins_more-clause-token
 returns-else-begins_more-clause-token c =

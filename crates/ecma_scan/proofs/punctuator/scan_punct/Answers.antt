@@ -6,13 +6,13 @@ use Rattle.ecma_scan.proofs.PunctuatorLemmas.{punctuator-front, punctuator-seen}
 use Rattle.ecma_scan.proofs.punctuator.scan_punct.Goals as goal
 
 pub new-requires-2 : goal.new-requires-2
-new-requires-2 c = rw (c.cur_pos-start.ensures, c.cur_pos.ensures) (place-passed-le _ _ _ c.eat_punctuator-token.ensures.moved)
+new-requires-2 c = rw (c.cur_pos-start.ensures, c.cur_pos.ensures) (place-passed-le _ _ _ c.eat_punctuator-kind.ensures.moved)
 
 pub returns-clause-moved : goal.returns-clause-moved
-returns-clause-moved c = c.eat_punctuator-token.ensures.moved
+returns-clause-moved c = c.eat_punctuator-kind.ensures.moved
 
 pub returns-clause-found : goal.returns-clause-found
 returns-clause-found c =
     let text = rest c.args.input.now in
-    let extent = c.new-2.ensures ∙ span-passed c.args.input.now _ (spelling_in (punctuator_in c.args.type_mode text)) _ _ (punctuator-front c.args.type_mode text) c.eat_punctuator-token.ensures.moved c.cur_pos-start.ensures c.cur_pos.ensures in
-    rw (c.eat_punctuator-token.ensures.token, c.new.ensures.items, extent, punctuator-seen (place c.args.input.now) c.args.type_mode text) refl
+    let extent = c.new-2.ensures ∙ span-passed c.args.input.now _ (spelling_in (punctuator_in c.args.type_mode text)) _ _ (punctuator-front c.args.type_mode text) c.eat_punctuator-kind.ensures.moved c.cur_pos-start.ensures c.cur_pos.ensures in
+    rw (c.token_of.ensures ∙ c.eat_punctuator-kind.ensures.token, c.new.ensures.items, extent, punctuator-seen (place c.args.input.now) c.args.type_mode text) refl
