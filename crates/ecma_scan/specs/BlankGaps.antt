@@ -1,5 +1,5 @@
 -- Gaps of white space alone, of which nothing is to be told but the flag.
-use Rattle.std.specs.Prelude.{◌≡◌, ℕ, Bool, true, false, ◌||◌, ◌&&◌, ◌==◌, [], length, slice_get, Some}
+use Rattle.std.specs.Prelude.{◌≡◌, ℕ, Bool, false, ◌||◌, ◌&&◌, ◌==◌, [], length, slice_get, Some}
 use Rattle.ecma_place.specs.Cursor.{Cursor, rest, place, passed}
 use Rattle.ecma_scan.specs.Comments.{comments_at}
 use Rattle.ecma_scan.specs.Gaps.{gap_faults_at, gap_spelling, has_line_break}

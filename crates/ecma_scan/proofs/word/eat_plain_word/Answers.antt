@@ -1,8 +1,4 @@
-use Rattle.std.proofs.Common.{◌≡◌, Bool, false, ap, sym, ◌∙◌, length}
-use Rattle.std.specs.Prelude.{encode_utf8_all}
-use Rattle.std.specs.List.{take_while}
-use Rattle.ecma_place.specs.Character.{is_ident_part}
-use Rattle.ecma_place.specs.Cursor.{rest}
+use Rattle.std.proofs.Common.{sym, ◌∙◌}
 use Rattle.ecma_scan.proofs.WordReading.{plain-row}
 use Rattle.ecma_scan.proofs.word.eat_plain_word.Goals as goal
 
