@@ -5,12 +5,12 @@ use Rattle.ecma_place.specs.Text.{Text, byte_len}
 use Rattle.ecma_place.specs.Cursor.{Cursor, rest, place, passed}
 use Rattle.ecma_place.specs.declared.place.Span.{Span}
 use Rattle.ecma_syntax.specs.declared.word.Word.{Word}
-use Rattle.ecma_token.specs.View.{SpannedView, TokenView, plain_token, token_view}
+use Rattle.ecma_token.specs.View.{SpannedView, plain_token, token_view}
 use Rattle.ecma_token.specs.declared.token.Token as token
 use Rattle.ecma_scan.specs.BlankGaps.{IsBlankGap}
 use Rattle.ecma_scan.specs.Comments.{comments_at}
-use Rattle.ecma_scan.specs.Found.{FoundView, Scanned, found_at, scanned, span_of, token_behind}
-use Rattle.ecma_scan.specs.Gaps.{gap_faults_at, has_line_break}
+use Rattle.ecma_scan.specs.Found.{found_at, scanned, span_of, token_behind}
+use Rattle.ecma_scan.specs.Gaps.{gap_faults_at}
 use Rattle.ecma_scan.specs.Punctuators.{Punctuator, spelling_in, token_in}
 use Rattle.ecma_scan.specs.Readings.{GapView}
 use Rattle.ecma_scan.specs.Shebangs.{opens_shebang}

@@ -1,5 +1,5 @@
 -- Runs of blanks as white space, by bytes.
-use Rattle.std.proofs.Common.{◌≡◌, ℕ, ◌+◌, ◌≤◌, ◌<◌, cond, Bool, true, false, List, [], ◌∷◌, ◌++◌, drop, refl, sym, ap, ◌∙◌, arith, zero, suc, encode_utf8, encode_utf8_all, drop-drop, ◌||◌, ◌==◌, eqb-true, ◌&&◌, nat_le}
+use Rattle.std.proofs.Common.{◌≡◌, ℕ, ◌+◌, ◌≤◌, ◌<◌, cond, Bool, true, false, List, [], ◌∷◌, ◌++◌, drop, refl, sym, ap, ◌∙◌, arith, zero, suc, encode_utf8, encode_utf8_all, drop-drop, ◌||◌, ◌==◌, eqb-true, ◌&&◌, nat_le, IsTrue, ◌↔◌, Some, slice_get}
 use Rattle.std.specs.List.{prefix_len, take_while, list_any}
 use Rattle.std.proofs.lemmas.List.Sums.{take_while-cons}
 use Rattle.std.proofs.lemmas.Bool.Decides.{nat_tests}
@@ -12,6 +12,7 @@ use Rattle.std.proofs.lemmas.Str.{char_from_byte}
 use Rattle.ecma_place.proofs.RunLemmas.{IsOnRun, FlagsRun, passed-later-by}
 use Rattle.ecma_scan.specs.Fronts.{next_passes}
 use Rattle.ecma_scan.proofs.LineLemmas.{Stops, within-run}
+use Rattle.ecma_scan.proofs.PunctuatorLemmas.{rest-bumped}
 
 -- bytes of a class of ASCII begin no other character
 pub ascii-stops : (p : ℕ → Bool) → ((b : ℕ) → p b ≡ true → b < 128) → Stops p p
@@ -119,3 +120,20 @@ unfolding is_white_space is_line_terminator
 white-byte b l = grind (arith, nat_tests)
 
 pub ruleset white_bytes = (white-byte)
+
+-- white space of which a space was passed first, if it begins with one
+pub spaced : (old mid now : Cursor) (ate result : Bool) → (IsTrue ate ↔ (slice_get (rest old) 0 ≡ Some 32)) → mid ≡ cond ate (passed 1 old) old
+    → result ≡ list_any is_line_terminator (take_while is_white_space (rest mid)) → now ≡ passed (prefix_len is_white_space (rest mid)) mid
+    → (result ≡ list_any is_line_terminator (take_while is_white_space (rest old))) × (now ≡ passed (prefix_len is_white_space (rest old)) old)
+spaced old mid now false result is moved said passes = (
+  said ∙ ap (λ (c : Cursor). list_any is_line_terminator (take_while is_white_space (rest c))) moved,
+  passes ∙ ap (λ (c : Cursor). passed (prefix_len is_white_space (rest c)) c) moved,
+)
+spaced old mid now true result is moved said passes =
+    let text : 32 ∷ rest mid ≡ rest old = rest-bumped old mid 32 (is.0 refl) moved in
+    let one = jumps 1 (32 ∷ rest mid) (omega arith) in
+    let k = prefix_len is_white_space (rest mid) in
+    let more : prefix_len is_white_space (rest old) ≡ 1 + k = ap (prefix_len is_white_space) (sym text) ∙ one.longer in (
+      said ∙ sym one.same ∙ ap (λ t. list_any is_line_terminator (take_while is_white_space t)) text,
+      passes ∙ ap (λ (c : Cursor). passed k c) moved ∙ sym (passed-later-by old (prefix_len is_white_space (rest old)) k 1 more),
+    )

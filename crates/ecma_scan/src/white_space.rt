@@ -57,10 +57,9 @@ fn pass_white_space(input: &mut StringInput) -> bool
     terminator
 }
 
-/// Moves behind the white space at the cursor, and says whether it held a line terminator (ECMA-262 WhiteSpace and
-/// LineTerminator, 12.2 and 12.3).
+/// Moves behind the white space at the cursor, if any stands there, and says whether it held a line terminator.
 #[inline(always)]
-pub(crate) fn skip_white_space(input: &mut StringInput) -> bool
+fn pass_if_any(input: &mut StringInput) -> bool
     ensures terminator { result ≡ list_any is_line_terminator (take_while is_white_space (rest input.old)) }
     ensures moved { input.new ≡ passed (prefix_len is_white_space (rest input.old)) input.old }
 {
@@ -68,4 +67,16 @@ pub(crate) fn skip_white_space(input: &mut StringInput) -> bool
         return false;
     }
     pass_white_space(input)
+}
+
+/// Moves behind the white space at the cursor, and says whether it held a line terminator (ECMA-262 WhiteSpace and
+/// LineTerminator, 12.2 and 12.3).
+#[inline(always)]
+pub(crate) fn skip_white_space(input: &mut StringInput) -> bool
+    ensures terminator { result ≡ list_any is_line_terminator (take_while is_white_space (rest input.old)) }
+    ensures moved { input.new ≡ passed (prefix_len is_white_space (rest input.old)) input.old }
+{
+    // Most white space before a token is one space.
+    let _ = input.eat_byte(b' ');
+    pass_if_any(input)
 }

@@ -1,4 +1,4 @@
-use Rattle.std.proofs.Common.{Some, ap, sym, ◌∙◌, length}
+use Rattle.std.proofs.Common.{Some, ap, ◌∙◌, length}
 use Rattle.ecma_place.specs.Cursor.{passed, place, rest}
 use Rattle.ecma_place.proofs.MoveLemmas.{place-passed-le, span-passed}
 use Rattle.ecma_scan.specs.Punctuators.{punctuator_in, spelling_in}

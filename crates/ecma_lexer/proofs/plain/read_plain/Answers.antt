@@ -1,4 +1,4 @@
-use Rattle.std.proofs.Common.{◌≡◌, Bool, refl, sym, subst, ◌∙◌}
+use Rattle.std.proofs.Common.{Bool, refl, sym, subst, ◌∙◌}
 use Rattle.ecma_token.specs.View.{spanned_view}
 use Rattle.ecma_scan.specs.BlankGaps.{IsBlankGap}
 use Rattle.ecma_lexer.specs.Mode.{gap_mode}
