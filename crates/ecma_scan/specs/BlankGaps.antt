@@ -1,5 +1,5 @@
 -- Gaps of white space alone, of which nothing is to be told but the flag.
-use Rattle.std.specs.Prelude.{◌≡◌, ℕ, Bool, false, ◌||◌, ◌&&◌, ◌==◌, [], length, slice_get, Some}
+use Rattle.std.specs.Prelude.{◌≡◌, ℕ, Bool, false, ◌||◌, ◌&&◌, ◌==◌, [], length, slice_get, Option, Some, None, if◌then◌else◌}
 use Rattle.ecma_place.specs.Cursor.{Cursor, rest, place, passed}
 use Rattle.ecma_scan.specs.Comments.{comments_at}
 use Rattle.ecma_scan.specs.Gaps.{gap_faults_at, gap_spelling, has_line_break}
@@ -23,3 +23,8 @@ IsTold first now behind gap =
 -- an element other than white space may begin with the character, where the flag stands or not
 abbrev pub may_begin : Bool → ℕ → Bool
 may_begin flag c = (c == 47 || c == 60) || (flag && ((c == 45 || c == 61) || c == 62))
+
+-- what is told where this character stands behind the white space, if one stands there that is ASCII
+abbrev pub told_of : Bool → Option ℕ → Option BlankGap
+told_of flag None = None
+told_of flag (Some c) = if may_begin flag c then None else Some (record { line_break = flag; next = c })

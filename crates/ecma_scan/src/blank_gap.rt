@@ -1,6 +1,9 @@
 //! Gaps of white space alone, before most tokens: our own, for speed.
-ghost use Rattle.std.specs.Prelude.{◌≡◌, IfSome};
-ghost use Rattle.ecma_scan.specs.BlankGaps.{IsTold, may_begin};
+ghost use Rattle.std.specs.Prelude.{◌≡◌, ◌||◌, slice_get, IfSome};
+ghost use Rattle.std.specs.List.{list_any, prefix_len, take_while};
+ghost use Rattle.ecma_place.specs.Character.{is_line_terminator, is_white_space};
+ghost use Rattle.ecma_place.specs.Cursor.{ascii_of, passed, rest};
+ghost use Rattle.ecma_scan.specs.BlankGaps.{IsTold, may_begin, told_of};
 
 use crate::white_space::skip_white_space;
 use ecma_place::StringInput;
@@ -33,7 +36,10 @@ fn may_begin(flag: bool, b: u8) -> bool
 /// answer, and the cursor stands behind the white space. No memory is taken.
 #[inline(always)]
 pub fn scan_blank_gap(input: &mut StringInput, first: bool) -> Option<BlankGap>
-    ensures { IfSome result (IsTold first input.old input.new) }
+    ensures gap { IfSome result (IsTold first input.old input.new) }
+    ensures answer { result ≡ told_of (first || list_any is_line_terminator (take_while is_white_space (rest input.old)))
+        (ascii_of (slice_get (rest input.new) 0)) }
+    ensures moved { input.new ≡ passed (prefix_len is_white_space (rest input.old)) input.old }
 {
     let terminator = skip_white_space(input);
     let line_break = first | terminator;

@@ -1,5 +1,6 @@
 //! Words.
-ghost use Rattle.std.specs.Prelude.{◌≡◌, true, length, string_bytes, Result, Ok, Err, IfOk, IfSome, IsOk, OnOk};
+ghost use Rattle.std.specs.Prelude.{◌≡◌, true, length, string_bytes, Result, Ok, Err, IfNone, IfOk, IfSome, IsOk, OnOk};
+ghost use Rattle.ecma_scan.specs.EscapeAnswers.{opens_escape};
 ghost use Rattle.std.specs.List.{prefix_len, take_while};
 ghost use Rattle.ecma_place.specs.Atom.{AtomView, owned_atom};
 ghost use Rattle.ecma_place.specs.Character.{is_ident_part};
@@ -93,6 +94,7 @@ fn word_of_name<'a>(
 pub fn eat_plain_word<'a>(input: &mut StringInput<'a>) -> Option<Word<'a>>
     ensures word { IfSome result (λ w. (context : Context) →
         grammar.word context (rest input.old) ≡ scanned w (take_while is_ident_part (rest input.old))) }
+    ensures none { IfNone result (opens_escape (rest input.new) ≡ true) }
     ensures moved { input.new ≡ passed (prefix_len is_ident_part (rest input.old)) input.old }
 {
     let text = part_characters(input);

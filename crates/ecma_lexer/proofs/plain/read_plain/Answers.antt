@@ -10,7 +10,7 @@ returns c =
     let mode = c.args.mode.now in
     let input = c.args.input.now in
     let here = c.scan_blank_gap.new.input in
-    let told = c.in_ok-line_break.ensures in
+    let told = c.in_ok-line_break.ensures.gap in
     let parts = passes-parts mode.top (sym c.passes_space.ensures ∙ c.if-not-passes_space.false) in
     let gap = told.1 (gap_mode mode) refl parts.0 parts.1 in
     three-some c.plain_token.result _ _ _ _ c.plain_token.ensures.token c.plain_token.ensures.flag c.plain_token.ensures.flag
