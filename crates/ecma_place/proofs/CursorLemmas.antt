@@ -1,5 +1,5 @@
 -- What the bytes and the offset of an input say of its characters.
-use Rattle.std.proofs.Common.{◌≡◌, ℕ, ◌+◌, ◌-◌, ◌<◌, ◌≤◌, List, [], ◌∷◌, ◌++◌, length, take, drop, refl, sym, ap, subst, ◌∙◌, arith, length-append, take-append-drop, take_at, drop_at, length-take-le, length-drop, drop-cons, nat_le, nat_eq, append_assoc, encode_utf8, encode_utf8_all, Option, None, Some, IfSome, slice_get, get_or, ◌↔◌, slice_range, zero, suc, Bool, true, false, ◌&&◌, take-add, IsUtf8, IsCharBoundary, ⊎_elim, if◌then◌else◌, nat_lt}
+use Rattle.std.proofs.Common.{◌≡◌, ℕ, ◌+◌, ◌-◌, ◌<◌, ◌≤◌, List, [], ◌∷◌, ◌++◌, length, take, drop, refl, sym, ap, subst, ◌∙◌, arith, length-append, take-append-drop, take_at, drop_at, length-take-le, length-drop, drop-cons, nat_le, nat_eq, append_assoc, encode_utf8, encode_utf8_all, Option, None, Some, is_some, IfSome, slice_get, get_or, ◌↔◌, slice_range, zero, suc, Bool, true, false, ◌&&◌, take-add, IsUtf8, IsCharBoundary, ⊎_elim, if◌then◌else◌, nat_lt}
 use Rattle.std.specs.Str.{chars, all_scalars}
 use Rattle.std.specs.Char.{len_utf8, IsScalar}
 use Rattle.std.proofs.lemmas.Str.{chars-nil, chars-append, encode_ascii, char_from_byte, cons_from_encodes, IsCharBoundary-from_take, encodes-append, scalars-chars, IsCharBoundary-at_seam, IsUtf8-between, length-encode, len_utf8_bounds, encodes-chars, chars_past_char, IsUtf8-take, IsUtf8-drop, IsUtf8-from_is_utf8, drop_past_char, IsCharBoundary-past_char}
@@ -275,3 +275,21 @@ scalar-get (c ∷ cs) h = (and-parts-right _ _ h).0
 
 pub scalar-first : (t : List ℕ) (x : Option ℕ) → IsUtf8 t → x ≡ slice_get (chars t) 0 → IfSome x IsScalar
 scalar-first t x u e = rw e (scalar-get (chars t) (scalars-chars t u))
+
+ascii-first : (cs : List ℕ) → is_some (ascii_of (slice_get cs 0)) ≡ true → (k : ℕ) × (r : List ℕ) × (cs ≡ k ∷ r) × (k < 128)
+ascii-first [] h = cc
+ascii-first (k ∷ r) h =
+    ⊎_elim
+    (λ (high : (nat_le 128 k ≡ true) × (128 ≤ k)). let past : nat_lt k 128 ≡ false = grind (arith, nat_tests, high.1) in cc)
+    (λ (low : (nat_le 128 k ≡ false) × (k < 128)). (k, r, refl, low.1))
+    (leb_tells 128 k)
+
+-- a step over an ASCII character is one byte
+pub ascii-past : (t : List ℕ) (s o : ℕ) (c : Cursor) → cursor_at t s o ≡ c → IsInput t s o → is_some (ascii_of (slice_get (rest c) 0)) ≡ true → IsInput t s (o + 1) × (cursor_at t s (o + 1) ≡ passed 1 c)
+ascii-past t s o c e i h =
+    let first = ascii-first (rest c) h in
+    let k = first.0 in
+    let r = first.1 in
+    let bytes : drop o t ≡ encode_utf8 k ++ encode_utf8_all r = bytes-seen t s o c e i ∙ ap encode_utf8_all first.2 in
+    let one : len_utf8 k ≡ 1 = sym (length-encode k) ∙ ap length (encode_ascii k first.3) in
+    (rw one at (IsInput-past t (encode_utf8_all r) s o k i bytes), rw one at (cursor-past t (encode_utf8_all r) s o k c e i bytes))

@@ -1,5 +1,5 @@
 -- Where a cursor stands behind what it passed.
-use Rattle.std.proofs.Common.{◌≡◌, ℕ, ◌+◌, ◌≤◌, ◌++◌, length, take, drop, refl, sym, ap, ◌∙◌, arith, length-append, encode_utf8_all, take-add}
+use Rattle.std.proofs.Common.{◌≡◌, ℕ, ◌+◌, ◌≤◌, ◌++◌, length, take, ap, ◌∙◌, arith, length-append, encode_utf8_all, take-add}
 use Rattle.std.proofs.lemmas.Str.{encodes-append}
 use Rattle.ecma_place.specs.Text.{Text, byte_len}
 use Rattle.ecma_place.specs.Cursor.{Cursor, rest, place, passed}
