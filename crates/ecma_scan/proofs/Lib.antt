@@ -29,6 +29,7 @@ mod GapRows
 pub mod LineLemmas
 pub mod MarkerLemmas
 pub mod NameReading
+pub mod NameRuns
 pub mod NextElements
 pub mod NumberDigits
 pub mod NumberForms

@@ -1,12 +1,12 @@
 -- What a text begins with, character by character, and the punctuator that it begins with.
-use Rattle.std.proofs.Common.{◌≡◌, ℕ, ◌+◌, ◌-◌, ◌<◌, Bool, true, false, cond, ◌||◌, ◌==◌, List, [], ◌∷◌, length, take, drop, drop-drop, Option, Some, None, slice_get, refl, sym, ap, subst, ◌∙◌, arith, nat_lt, eqb-true}
+use Rattle.std.proofs.Common.{◌≡◌, ℕ, ◌+◌, ◌-◌, ◌<◌, Bool, true, false, cond, ◌||◌, ◌==◌, List, [], ◌∷◌, length, take, drop, drop-drop, Option, Some, None, slice_get, refl, sym, ap, subst, ◌∙◌, arith, nat_lt, eqb-true, true≢false}
 use Rattle.std.specs.Prelude.{option_map}
 use Rattle.std.specs.Prelude.{⊤}
 use Rattle.std.specs.List.{list_all}
 use Rattle.std.proofs.lemmas.Bool.{and_parts}
 use Rattle.std.proofs.lemmas.Bool.Decides.{nat_tests}
 use Rattle.ecma_place.specs.Text.{Text}
-use Rattle.ecma_place.specs.Cursor.{Cursor, rest, passed, moved_to}
+use Rattle.ecma_place.specs.Cursor.{Cursor, ascii_of, rest, passed, moved_to}
 use Rattle.ecma_place.proofs.RunLemmas.{passed-later-by}
 use Rattle.ecma_token.specs.View.{token_view, plain_token}
 use Rattle.ecma_syntax.specs.declared.operator.BinOpToken.TheVariants as bin
@@ -26,6 +26,15 @@ pub ruleset eating = (passed-zero)
 pub first_of-lone : (text : Text) (c : ℕ) (t : Token) → slice_get text 0 ≡ Some c → ((behind : Text) → first_of punctuators (c ∷ behind) ≡ Some (spells (c ∷ []) t))
     → first_of punctuators text ≡ Some (spells (c ∷ []) t)
 first_of-lone text c t e found = ap (first_of punctuators) (first-cons text c e) ∙ found (drop 1 text)
+
+-- an ASCII character is one that is there
+pub ascii-is : (first : Option ℕ) (c : ℕ) → Some c ≡ ascii_of first → first ≡ Some c
+ascii-is None c e = cc
+ascii-is (Some a) c e = go (nat_lt a 128) e
+  where
+    go : (b : Bool) → Some c ≡ cond b (Some a) None → Some a ≡ Some c
+    go true e = sym e
+    go false e = cc
 
 -- the text behind the first character, as a cursor has it
 pub rest-bumped : (old now : Cursor) (c : ℕ) → slice_get (rest old) 0 ≡ Some c → now ≡ passed 1 old → c ∷ rest now ≡ rest old
@@ -90,6 +99,30 @@ first_of-none c cs alone more =
     let m11 = neither (c == 38) _ m10.1 in
     let m12 = neither (c == 94) _ m11.1 in
     simp (a0.0, a1.0, a2.0, a3.0, a4.0, a5.0, a6.0, a7.0, a8.0, a9.0, a10.0, a11.0, a11.1, m0.0, m1.0, m2.0, m3.0, m4.0, m5.0, m6.0, m7.0, m8.0, m9.0, m10.0, m11.0, m12.0, m12.1)
+
+no-other : (c k : ℕ) → is_lone k ≡ false → is_lone c ≡ true → (c == k) ≡ false
+no-other c k never alone = go (c == k) refl
+  where
+    go : (b : Bool) → (c == k) ≡ b → (c == k) ≡ false
+    go true e = let same = eqb-true c k e in absurd (true≢false (sym alone ∙ ap is_lone same ∙ never))
+    go false e = e
+
+-- a character that stands alone whatever follows it does so among types too, and begins no number
+pub lone-everywhere : (type_mode : Bool) (text : Text) (c : ℕ) → slice_get text 0 ≡ Some c → is_lone c ≡ true → punctuator_in type_mode text ≡ first_of punctuators text
+unfolding is_lone
+lone-everywhere type_mode [] c e alone = cc
+lone-everywhere type_mode (a ∷ cs) c e lone =
+    let same : a ≡ c = cc in
+    let alone : is_lone a ≡ true = ap is_lone same ∙ lone in
+    let less = no-other a 60 refl alone in
+    let greater = no-other a 62 refl alone in
+    let point = no-other a 46 refl alone in
+    let opens : opens_fraction (a ∷ cs) ≡ false = rw point refl in
+    ap (λ token. alone_or token a cs) (go type_mode less greater) ∙ ap (λ b. longest b (a ∷ cs)) opens
+  where
+    go : (m : Bool) → (a == 60) ≡ false → (a == 62) ≡ false → angle_in m a ≡ None
+    go true less greater = rw (less, greater) refl
+    go false less greater = refl
 
 -- Tokens of punctuators hold no error
 

@@ -22,6 +22,10 @@ pub struct BlankGap {
 fn may_begin(flag: bool, b: u8) -> bool
     ensures { result ≡ may_begin flag b }
 {
+    // No letter does.
+    if b > b'>' {
+        return false;
+    }
     match b {
         b'/' | b'<' => true,
         b'-' | b'=' | b'>' => flag,

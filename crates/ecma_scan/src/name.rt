@@ -31,6 +31,20 @@ pub(crate) fn begins_name(input: &StringInput) -> bool
     }
 }
 
+/// Moves behind the part characters at the cursor, one by one.
+#[tactic(auto, using(ecma_place::proofs::RunLemmas::runs))]
+#[inline(never)]
+fn pass_part_characters(input: &mut StringInput)
+    ensures { input.new ≡ passed (prefix_len is_ident_part (rest input.old)) input.old }
+{
+    'chars: while let Some(c) = input.cur() {
+        if !c.is_ident_part() {
+            break;
+        }
+        input.bump();
+    }
+}
+
 /// Moves behind the part characters at the cursor, and answers their text.
 #[tactic(auto, using(ecma_place::proofs::ClassLemmas::word_runs))]
 #[inline(always)]
@@ -40,11 +54,9 @@ pub(crate) fn part_characters<'a>(input: &mut StringInput<'a>) -> &'a str
 {
     let start = input.cur_pos();
     input.bump_bytes(input.run_bytes(ByteClass::Part) as usize);
-    'chars: while let Some(c) = input.cur() {
-        if !c.is_ident_part() {
-            break;
-        }
-        input.bump();
+    // Where an ASCII character ends the run, it is no part character.
+    if input.cur_as_ascii().is_none() {
+        pass_part_characters(input);
     }
     input.slice(start, input.cur_pos())
 }

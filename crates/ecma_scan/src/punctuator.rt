@@ -1,5 +1,5 @@
 //! Punctuators.
-ghost use Rattle.std.specs.Prelude.{◌≡◌, ◌∷◌, [], true, false, Some, length, option_map, slice_get, IfSome, IfNone, if◌then◌else◌, IfOk, IsOk, OnOk};
+ghost use Rattle.std.specs.Prelude.{◌≡◌, ◌∷◌, ◌<◌, [], Bool, true, false, Some, length, option_map, slice_get, IfSome, IfNone, if◌then◌else◌, IfOk, IsOk, OnOk};
 ghost use Rattle.ecma_place.specs.Cursor.{rest, place, passed};
 ghost use Rattle.ecma_scan.specs.Found.{found_view, found_at, token_behind};
 ghost use Rattle.ecma_scan.specs.Punctuators as grammar;
@@ -19,25 +19,22 @@ use std::alloc::{AllocError, Global};
 
 /// Moves behind the character, where the rest begins with it.
 #[tactic(auto, using(crate::proofs::PunctuatorLemmas::eating))]
-fn eat_one(input: &mut StringInput, first: char) -> bool
+fn eat_one(input: &mut StringInput, first: u8) -> bool
+    requires { first < 128 }
     ensures value { result ≡ begins_with (first ∷ []) (rest input.old) }
     ensures moved { input.new ≡ (if result then passed 1 input.old else input.old) }
 {
-    if input.cur() == Some(first) {
-        input.bump();
-        true
-    } else {
-        false
-    }
+    input.eat_byte(first)
 }
 
 /// Moves behind the two characters, where the rest begins with them.
 #[tactic(auto, using(crate::proofs::PunctuatorLemmas::eating))]
-pub(crate) fn eat_two(input: &mut StringInput, first: char, second: char) -> bool
+pub(crate) fn eat_two(input: &mut StringInput, first: u8, second: u8) -> bool
+    requires { first < 128 }
     ensures value { result ≡ begins_with (first ∷ second ∷ []) (rest input.old) }
     ensures moved { input.new ≡ (if result then passed 2 input.old else input.old) }
 {
-    if input.cur() == Some(first) && input.peek() == Some(second) {
+    if input.is_byte(first) && input.peek() == Some(second as char) {
         input.bump();
         input.bump();
         true
@@ -48,13 +45,14 @@ pub(crate) fn eat_two(input: &mut StringInput, first: char, second: char) -> boo
 
 /// Moves behind the three characters, where the rest begins with them.
 #[tactic(auto, using(crate::proofs::PunctuatorLemmas::eating))]
-fn eat_three(input: &mut StringInput, first: char, second: char, third: char) -> bool
+fn eat_three(input: &mut StringInput, first: u8, second: u8, third: u8) -> bool
+    requires { first < 128 }
     ensures value { result ≡ begins_with (first ∷ second ∷ third ∷ []) (rest input.old) }
     ensures moved { input.new ≡ (if result then passed 3 input.old else input.old) }
 {
-    if input.cur() == Some(first)
-        && input.peek() == Some(second)
-        && input.peek_ahead() == Some(third)
+    if input.is_byte(first)
+        && input.peek() == Some(second as char)
+        && input.peek_ahead() == Some(third as char)
     {
         input.bump();
         input.bump();
@@ -71,7 +69,7 @@ fn behind_dot(input: &mut StringInput) -> PunctuatorKind
     ensures token { token_in (first_of punctuators (46 ∷ rest input.old)) ≡ Some (kind_token result) }
     ensures moved { input.new ≡ passed (count_behind (first_of punctuators (46 ∷ rest input.old))) input.old }
 {
-    if eat_two(input, '.', '.') {
+    if eat_two(input, b'.', b'.') {
         PunctuatorKind::DotDotDot
     } else {
         PunctuatorKind::Dot
@@ -84,11 +82,11 @@ fn behind_equals(input: &mut StringInput) -> PunctuatorKind
     ensures token { token_in (first_of punctuators (61 ∷ rest input.old)) ≡ Some (kind_token result) }
     ensures moved { input.new ≡ passed (count_behind (first_of punctuators (61 ∷ rest input.old))) input.old }
 {
-    if eat_two(input, '=', '=') {
+    if eat_two(input, b'=', b'=') {
         PunctuatorKind::BinOp(BinOpToken::EqEqEq)
-    } else if eat_one(input, '=') {
+    } else if eat_one(input, b'=') {
         PunctuatorKind::BinOp(BinOpToken::EqEq)
-    } else if eat_one(input, '>') {
+    } else if eat_one(input, b'>') {
         PunctuatorKind::Arrow
     } else {
         PunctuatorKind::AssignOp(AssignOp::Assign)
@@ -101,9 +99,9 @@ fn behind_bang(input: &mut StringInput) -> PunctuatorKind
     ensures token { token_in (first_of punctuators (33 ∷ rest input.old)) ≡ Some (kind_token result) }
     ensures moved { input.new ≡ passed (count_behind (first_of punctuators (33 ∷ rest input.old))) input.old }
 {
-    if eat_two(input, '=', '=') {
+    if eat_two(input, b'=', b'=') {
         PunctuatorKind::BinOp(BinOpToken::NotEqEq)
-    } else if eat_one(input, '=') {
+    } else if eat_one(input, b'=') {
         PunctuatorKind::BinOp(BinOpToken::NotEq)
     } else {
         PunctuatorKind::Bang
@@ -116,11 +114,11 @@ fn behind_less(input: &mut StringInput) -> PunctuatorKind
     ensures token { token_in (first_of punctuators (60 ∷ rest input.old)) ≡ Some (kind_token result) }
     ensures moved { input.new ≡ passed (count_behind (first_of punctuators (60 ∷ rest input.old))) input.old }
 {
-    if eat_two(input, '<', '=') {
+    if eat_two(input, b'<', b'=') {
         PunctuatorKind::AssignOp(AssignOp::LShiftAssign)
-    } else if eat_one(input, '<') {
+    } else if eat_one(input, b'<') {
         PunctuatorKind::BinOp(BinOpToken::LShift)
-    } else if eat_one(input, '=') {
+    } else if eat_one(input, b'=') {
         PunctuatorKind::BinOp(BinOpToken::LtEq)
     } else {
         PunctuatorKind::BinOp(BinOpToken::Lt)
@@ -133,15 +131,15 @@ fn behind_greater(input: &mut StringInput) -> PunctuatorKind
     ensures token { token_in (first_of punctuators (62 ∷ rest input.old)) ≡ Some (kind_token result) }
     ensures moved { input.new ≡ passed (count_behind (first_of punctuators (62 ∷ rest input.old))) input.old }
 {
-    if eat_three(input, '>', '>', '=') {
+    if eat_three(input, b'>', b'>', b'=') {
         PunctuatorKind::AssignOp(AssignOp::ZeroFillRShiftAssign)
-    } else if eat_two(input, '>', '>') {
+    } else if eat_two(input, b'>', b'>') {
         PunctuatorKind::BinOp(BinOpToken::ZeroFillRShift)
-    } else if eat_two(input, '>', '=') {
+    } else if eat_two(input, b'>', b'=') {
         PunctuatorKind::AssignOp(AssignOp::RShiftAssign)
-    } else if eat_one(input, '>') {
+    } else if eat_one(input, b'>') {
         PunctuatorKind::BinOp(BinOpToken::RShift)
-    } else if eat_one(input, '=') {
+    } else if eat_one(input, b'=') {
         PunctuatorKind::BinOp(BinOpToken::GtEq)
     } else {
         PunctuatorKind::BinOp(BinOpToken::Gt)
@@ -154,9 +152,9 @@ fn behind_plus(input: &mut StringInput) -> PunctuatorKind
     ensures token { token_in (first_of punctuators (43 ∷ rest input.old)) ≡ Some (kind_token result) }
     ensures moved { input.new ≡ passed (count_behind (first_of punctuators (43 ∷ rest input.old))) input.old }
 {
-    if eat_one(input, '+') {
+    if eat_one(input, b'+') {
         PunctuatorKind::PlusPlus
-    } else if eat_one(input, '=') {
+    } else if eat_one(input, b'=') {
         PunctuatorKind::AssignOp(AssignOp::AddAssign)
     } else {
         PunctuatorKind::BinOp(BinOpToken::Add)
@@ -169,9 +167,9 @@ fn behind_minus(input: &mut StringInput) -> PunctuatorKind
     ensures token { token_in (first_of punctuators (45 ∷ rest input.old)) ≡ Some (kind_token result) }
     ensures moved { input.new ≡ passed (count_behind (first_of punctuators (45 ∷ rest input.old))) input.old }
 {
-    if eat_one(input, '-') {
+    if eat_one(input, b'-') {
         PunctuatorKind::MinusMinus
-    } else if eat_one(input, '=') {
+    } else if eat_one(input, b'=') {
         PunctuatorKind::AssignOp(AssignOp::SubAssign)
     } else {
         PunctuatorKind::BinOp(BinOpToken::Sub)
@@ -184,11 +182,11 @@ fn behind_star(input: &mut StringInput) -> PunctuatorKind
     ensures token { token_in (first_of punctuators (42 ∷ rest input.old)) ≡ Some (kind_token result) }
     ensures moved { input.new ≡ passed (count_behind (first_of punctuators (42 ∷ rest input.old))) input.old }
 {
-    if eat_two(input, '*', '=') {
+    if eat_two(input, b'*', b'=') {
         PunctuatorKind::AssignOp(AssignOp::ExpAssign)
-    } else if eat_one(input, '*') {
+    } else if eat_one(input, b'*') {
         PunctuatorKind::BinOp(BinOpToken::Exp)
-    } else if eat_one(input, '=') {
+    } else if eat_one(input, b'=') {
         PunctuatorKind::AssignOp(AssignOp::MulAssign)
     } else {
         PunctuatorKind::BinOp(BinOpToken::Mul)
@@ -201,7 +199,7 @@ fn behind_slash(input: &mut StringInput) -> PunctuatorKind
     ensures token { token_in (first_of punctuators (47 ∷ rest input.old)) ≡ Some (kind_token result) }
     ensures moved { input.new ≡ passed (count_behind (first_of punctuators (47 ∷ rest input.old))) input.old }
 {
-    if eat_one(input, '=') {
+    if eat_one(input, b'=') {
         PunctuatorKind::AssignOp(AssignOp::DivAssign)
     } else {
         PunctuatorKind::BinOp(BinOpToken::Div)
@@ -214,7 +212,7 @@ fn behind_percent(input: &mut StringInput) -> PunctuatorKind
     ensures token { token_in (first_of punctuators (37 ∷ rest input.old)) ≡ Some (kind_token result) }
     ensures moved { input.new ≡ passed (count_behind (first_of punctuators (37 ∷ rest input.old))) input.old }
 {
-    if eat_one(input, '=') {
+    if eat_one(input, b'=') {
         PunctuatorKind::AssignOp(AssignOp::ModAssign)
     } else {
         PunctuatorKind::BinOp(BinOpToken::Mod)
@@ -227,11 +225,11 @@ fn behind_bar(input: &mut StringInput) -> PunctuatorKind
     ensures token { token_in (first_of punctuators (124 ∷ rest input.old)) ≡ Some (kind_token result) }
     ensures moved { input.new ≡ passed (count_behind (first_of punctuators (124 ∷ rest input.old))) input.old }
 {
-    if eat_two(input, '|', '=') {
+    if eat_two(input, b'|', b'=') {
         PunctuatorKind::AssignOp(AssignOp::OrAssign)
-    } else if eat_one(input, '|') {
+    } else if eat_one(input, b'|') {
         PunctuatorKind::BinOp(BinOpToken::LogicalOr)
-    } else if eat_one(input, '=') {
+    } else if eat_one(input, b'=') {
         PunctuatorKind::AssignOp(AssignOp::BitOrAssign)
     } else {
         PunctuatorKind::BinOp(BinOpToken::BitOr)
@@ -244,11 +242,11 @@ fn behind_ampersand(input: &mut StringInput) -> PunctuatorKind
     ensures token { token_in (first_of punctuators (38 ∷ rest input.old)) ≡ Some (kind_token result) }
     ensures moved { input.new ≡ passed (count_behind (first_of punctuators (38 ∷ rest input.old))) input.old }
 {
-    if eat_two(input, '&', '=') {
+    if eat_two(input, b'&', b'=') {
         PunctuatorKind::AssignOp(AssignOp::AndAssign)
-    } else if eat_one(input, '&') {
+    } else if eat_one(input, b'&') {
         PunctuatorKind::BinOp(BinOpToken::LogicalAnd)
-    } else if eat_one(input, '=') {
+    } else if eat_one(input, b'=') {
         PunctuatorKind::AssignOp(AssignOp::BitAndAssign)
     } else {
         PunctuatorKind::BinOp(BinOpToken::BitAnd)
@@ -261,7 +259,7 @@ fn behind_caret(input: &mut StringInput) -> PunctuatorKind
     ensures token { token_in (first_of punctuators (94 ∷ rest input.old)) ≡ Some (kind_token result) }
     ensures moved { input.new ≡ passed (count_behind (first_of punctuators (94 ∷ rest input.old))) input.old }
 {
-    if eat_one(input, '=') {
+    if eat_one(input, b'=') {
         PunctuatorKind::AssignOp(AssignOp::BitXorAssign)
     } else {
         PunctuatorKind::BinOp(BinOpToken::BitXor)
@@ -274,9 +272,9 @@ fn behind_question(input: &mut StringInput) -> PunctuatorKind
     ensures token { token_in (first_of punctuators (63 ∷ rest input.old)) ≡ Some (kind_token result) }
     ensures moved { input.new ≡ passed (count_behind (first_of punctuators (63 ∷ rest input.old))) input.old }
 {
-    if eat_two(input, '?', '=') {
+    if eat_two(input, b'?', b'=') {
         PunctuatorKind::AssignOp(AssignOp::NullishAssign)
-    } else if eat_one(input, '?') {
+    } else if eat_one(input, b'?') {
         PunctuatorKind::BinOp(BinOpToken::NullishCoalescing)
     } else {
         PunctuatorKind::QuestionMark
@@ -284,10 +282,12 @@ fn behind_question(input: &mut StringInput) -> PunctuatorKind
 }
 
 /// The punctuator that is this character, whatever follows it.
+#[inline(always)]
 #[tactic(auto, unfolding(crate::specs::Punctuators::is_lone))]
 fn lone(first: char) -> Option<PunctuatorKind>
     ensures some { IfSome result (λ kind. (text : Text) →
         first_of punctuators (first ∷ text) ≡ Some (spells (first ∷ []) (kind_token kind))) }
+    ensures lone { IfSome result (λ _. is_lone first ≡ true) }
     ensures none { IfNone result (is_lone first ≡ false) }
 {
     match first {
@@ -385,9 +385,22 @@ fn longest(input: &mut StringInput, first: char) -> Option<PunctuatorKind>
     }
 }
 
-/// Moves behind the punctuator at the cursor, if there is one, and answers it: what [`scan_punct`] finds, without its extent.
-/// No memory is taken. Our own, for speed.
-pub fn eat_punctuator(input: &mut StringInput, type_mode: bool) -> Option<PunctuatorKind>
+/// Moves behind the punctuator at the cursor, where that is one character whatever follows it.
+#[inline(always)]
+fn eat_lone(input: &mut StringInput) -> Option<PunctuatorKind>
+    ensures token { IfSome result (λ kind. (type_mode : Bool) → Some (kind_token kind) ≡ token_in (punctuator_in type_mode (rest input.old))) }
+    ensures moved { IfSome result (λ _. (type_mode : Bool) → input.new ≡ passed (length (spelling_in (punctuator_in type_mode (rest input.old)))) input.old) }
+    ensures same { IfNone result (input.new ≡ input.old) }
+{
+    let first = input.cur_as_ascii()?;
+    let kind = lone(first as char)?;
+    input.bump();
+    Some(kind)
+}
+
+/// Moves behind the punctuator at the cursor, if there is one, and answers it.
+#[inline(never)]
+fn eat_any(input: &mut StringInput, type_mode: bool) -> Option<PunctuatorKind>
     ensures token { option_map kind_token result ≡ token_in (punctuator_in type_mode (rest input.old)) }
     ensures moved { input.new ≡ passed (length (spelling_in (punctuator_in type_mode (rest input.old)))) input.old }
 {
@@ -406,6 +419,20 @@ pub fn eat_punctuator(input: &mut StringInput, type_mode: bool) -> Option<Punctu
                 }
             }
         },
+    }
+}
+
+/// Moves behind the punctuator at the cursor, if there is one, and answers it: what [`scan_punct`] finds, without its extent.
+/// No memory is taken. Our own, for speed.
+#[inline(always)]
+pub fn eat_punctuator(input: &mut StringInput, type_mode: bool) -> Option<PunctuatorKind>
+    ensures token { option_map kind_token result ≡ token_in (punctuator_in type_mode (rest input.old)) }
+    ensures moved { input.new ≡ passed (length (spelling_in (punctuator_in type_mode (rest input.old)))) input.old }
+{
+    // Most punctuators are one character.
+    match eat_lone(input) {
+        Some(kind) => Some(kind),
+        None => eat_any(input, type_mode),
     }
 }
 

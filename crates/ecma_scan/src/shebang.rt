@@ -20,7 +20,7 @@ fn shebang<'a>(input: &mut StringInput<'a>) -> Option<Token<'a>>
         then Some (Token.Shebang (borrowed_atom (encode_utf8_all (line (drop 2 (rest input.old)))))) else None) }
     ensures moved { input.new ≡ passed (length (grammar.shebang (rest input.old)).spelling) input.old }
 {
-    if eat_two(input, '#', '!') {
+    if eat_two(input, b'#', b'!') {
         Some(Token::Shebang(Atom::from(read_line(input))))
     } else {
         None
