@@ -1,5 +1,5 @@
 -- What a text opens tells which reader's condition holds.
-use Rattle.std.proofs.Common.{◌≡◌, Bool, true, false, ◌&&◌, refl}
+use Rattle.std.proofs.Common.{◌≡◌, ℕ, Bool, true, false, ◌&&◌, ◌==◌, [], ◌∷◌, Some, slice_get, refl}
 use Rattle.ecma_place.specs.Text.{Text}
 use Rattle.ecma_scan.specs.Bars.{opens_bars}
 use Rattle.ecma_scan.specs.Numbers.{opens_number}
@@ -68,3 +68,10 @@ opens-reader mode flag text opens.String e other = string-opens mode flag text e
 opens-reader mode flag text opens.Word e other = word-opens mode flag text e
 opens-reader mode flag text opens.Bars e other = other refl
 opens-reader mode flag text opens.Other e other = tt
+
+-- they begin with a bar
+pub no-bars : (text : Text) (c : ℕ) → slice_get text 0 ≡ Some c → (c == 124) ≡ false → opens_bars text ≡ false
+no-bars [] c e other = refl
+no-bars (a ∷ cs) c e other =
+    let same : a ≡ c = cc in
+    rw (same, other) refl

@@ -97,6 +97,7 @@ impl Seen {
     }
 
     /// Takes in a token that is given.
+    #[inline(always)]
     pub(crate) fn give(&mut self, token: Kept)
         ensures { self.new ≡ seen_behind self.old token.flag (Some token) }
     {

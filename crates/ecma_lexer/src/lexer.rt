@@ -16,7 +16,7 @@ use crate::error_list::ErrorList;
 use crate::errors::ErrorLists;
 use crate::kept::Kept;
 use crate::mode::Mode;
-use crate::plain::read_plain;
+use crate::plain::{Sought, read_plain};
 use crate::read::{Besides, Reading, read_again, read_from};
 use crate::settings::Settings;
 use crate::state::State;
@@ -264,10 +264,10 @@ impl<'a> Lexer<'a> {
             .take_read(&self.context, gap_faults, token_faults)
     }
 
-    /// What the next read finds, where that is a token behind white space alone of which nothing is to be told besides. The
-    /// cursor then stands behind it; else nothing is changed.
+    /// What the next read finds, where that is a token behind white space alone that is looked for and of which nothing is to
+    /// be told besides. The cursor then stands behind it; else nothing is changed.
     #[inline(always)]
-    fn find_plain(&mut self) -> Option<TokenAndSpan<'a>>
+    fn find_plain(&mut self, sought: Sought) -> Option<TokenAndSpan<'a>>
         ensures found { IfSome result (λ t. Some (spanned_view t) ≡ (reading_of (lexer_state self.old)).found) }
         ensures bare { IfSome result (λ t. IsBare t.had_line_break (reading_of (lexer_state self.old))) }
         ensures moved { IfSome result (λ t. self.new ≡ record self.old { input = (reading_of (lexer_state self.old)).input }) }
@@ -277,15 +277,21 @@ impl<'a> Lexer<'a> {
         if self.reread.is_some() {
             return None;
         }
-        let Ok(mut input) = self.input.clone() else {
+        let Ok(before) = self.input.clone() else {
             return None;
         };
-        let token = read_plain(self.alloc, &mut input, &self.mode())?;
-        self.input = input;
-        Some(token)
+        let mode = self.mode();
+        match read_plain(self.alloc, &mut self.input, &mode, sought) {
+            Some(token) => Some(token),
+            None => {
+                self.input = before;
+                None
+            }
+        }
     }
 
     /// Takes in a token that was found with nothing besides: the contexts change.
+    #[inline(always)]
     fn take_plain(&mut self, token: Kept) -> Result<(), AllocError>
         requires { IsAnswer self.old (Some token) }
         ensures after { OnOk result (lexer_state self.new ≡ state_taking (lexer_state self.old) (Some token) (bare token.flag)) }
@@ -310,15 +316,33 @@ impl<'a> Lexer<'a> {
         Ok(found)
     }
 
+    /// Reads what is neither a word nor a punctuator behind white space alone.
+    #[inline(never)]
+    fn next_other(&mut self) -> Result<Option<TokenAndSpan<'a>>, AllocError>
+        ensures answer { IfOk result (λ answer. option_map spanned_view answer ≡ (reading_of (lexer_state self.old)).found) }
+        ensures after { OnOk result (lexer_state self.new ≡ state_behind (lexer_state self.old) (reading_of (lexer_state self.old))) }
+        ensures kept { OnErr result (self.new.errors ≡ self.old.errors) }
+        ensures free { length self.old.state.contexts < 128 → is_free_read (lexer_state self.old) ≡ true → IsOk result }
+    {
+        let Some(token) = self.find_plain(Sought::StringOrNumber) else {
+            return self.next_with_besides();
+        };
+        self.take_plain(Kept::of(&token))?;
+        Ok(Some(token))
+    }
+
     /// Reads without asking whether memory was refused before.
+    #[inline(always)]
     fn next_answer(&mut self) -> Result<Option<TokenAndSpan<'a>>, AllocError>
         ensures answer { IfOk result (λ answer. option_map spanned_view answer ≡ (reading_of (lexer_state self.old)).found) }
         ensures after { OnOk result (lexer_state self.new ≡ state_behind (lexer_state self.old) (reading_of (lexer_state self.old))) }
         ensures kept { OnErr result (self.new.errors ≡ self.old.errors) }
         ensures free { length self.old.state.contexts < 128 → is_free_read (lexer_state self.old) ≡ true → IsOk result }
     {
-        let Some(token) = self.find_plain() else {
-            return self.next_with_besides();
+        let Some(token) = self.find_plain(Sought::WordOrPunctuator) else {
+            // Its own room, so that what most reads answer needs none.
+            let answer = self.next_other();
+            return answer;
         };
         self.take_plain(Kept::of(&token))?;
         Ok(Some(token))
@@ -351,11 +375,13 @@ impl<'a> Lexer<'a> {
         if self.refused {
             return Err(AllocError);
         }
-        let answer = self.next_answer();
-        if answer.is_err() {
-            self.refused = true;
+        match self.next_answer() {
+            Ok(answer) => Ok(answer),
+            Err(error) => {
+                self.refused = true;
+                Err(error)
+            }
         }
-        answer
     }
 }
 

@@ -46,6 +46,7 @@ impl Mode {
     }
 
     /// Whether a template's text is read.
+    #[inline(always)]
     pub fn is_in_template(&self) -> bool
         ensures { result ≡ is_template self.now.top }
     {
@@ -64,7 +65,7 @@ impl Mode {
     pub fn passes_space(&self) -> bool
         ensures { result ≡ passes_space self.now.top }
     {
-        !matches!(self.top, Some(TokenContext::Tpl | TokenContext::JSXExpr))
+        !self.is_in_template() && !matches!(self.top, Some(TokenContext::JSXExpr))
     }
 
     /// What the gap before the next token is read by.

@@ -1,5 +1,6 @@
 //! What the first characters of a text open.
-ghost use Rattle.std.specs.Prelude.{◌≡◌, Some, slice_get};
+ghost use Rattle.std.specs.Prelude.{◌≡◌, ◌||◌, ◌==◌, Some, slice_get};
+ghost use Rattle.ecma_place.specs.Character.{is_ident_start};
 ghost use Rattle.ecma_place.specs.Cursor.{rest};
 ghost use Rattle.ecma_scan.specs.Bars.{opens_bars};
 ghost use Rattle.ecma_scan.specs.Numbers.{opens_number};
@@ -31,11 +32,26 @@ fn stands_number(input: &StringInput, c: char) -> bool
     c.is_digit(10) || c == '.' && matches!(input.peek(), Some('0'..='9'))
 }
 
-/// Whether a marker of bars stands at the cursor.
-fn stands_bars(input: &StringInput) -> bool
+/// Whether a word begins with the character. Only past ASCII it is looked up.
+#[tactic(auto, unfolding(ecma_place::specs::Character::is_ident_start))]
+#[inline(always)]
+fn begins_word(c: char) -> bool
+    ensures { result ≡ (is_ident_start c || c == 92) }
+{
+    if c.is_ascii() {
+        c.is_ascii_alphabetic() || matches!(c, '$' | '_' | '\\')
+    } else {
+        c.is_ident_start()
+    }
+}
+
+/// Whether a marker of bars stands at the cursor, which stands before the character `c`.
+#[inline(always)]
+fn stands_bars(input: &StringInput, c: char) -> bool
+    requires { slice_get (rest input.now) 0 ≡ Some c }
     ensures { result ≡ opens_bars (rest input.now) }
 {
-    input.is_str("||||||| ")
+    c == '|' && input.is_str("||||||| ")
 }
 
 impl Opening {
@@ -51,9 +67,9 @@ impl Opening {
             Opening::Number
         } else if c == '"' || c == '\'' {
             Opening::String
-        } else if c.is_ident_start() || c == '\\' {
+        } else if begins_word(c) {
             Opening::Word
-        } else if flag && stands_bars(input) {
+        } else if flag && stands_bars(input, c) {
             Opening::Bars
         } else {
             Opening::Other

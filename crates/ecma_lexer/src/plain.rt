@@ -45,7 +45,7 @@ fn plain_found<'a>(found: Found<'a, Token<'a>>, flag: bool) -> Option<TokenAndSp
 }
 
 /// The word at the cursor, behind a gap whose flag stands or not, where it is written with no escape.
-#[inline(never)]
+#[inline(always)]
 fn plain_word<'a>(input: &mut StringInput<'a>, flag: bool) -> Option<TokenAndSpan<'a>>
     ensures token { IfSome result (λ t. (mode : Mode) → found_at token_behind (place input.old) (grammar.word_token mode (rest input.old)) ≡ plain_view (spanned_view t)) }
     ensures flag { IfSome result (λ t. t.had_line_break ≡ flag) }
@@ -118,11 +118,10 @@ fn plain_string<'a>(
     }
 }
 
-/// The token at the cursor, which stands before the character `c`, behind a gap whose flag stands or not, where nothing is
-/// to be told besides.
+/// The word or punctuator at the cursor, which stands before the character `c`, behind a gap whose flag stands or not, where
+/// nothing is to be told besides.
 #[inline(always)]
-fn plain_token<'a>(
-    alloc: Global,
+fn plain_word_or_punctuator<'a>(
     input: &mut StringInput<'a>,
     mode: &Mode,
     flag: bool,
@@ -135,19 +134,67 @@ fn plain_token<'a>(
     match Opening::at(input, mode, flag, c) {
         Opening::Word => plain_word(input, flag),
         Opening::Other => plain_punctuator(input, mode, flag),
-        Opening::String => plain_string(alloc, input, flag),
-        Opening::Number => plain_number(alloc, input, mode, flag),
-        Opening::Template | Opening::Bars => None,
+        _ => None,
     }
 }
 
-/// Reads from the cursor on, where that finds a token behind white space alone of which nothing is to be told besides; what
-/// else is found, [`read_from`](crate::read::read_from) finds. The cursor is then anywhere.
+/// The string or number at the cursor, which stands before the character `c`, behind a gap whose flag stands or not, where
+/// nothing is to be told besides.
+#[inline(always)]
+fn plain_string_or_number<'a>(
+    alloc: Global,
+    input: &mut StringInput<'a>,
+    mode: &Mode,
+    flag: bool,
+    c: char,
+) -> Option<TokenAndSpan<'a>>
+    requires { slice_get (rest input.old) 0 ≡ Some c }
+    ensures token { IfSome result (λ t. IsPlain mode.now (spanned_view t) input.old input.new) }
+    ensures flag { IfSome result (λ t. t.had_line_break ≡ flag) }
+{
+    match Opening::at(input, mode, flag, c) {
+        Opening::String => plain_string(alloc, input, flag),
+        Opening::Number => plain_number(alloc, input, mode, flag),
+        _ => None,
+    }
+}
+
+/// Which tokens are looked for. Each kind has room of its own, which is cleared only where that kind is looked for.
+#[derive(Debug, Clone, Copy, PartialEq, Eq)]
+pub enum Sought {
+    WordOrPunctuator,
+    StringOrNumber,
+}
+
+/// The token at the cursor, which stands before the character `c`, behind a gap whose flag stands or not, where it is looked
+/// for and nothing is to be told besides.
+#[inline(always)]
+fn plain_token<'a>(
+    alloc: Global,
+    input: &mut StringInput<'a>,
+    mode: &Mode,
+    flag: bool,
+    c: char,
+    sought: Sought,
+) -> Option<TokenAndSpan<'a>>
+    requires { slice_get (rest input.old) 0 ≡ Some c }
+    ensures token { IfSome result (λ t. IsPlain mode.now (spanned_view t) input.old input.new) }
+    ensures flag { IfSome result (λ t. t.had_line_break ≡ flag) }
+{
+    match sought {
+        Sought::WordOrPunctuator => plain_word_or_punctuator(input, mode, flag, c),
+        Sought::StringOrNumber => plain_string_or_number(alloc, input, mode, flag, c),
+    }
+}
+
+/// Reads from the cursor on, where that finds a token behind white space alone that is looked for and of which nothing is to
+/// be told besides; what else is found, [`read_from`](crate::read::read_from) finds. The cursor is then anywhere.
 #[inline(always)]
 pub fn read_plain<'a>(
     alloc: Global,
     input: &mut StringInput<'a>,
     mode: &Mode,
+    sought: Sought,
 ) -> Option<TokenAndSpan<'a>>
     ensures { IfSome result (λ t. reading mode.now input.old ≡ plain_reading (spanned_view t) input.new) }
 {
@@ -155,5 +202,5 @@ pub fn read_plain<'a>(
         return None;
     }
     let BlankGap { line_break, next } = scan_blank_gap(input, mode.first)?;
-    plain_token(alloc, input, mode, line_break, next as char)
+    plain_token(alloc, input, mode, line_break, next as char, sought)
 }

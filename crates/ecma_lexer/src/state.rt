@@ -11,7 +11,7 @@ use crate::token_context::TokenContext;
 use crate::token_contexts::TokenContexts;
 use crate::transition::Before;
 use ecma_place::BytePos;
-use ecma_syntax::Syntax;
+use ecma_syntax::{Syntax, WordKind};
 use ecma_token::TokenKind;
 use std::alloc::{AllocError, Global};
 use std::marker::Model;
@@ -94,6 +94,7 @@ impl State {
     }
 
     /// What the next token changes the contexts by.
+    #[inline(always)]
     fn before(&self) -> Before
         ensures { result ≡ grammar.before_of self.now }
     {
@@ -132,8 +133,9 @@ impl State {
         matches!(kind, TokenKind::BackQuote) && !self.contexts.is_in_template()
     }
 
-    /// Changes the contexts as a token does, and remembers where it opens a template.
-    fn turn(&mut self, token: Kept) -> Result<(), AllocError>
+    /// Changes the contexts as a token of any kind does, and remembers where it opens a template.
+    #[inline(never)]
+    fn turn_any(&mut self, token: Kept) -> Result<(), AllocError>
         ensures contexts { OnOk result (self.new.contexts ≡ (grammar.turned_by self.old (Some token)).contexts) }
         ensures allowed { OnOk result (self.new.expr_allowed ≡ (grammar.turned_by self.old (Some token)).expr_allowed) }
         ensures opened { OnOk result (self.new.opened ≡ grammar.opened_by self.old (Some token)) }
@@ -151,12 +153,44 @@ impl State {
         Ok(())
     }
 
+    /// Changes the contexts as a token does, and remembers where it opens a template.
+    #[tactic(auto, unfolding(crate::specs::Transition::transition))]
+    #[inline(always)]
+    fn turn(&mut self, token: Kept) -> Result<(), AllocError>
+        ensures contexts { OnOk result (self.new.contexts ≡ (grammar.turned_by self.old (Some token)).contexts) }
+        ensures allowed { OnOk result (self.new.expr_allowed ≡ (grammar.turned_by self.old (Some token)).expr_allowed) }
+        ensures opened { OnOk result (self.new.opened ≡ grammar.opened_by self.old (Some token)) }
+        ensures same { (self.new.start ≡ self.old.start) × (self.new.seen ≡ self.old.seen) }
+        ensures err { OnErr result (self.new ≡ self.old) }
+        ensures free { length self.old.contexts < 128 → IsOk result }
+    {
+        match token.kind {
+            TokenKind::Word(WordKind::Ident(name)) => {
+                self.expr_allowed = self.before().allows_behind_name(name, &self.contexts);
+            }
+            TokenKind::Word(_)
+            | TokenKind::RParen
+            | TokenKind::RBrace
+            | TokenKind::Colon
+            | TokenKind::LBrace
+            | TokenKind::DollarLBrace
+            | TokenKind::LParen
+            | TokenKind::PlusPlus
+            | TokenKind::MinusMinus
+            | TokenKind::BackQuote => self.turn_any(token)?,
+            _ => {
+                self.expr_allowed = token.kind.before_expr();
+            }
+        }
+        Ok(())
+    }
+
     /// Takes in a token that is answered. Fewer than 128 contexts take no memory.
     ///
     /// # Errors
     ///
     /// `AllocError` where there is no memory for one more context. Nothing is then changed.
-    #[inline(never)]
+    #[inline(always)]
     pub(crate) fn take_token(&mut self, token: Kept) -> Result<(), AllocError>
         ensures ok { OnOk result (self.new ≡ grammar.behind_answer self.old token.flag (Some token)) }
         ensures err { OnErr result (self.new ≡ self.old) }

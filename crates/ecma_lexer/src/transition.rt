@@ -180,7 +180,8 @@ impl Before {
     }
 
     /// Whether an expression may begin behind a name.
-    fn allows_behind_name(self, name: IdentKind, contexts: &TokenContexts) -> bool
+    #[inline(always)]
+    pub(crate) fn allows_behind_name(self, name: IdentKind, contexts: &TokenContexts) -> bool
         ensures { result ≡ grammar.name_allows name self contexts.now }
     {
         let is_in_for = matches!(

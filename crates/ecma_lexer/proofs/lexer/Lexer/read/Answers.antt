@@ -1,8 +1,10 @@
+use Rattle.std.proofs.Common.{Ok}
+use Rattle.std.specs.Prelude.{⊤}
 use Rattle.ecma_token.specs.View.{spanned_view}
 use Rattle.ecma_lexer.specs.Session.{lexer_state}
 use Rattle.ecma_lexer.proofs.EndingLemmas.{end_again}
 use Rattle.ecma_lexer.proofs.lexer.Lexer.read.Goals as goal
 
-pub returns-else-is_err-clause-again : goal.returns-else-is_err-clause-again
-returns-else-is_err-clause-again c = λ plain.
-    end_again spanned_view c.next_answer-answer.result (lexer_state c.args.self.now) (lexer_state c.next_answer-answer.new.self) plain c.next_answer-answer.ensures.answer c.next_answer-answer.ensures.after
+pub returns-in-Ok-clause-again : goal.returns-in-Ok-clause-again
+returns-in-Ok-clause-again c = λ plain.
+    end_again {E = ⊤} spanned_view (Ok c.in-Ok.answer) (lexer_state c.args.self.now) (lexer_state c.next_answer.new.self) plain c.in-Ok.ensures.answer c.in-Ok.ensures.after

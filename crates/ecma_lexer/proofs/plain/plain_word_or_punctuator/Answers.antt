@@ -1,15 +1,7 @@
 use Rattle.std.proofs.Common.{sym, ◌∙◌}
-use Rattle.ecma_place.specs.Cursor.{rest}
 use Rattle.ecma_token.specs.View.{spanned_view}
-use Rattle.ecma_lexer.proofs.OpeningLemmas.{number-opens, string-opens}
 use Rattle.ecma_lexer.proofs.PlainLemmas.{plain-of-word, three-some}
-use Rattle.ecma_lexer.proofs.plain.plain_token.Goals as goal
-
-pub plain_string-requires : goal.plain_string-requires
-plain_string-requires c = string-opens c.args.mode.now c.args.flag (rest c.args.input.now) (sym c.in-String.is ∙ c.at.ensures)
-
-pub plain_number-requires : goal.plain_number-requires
-plain_number-requires c = number-opens c.args.mode.now c.args.flag (rest c.args.input.now) (sym c.in-Number.is ∙ c.at.ensures)
+use Rattle.ecma_lexer.proofs.plain.plain_word_or_punctuator.Goals as goal
 
 pub returns-in-Word-clause-token : goal.returns-in-Word-clause-token
 returns-in-Word-clause-token c =
