@@ -340,7 +340,7 @@ impl<'a> Lexer<'a> {
         ensures free { length self.old.state.contexts < 128 → is_free_read (lexer_state self.old) ≡ true → IsOk result }
     {
         let Some(token) = self.find_plain(Sought::WordOrPunctuator) else {
-            // Its own room, so that what most reads answer needs none.
+            // A local of its own: read into the result, it would keep what most reads answer in memory too.
             let answer = self.next_other();
             return answer;
         };

@@ -1,6 +1,7 @@
 -- Where an ASCII character stands behind a run of part bytes, the run of part characters ends there.
-use Rattle.std.proofs.Common.{◌≡◌, ℕ, Bool, true, false, [], ◌∷◌, drop, drop-drop, refl, sym, ap, ◌∙◌, one-add, ◌⊎◌, inl, inr, ⊎_elim, Some, is_some, slice_get, nat_lt, not, if◌then◌else◌, encode_utf8_all}
+use Rattle.std.proofs.Common.{◌≡◌, ℕ, Bool, true, false, [], ◌∷◌, drop, drop-drop, refl, sym, ap, ◌∙◌, one-add, ⊎_elim, Some, is_some, slice_get, nat_lt, not, if◌then◌else◌, encode_utf8_all}
 use Rattle.std.specs.List.{prefix_len}
+use Rattle.std.proofs.lemmas.Bool.{cases_Bool}
 use Rattle.ecma_place.specs.Text.{Text, count_within}
 use Rattle.ecma_place.specs.Character.{is_ident_part}
 use Rattle.ecma_place.specs.Cursor.{Cursor, ascii_of, rest, passed}
@@ -21,10 +22,6 @@ is-ascii c h = go (nat_lt c 128) refl
     go true e = e
     go false e = let none = rw e at h in cc
 
-cases : (b : Bool) → (b ≡ true) ⊎ (b ≡ false)
-cases true = inl refl
-cases false = inr refl
-
 stop : (cs : Text) → is_some (ascii_of (slice_get (drop (prefix_len (is_in_class Part) cs) cs) 0)) ≡ true
     → prefix_len is_ident_part (drop (prefix_len (is_in_class Part) cs) cs) ≡ 0
 stop [] h = cc
@@ -32,7 +29,7 @@ stop (c ∷ cs) h =
     ⊎_elim
     (λ (t : is_in_class Part c ≡ true). rw (t, one-add (prefix_len (is_in_class Part) cs)) (stop cs (rw (t, one-add (prefix_len (is_in_class Part) cs)) at h)))
     (λ (f : is_in_class Part c ≡ false). let first = is-ascii c (rw f at h) in rw (f, ascii-part c first, f) refl)
-    (cases (is_in_class Part c))
+    (cases_Bool (is_in_class Part c))
 
 part-end : (old now : Cursor) (n : ℕ) → n ≡ prefix_len (is_in_class Part) (encode_utf8_all (rest old)) → now ≡ passed (count_within n (rest old)) old
     → is_some (ascii_of (slice_get (rest now) 0)) ≡ true → now ≡ passed (prefix_len is_ident_part (rest old)) old

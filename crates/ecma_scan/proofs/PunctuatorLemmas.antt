@@ -6,7 +6,7 @@ use Rattle.std.specs.List.{list_all}
 use Rattle.std.proofs.lemmas.Bool.{and_parts}
 use Rattle.std.proofs.lemmas.Bool.Decides.{nat_tests}
 use Rattle.ecma_place.specs.Text.{Text}
-use Rattle.ecma_place.specs.Cursor.{Cursor, ascii_of, rest, passed, moved_to}
+use Rattle.ecma_place.specs.Cursor.{Cursor, rest, passed, moved_to}
 use Rattle.ecma_place.proofs.RunLemmas.{passed-later-by}
 use Rattle.ecma_token.specs.View.{token_view, plain_token}
 use Rattle.ecma_syntax.specs.declared.operator.BinOpToken.TheVariants as bin
@@ -26,15 +26,6 @@ pub ruleset eating = (passed-zero)
 pub first_of-lone : (text : Text) (c : ℕ) (t : Token) → slice_get text 0 ≡ Some c → ((behind : Text) → first_of punctuators (c ∷ behind) ≡ Some (spells (c ∷ []) t))
     → first_of punctuators text ≡ Some (spells (c ∷ []) t)
 first_of-lone text c t e found = ap (first_of punctuators) (first-cons text c e) ∙ found (drop 1 text)
-
--- an ASCII character is one that is there
-pub ascii-is : (first : Option ℕ) (c : ℕ) → Some c ≡ ascii_of first → first ≡ Some c
-ascii-is None c e = cc
-ascii-is (Some a) c e = go (nat_lt a 128) e
-  where
-    go : (b : Bool) → Some c ≡ cond b (Some a) None → Some a ≡ Some c
-    go true e = sym e
-    go false e = cc
 
 -- the text behind the first character, as a cursor has it
 pub rest-bumped : (old now : Cursor) (c : ℕ) → slice_get (rest old) 0 ≡ Some c → now ≡ passed 1 old → c ∷ rest now ≡ rest old
