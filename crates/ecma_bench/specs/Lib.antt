@@ -1,4 +1,3 @@
 pub mod Begin
 pub mod Command
 pub mod Reply
-pub mod Sending

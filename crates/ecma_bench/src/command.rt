@@ -2,7 +2,7 @@
 ghost use Rattle.std.specs.Prelude.{◌≡◌, map, string_bytes};
 ghost use Rattle.ecma_bench.specs.Command.{count_asked};
 
-use crate::fault::Fault;
+use ecma_stdio::Fault;
 use std::alloc::Global;
 
 /// Whether the words ask for the number of tokens, and then whether of TypeScript.

@@ -4,9 +4,6 @@
 mod begin;
 mod command;
 mod count;
-mod fault;
-mod input;
-mod output;
 mod program;
 mod speed;
 #[cfg(test)]

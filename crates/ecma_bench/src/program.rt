@@ -1,40 +1,17 @@
 //! Words and bytes in, a line out.
-ghost use Rattle.std.specs.Prelude.{◌≡◌, ◌^◌, ◌<◌, ℕ, Bool, List, Result, MatchResult, IfOk, Some, Ok, Err, length, map, string_bytes};
+ghost use Rattle.std.specs.Prelude.{◌≡◌, ℕ, Bool, List, Result, MatchResult, Some, Ok, map, string_bytes};
 ghost use Rattle.ecma_bench.specs.Command.{count_asked};
-ghost use Rattle.ecma_bench.specs.Reply.{count_reply, text_reply};
-ghost use Rattle.ecma_bench.specs.Sending.{Answers, IsInput, Halts};
+ghost use Rattle.ecma_bench.specs.Reply.{count_reply};
+ghost use Rattle.ecma_stdio.specs.Sending.{Answers, IsInput, Halts};
 
 use crate::command::{Measure, count_asked};
 use crate::count::count_text;
-use crate::fault::{Fault, Halt};
-use crate::input::read_all;
-use crate::output::{FAILED, send, send_fault};
 use crate::speed::speed_text;
 use crate::timing::measure;
+use ecma_stdio::{FAILED, Fault, Halt, MOST_TURNS, read_all, send, send_fault, text_of};
 use std::alloc::Global;
 use std::io::{Read, Write};
 use std::time::Clock;
-
-/// The longest text whose places all have a number.
-const LONGEST: usize = 4_294_967_295;
-
-/// So many reads are made; a reader that has not ended then is taken for one that never ends.
-const MOST_TURNS: u64 = 4_294_967_296;
-
-/// The text of an input.
-#[tactic(auto, using(crate::proofs::Replies::reply_not_utf8, crate::proofs::Replies::reply_too_long, crate::proofs::Replies::reply_whole))]
-fn text_of(input: &[u8]) -> Result<&str, Fault>
-    ensures judged { MatchResult result (λ text. text_reply input.now ≡ Ok text.now) (λ fault. text_reply input.now ≡ Err fault) }
-    ensures short { IfOk result (λ text. length text.now < 2 ^ 32) }
-{
-    let Ok(text) = str::from_utf8(input) else {
-        return Err(Fault::NotUtf8);
-    };
-    if text.len() > LONGEST {
-        return Err(Fault::TooLong);
-    }
-    Ok(text)
-}
 
 /// What is written of the tokens of the input.
 fn counted<R: Read>(alloc: Global, typescript: bool, reader: &mut R) -> Result<String, Halt>

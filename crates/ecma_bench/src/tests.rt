@@ -116,11 +116,11 @@ fn tells_of_faults(rt: HostRuntime) -> Result<(), Fail> {
     assert_run(&rt, &Still, alloc, &["time", "1"], b"\xff", 3, bad)?;
     let none = b"no slash\n".as_slice();
     let second = ["time", "1", "reread", "2"].as_slice();
-    assert_run(&rt, &Still, alloc, second, b"a b", 4, none)?;
-    assert_run(&rt, &Still, alloc, second, b"a", 4, none)?;
-    assert_run(&rt, &Still, alloc, second, b"", 4, none)?;
+    assert_run(&rt, &Still, alloc, second, b"a b", 2, none)?;
+    assert_run(&rt, &Still, alloc, second, b"a", 2, none)?;
+    assert_run(&rt, &Still, alloc, second, b"", 2, none)?;
     let far = ["time", "1", "reread", "18446744073709551615"].as_slice();
-    assert_run(&rt, &Still, alloc, far, b"/", 4, none)?;
+    assert_run(&rt, &Still, alloc, far, b"/", 2, none)?;
     assert_run(&rt, &Broken, alloc, &["time", "1"], b"a", 1, b"")
 }
 

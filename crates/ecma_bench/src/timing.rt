@@ -4,8 +4,8 @@ ghost use Rattle.std.specs.Prelude.{◌^◌, ◌<◌, length};
 use crate::begin::begin;
 use crate::command::Measure;
 use crate::count::pass_next;
-use crate::fault::{Fault, Halt};
 use ecma_lexer::{Lexer, Tokens};
+use ecma_stdio::{Fault, Halt};
 use std::alloc::Global;
 use std::time::{Clock, Duration, Instant};
 

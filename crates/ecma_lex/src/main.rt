@@ -1,20 +1,7 @@
 //! Reads a text from standard input, and writes what the words of the command line ask for.
 #![tactic(auto)]
 
-mod begin;
-mod command;
-mod comments;
-mod errors;
-mod fault;
-mod input;
-mod lines;
-mod opening;
-mod output;
-mod particulars;
-mod program;
-#[cfg(test)]
-mod tests;
-
+use ecma_lines::run;
 use std::env::Env;
 use std::process::ExitCode;
 use std::{env, io};
@@ -30,7 +17,7 @@ fn words<R: Env + AllocGlobal>(rt: &R) -> io::Result<Vec<String>> {
 
 fn main(rt: HostRuntime) -> ExitCode {
     let status = match words(&rt) {
-        Ok(words) => program::run(
+        Ok(words) => run(
             rt.alloc(),
             words.as_slice(),
             &mut rt.stdin(),

@@ -12,8 +12,6 @@ pub mod comment;
 pub mod input;
 pub mod place;
 pub mod run;
-#[cfg(test)]
-mod tests;
 
 pub use atom::Atom;
 pub use character::CharExt;

@@ -7,12 +7,12 @@ use Rattle.ecma_place.specs.Character.{is_white_space, is_line_terminator}
 use Rattle.ecma_place.specs.declared.comment.Comment.{Comment}
 use Rattle.ecma_place.proofs.MoveLemmas.{byte_len-append}
 use Rattle.ecma_token.specs.declared.kind.TokenKind.{TokenKind}
-use Rattle.ecma_scan.specs.declared.gap.GapMode.{GapMode}
-use Rattle.ecma_scan.specs.Comments.{marker_margin, comment_of, semicolon_follows, paired, behind_element, comments_of, collected, LieBetween, is_blank, SemicolonFollows, CommentsLieInOrder}
-use Rattle.ecma_scan.specs.Fronts.{after, next_is, line, begins_with}
-use Rattle.ecma_scan.specs.Gaps.{Element, Blank, LineComment, BlockComment, OpenComment, HtmlOpening, HtmlClosing, Marker, element_text, comment_body, block_of, is_marker, element, flag_behind, end_of, gap_cutter, gap, gap_spelling, is_inert}
-use Rattle.ecma_scan.specs.Pieces.{spelled}
-use Rattle.ecma_scan.proofs.GapLaws.{no_element}
+use Rattle.ecma_grammar.specs.declared.gap_mode.GapMode.{GapMode}
+use Rattle.ecma_grammar.specs.Comments.{marker_margin, comment_of, semicolon_follows, paired, behind_element, comments_of, collected, LieBetween, is_blank, SemicolonFollows, CommentsLieInOrder}
+use Rattle.ecma_grammar.specs.Fronts.{after, next_is, line, begins_with}
+use Rattle.ecma_grammar.specs.Gaps.{Element, Blank, LineComment, BlockComment, OpenComment, HtmlOpening, HtmlClosing, Marker, element_text, comment_body, block_of, is_marker, element, flag_behind, end_of, gap_cutter, gap, gap_spelling, is_inert}
+use Rattle.ecma_grammar.specs.Pieces.{spelled}
+use Rattle.ecma_grammar.proofs.GapLaws.{no_element}
 
 -- What is read at white space, and what is not
 

@@ -15,13 +15,13 @@ use Rattle.ecma_token.specs.declared.error.SyntaxError.{UnterminatedBlockComment
 use Rattle.ecma_token.specs.declared.kind.TokenKind.{TokenKind}
 use Rattle.ecma_token.specs.declared.kind.TokenKind.TheVariants as kind
 use Rattle.ecma_token.specs.declared.token.Token.{Shebang}
-use Rattle.ecma_scan.specs.declared.found.Blame.TheVariants.{Always}
-use Rattle.ecma_scan.specs.declared.gap.GapMode.{GapMode}
-use Rattle.ecma_scan.specs.Bars.{Bars, bars_error, bars_at}
-use Rattle.ecma_scan.specs.Comments.{comments_at}
-use Rattle.ecma_scan.specs.Found.{Fault, scanned, span_of}
-use Rattle.ecma_scan.specs.Gaps.{fault_between}
-use Rattle.ecma_scan.specs.Shebangs.{shebang}
+use Rattle.ecma_grammar.specs.declared.found.Blame.TheVariants.{Always}
+use Rattle.ecma_grammar.specs.declared.gap_mode.GapMode.{GapMode}
+use Rattle.ecma_grammar.specs.Bars.{Bars, bars_error, bars_at}
+use Rattle.ecma_grammar.specs.Comments.{comments_at}
+use Rattle.ecma_grammar.specs.Found.{Fault, scanned, span_of}
+use Rattle.ecma_grammar.specs.Gaps.{fault_between}
+use Rattle.ecma_grammar.specs.Shebangs.{shebang}
 use lib.Utf8.{encode}
 
 -- the mode behind a token of this kind, or at the start

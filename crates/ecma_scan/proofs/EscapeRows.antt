@@ -7,10 +7,10 @@ use Rattle.ecma_place.specs.Atom.{owned_atom}
 use Rattle.ecma_place.specs.Character.{is_line_terminator}
 use Rattle.ecma_token.specs.View.{KindView, plain, bad_escape}
 use Rattle.ecma_token.specs.declared.error.SyntaxError.{InvalidIdentChar, LegacyOctal, InvalidUnicodeEscape, InvalidStrEscape, ExpectedUnicodeEscape}
-use Rattle.ecma_scan.specs.declared.found.Blame.{Blame}
-use Rattle.ecma_scan.specs.declared.found.Blame.TheVariants.{Always, Strict}
-use Rattle.ecma_scan.specs.Found.{Fault, scanned, span_of}
-use Rattle.ecma_scan.specs.Escapes.{InString, InTemplate, InWord, Escape, Accepted, Refused, escape, scanned_escape}
+use Rattle.ecma_grammar.specs.declared.found.Blame.{Blame}
+use Rattle.ecma_grammar.specs.declared.found.Blame.TheVariants.{Always, Strict}
+use Rattle.ecma_grammar.specs.Found.{Fault, scanned, span_of}
+use Rattle.ecma_grammar.specs.Escapes.{InString, InTemplate, InWord, Escape, Accepted, Refused, escape, scanned_escape}
 
 abbrev refused : Text → KindView → ℕ → ℕ → Escape
 refused spelling kind low high = Refused spelling (record { kind = kind; span = span_of low high })

@@ -5,13 +5,13 @@ use Rattle.std.specs.List.{list_any}
 use Rattle.std.proofs.lemmas.List.{drop-drop}
 use Rattle.ecma_place.specs.Text.{Text}
 use Rattle.ecma_place.specs.Character.{is_line_terminator}
-use Rattle.ecma_scan.specs.Fronts.{after, next_is, behind_line}
-use Rattle.ecma_scan.specs.Pieces.{pieces, spelled, remainder}
-use Rattle.ecma_scan.specs.Expressions.{class_cutter, class_behind, past_piece}
-use Rattle.ecma_scan.proofs.Fronts.{after_more, after_stops, after_ends}
-use Rattle.ecma_scan.proofs.PieceLemmas.{cut, tiling}
-use Rattle.ecma_scan.proofs.ExpressionLaws.{class_is_cutter}
-use Rattle.ecma_scan.proofs.ExpressionForms.{class_forms, class_lines}
+use Rattle.ecma_grammar.specs.Fronts.{after, next_is, behind_line}
+use Rattle.ecma_grammar.specs.Pieces.{pieces, spelled, remainder}
+use Rattle.ecma_grammar.specs.Expressions.{class_cutter, class_behind, past_piece}
+use Rattle.ecma_grammar.proofs.Fronts.{after_more, after_stops, after_ends}
+use Rattle.ecma_grammar.proofs.PieceLemmas.{cut, tiling}
+use Rattle.ecma_literal.proofs.ExpressionLaws.{class_is_cutter}
+use Rattle.ecma_literal.proofs.ExpressionForms.{class_forms, class_lines}
 
 -- a text without line terminators does not change where the line ends
 pub line_end_behind : (a r : Text) → list_any is_line_terminator a ≡ false → behind_line (a ++ r) ≡ behind_line r

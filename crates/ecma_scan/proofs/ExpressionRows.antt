@@ -8,9 +8,9 @@ use Rattle.ecma_place.specs.Character.{is_ident_start, is_ident_part, is_line_te
 use Rattle.ecma_token.specs.View.{TokenView, KindView, plain, bad_escape, plain_token}
 use Rattle.ecma_token.specs.declared.error.SyntaxError.{SyntaxError, ExpectedUnicodeEscape, InvalidIdentChar, UnterminatedRegExp}
 use Rattle.ecma_token.specs.declared.token.Token.{Token, Regex}
-use Rattle.ecma_scan.specs.declared.found.Blame.TheVariants.{Always}
-use Rattle.ecma_scan.specs.Found.{Fault, Scanned, span_of}
-use Rattle.ecma_scan.specs.Expressions.{regular_expression}
+use Rattle.ecma_grammar.specs.declared.found.Blame.TheVariants.{Always}
+use Rattle.ecma_grammar.specs.Found.{Fault, Scanned, span_of}
+use Rattle.ecma_grammar.specs.Expressions.{regular_expression}
 
 -- an expression that is read, its faults, and how it is written
 abbrev read : Token → List Fault → Text → Scanned TokenView

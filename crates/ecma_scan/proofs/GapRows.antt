@@ -4,10 +4,10 @@ use Rattle.std.specs.Prelude.{codes, replicate}
 use Rattle.ecma_place.specs.Text.{Text}
 use Rattle.ecma_place.specs.Character.{is_white_space, is_line_terminator}
 use Rattle.ecma_token.specs.declared.error.SyntaxError.{UnterminatedBlockComment, LegacyCommentInModule, TS1185}
-use Rattle.ecma_scan.specs.declared.found.Blame.TheVariants.{Always, Module}
-use Rattle.ecma_scan.specs.declared.gap.GapMode.{GapMode}
-use Rattle.ecma_scan.specs.Found.{Fault}
-use Rattle.ecma_scan.specs.Gaps.{Element, Blank, LineComment, BlockComment, OpenComment, HtmlOpening, HtmlClosing, Marker, fault_between, gap, gap_faults, has_line_break, behind_gap}
+use Rattle.ecma_grammar.specs.declared.found.Blame.TheVariants.{Always, Module}
+use Rattle.ecma_grammar.specs.declared.gap_mode.GapMode.{GapMode}
+use Rattle.ecma_grammar.specs.Found.{Fault}
+use Rattle.ecma_grammar.specs.Gaps.{Element, Blank, LineComment, BlockComment, OpenComment, HtmlOpening, HtmlClosing, Marker, fault_between, gap, gap_faults, has_line_break, behind_gap}
 use lib.Utf8.{encode}
 
 -- whether no token came before, whether among types, whether space is kept, and whether a template's text is read

@@ -9,9 +9,9 @@ use Rattle.ecma_token.specs.View.{TokenView, plain, plain_token}
 use Rattle.ecma_token.specs.declared.error.SyntaxError.{SyntaxError, ExpectedDigit, IdentAfterNum, LegacyDecimal, LegacyOctal, NumLitTerminatedWithExp, NumericSeparatorIsAllowedOnlyBetweenTwoDigits, TS1085}
 use Rattle.ecma_token.specs.declared.token.Radix.TheVariants.{Binary, Octal, Decimal, Hex}
 use Rattle.ecma_token.specs.declared.token.Token.{Token, Num, BigInt}
-use Rattle.ecma_scan.specs.declared.found.Blame.TheVariants.{Always, Strict}
-use Rattle.ecma_scan.specs.Found.{Fault, Scanned, span_of}
-use Rattle.ecma_scan.specs.Numbers.{number}
+use Rattle.ecma_grammar.specs.declared.found.Blame.TheVariants.{Always, Strict}
+use Rattle.ecma_grammar.specs.Found.{Fault, Scanned, span_of}
+use Rattle.ecma_grammar.specs.Numbers.{number}
 
 -- a number that is read, its faults, and how it is written
 abbrev read : Token → List Fault → Text → Scanned TokenView

@@ -9,13 +9,13 @@ use Rattle.ecma_place.specs.Text.{Text}
 use Rattle.ecma_place.specs.Character.{is_white_space, is_line_terminator}
 use Rattle.ecma_syntax.specs.declared.operator.BinOpToken.TheVariants as bin
 use Rattle.ecma_token.specs.declared.token.Token.{Token, BackQuote, BinOp, RBrace, RParen}
-use Rattle.ecma_scan.specs.declared.gap.GapMode.{GapMode}
-use Rattle.ecma_scan.specs.Fronts.{begins_with}
-use Rattle.ecma_scan.specs.Gaps.{element}
-use Rattle.ecma_scan.specs.Locality.{separates}
-use Rattle.ecma_scan.specs.Numbers.{opens_fraction}
-use Rattle.ecma_scan.specs.Punctuators.{Punctuator, punctuators, first_of, spelling_in, angle_in, longest, alone_or, punctuator_in, found_punctuator, is_longest_first, TableIsLongestFirst, PunctuatorIsLongest, PunctuatorIsMember, NoPunctuatorIsMissed, PunctuatorTiles, PunctuatorIsLocal, IsReadAlways, ClosersAreLocal, spells, angle, PunctuatorBeginsNoGap}
-use Rattle.ecma_scan.proofs.PunctuatorLemmas.{punctuator-front, punctuator-some}
+use Rattle.ecma_grammar.specs.declared.gap_mode.GapMode.{GapMode}
+use Rattle.ecma_grammar.specs.Fronts.{begins_with}
+use Rattle.ecma_grammar.specs.Gaps.{element}
+use Rattle.ecma_grammar.specs.Locality.{separates}
+use Rattle.ecma_grammar.specs.Numbers.{opens_fraction}
+use Rattle.ecma_grammar.specs.Punctuators.{Punctuator, punctuators, first_of, spelling_in, angle_in, longest, alone_or, punctuator_in, found_punctuator, is_longest_first, TableIsLongestFirst, PunctuatorIsLongest, PunctuatorIsMember, NoPunctuatorIsMissed, PunctuatorTiles, PunctuatorIsLocal, IsReadAlways, ClosersAreLocal, spells, angle, PunctuatorBeginsNoGap}
+use Rattle.ecma_grammar.proofs.PunctuatorLemmas.{punctuator-front, punctuator-some}
 
 pub table_is_longest_first : TableIsLongestFirst
 table_is_longest_first = refl

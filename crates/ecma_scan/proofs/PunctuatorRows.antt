@@ -5,8 +5,8 @@ use Rattle.ecma_syntax.specs.declared.operator.BinOpToken.TheVariants as bin
 use Rattle.ecma_syntax.specs.declared.operator.AssignOp.TheVariants as assign
 use Rattle.ecma_token.specs.View.{plain_token}
 use Rattle.ecma_token.specs.declared.token.Token.{AssignOp, BackQuote, Bang, BinOp, Dot, DotDotDot, Hash, QuestionMark, RBrace, Semi}
-use Rattle.ecma_scan.specs.Found.{scanned}
-use Rattle.ecma_scan.specs.Punctuators.{punctuators, punctuator_in, punctuator}
+use Rattle.ecma_grammar.specs.Found.{scanned}
+use Rattle.ecma_grammar.specs.Punctuators.{punctuators, punctuator_in, punctuator}
 
 -- twenty of their own kind, twenty-three binary operators, and sixteen that assign
 all : length punctuators ≡ 59

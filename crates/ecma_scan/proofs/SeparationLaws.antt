@@ -5,19 +5,19 @@ use Rattle.ecma_place.specs.Text.{Text}
 use Rattle.ecma_place.specs.Atom.{AtomView}
 use Rattle.ecma_place.specs.Character.{is_ident_start, is_white_space, is_line_terminator}
 use Rattle.ecma_place.proofs.CharacterLemmas.{is_ident_start-is_ident_part}
-use Rattle.ecma_scan.specs.declared.gap.GapMode.{GapMode}
-use Rattle.ecma_scan.specs.Expressions.{ExpressionBeginsNoGap, body_cutter, body_pieces, closed_expression, expression_behind, flags, open_expression, regular_expression, slashed}
-use Rattle.ecma_scan.specs.Found.{Scanned}
-use Rattle.ecma_scan.specs.Fronts.{begins_with, next_is, line}
-use Rattle.ecma_scan.specs.Gaps.{Element, LineComment, block_of, comment_body, element, is_inert, special_element}
-use Rattle.ecma_scan.specs.Locality.{is_clean}
-use Rattle.ecma_scan.specs.Pieces.{remainder, spelled}
-use Rattle.ecma_scan.specs.Shebangs.{ShebangBeginsNoGap}
-use Rattle.ecma_scan.specs.Strings.{StringBeginsNoGap}
-use Rattle.ecma_scan.specs.Words.{WordBeginsNoGap}
+use Rattle.ecma_grammar.specs.declared.gap_mode.GapMode.{GapMode}
+use Rattle.ecma_grammar.specs.Expressions.{ExpressionBeginsNoGap, body_cutter, body_pieces, closed_expression, expression_behind, flags, open_expression, regular_expression, slashed}
+use Rattle.ecma_grammar.specs.Found.{Scanned}
+use Rattle.ecma_grammar.specs.Fronts.{begins_with, next_is, line}
+use Rattle.ecma_grammar.specs.Gaps.{Element, LineComment, block_of, comment_body, element, is_inert, special_element}
+use Rattle.ecma_grammar.specs.Locality.{is_clean}
+use Rattle.ecma_grammar.specs.Pieces.{remainder, spelled}
+use Rattle.ecma_grammar.specs.Shebangs.{ShebangBeginsNoGap}
+use Rattle.ecma_grammar.specs.Strings.{StringBeginsNoGap}
+use Rattle.ecma_grammar.specs.Words.{WordBeginsNoGap}
 use Rattle.ecma_scan.proofs.CharacterLaws.{white-no_part}
-use Rattle.ecma_scan.proofs.GapForms.{cond_false}
-use Rattle.ecma_scan.proofs.GapLaws.{no_element, special_none}
+use Rattle.ecma_grammar.proofs.GapForms.{cond_false}
+use Rattle.ecma_grammar.proofs.GapLaws.{no_element, special_none}
 
 -- a character that isn't white space and none of the five
 inert_by : (white : Bool) (c : ℕ) → is_white_space c ≡ white → white ≡ false → (c == 47) ≡ false → (c == 60) ≡ false → (c == 45) ≡ false → (c == 61) ≡ false → (c == 62) ≡ false

@@ -3,11 +3,11 @@ use Rattle.std.proofs.Common.{◌≡◌, true, false, [], ◌∷◌, ◌++◌, d
 use Rattle.std.specs.Prelude.{codes}
 use Rattle.ecma_place.specs.Text.{Text}
 use Rattle.ecma_place.specs.Character.{is_line_terminator}
-use Rattle.ecma_scan.specs.Fronts.{in_line, line, next_passes}
-use Rattle.ecma_scan.specs.Locality.{ends_line}
-use Rattle.ecma_scan.specs.Shebangs.{found_shebang, shebang, ShebangIsLocal}
-use Rattle.ecma_scan.proofs.Fronts.{front_all, front_run}
-use Rattle.ecma_scan.proofs.GapForms.{cond_true}
+use Rattle.ecma_grammar.specs.Fronts.{in_line, line, next_passes}
+use Rattle.ecma_grammar.specs.Locality.{ends_line}
+use Rattle.ecma_grammar.specs.Shebangs.{found_shebang, shebang, ShebangIsLocal}
+use Rattle.ecma_grammar.proofs.Fronts.{front_all, front_run}
+use Rattle.ecma_grammar.proofs.GapForms.{cond_true}
 
 feed_ends_line : in_line 10 ≡ false
 unfolding is_line_terminator

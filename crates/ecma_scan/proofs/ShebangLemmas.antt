@@ -7,10 +7,10 @@ use Rattle.ecma_place.specs.Cursor.{Cursor, rest, passed}
 use Rattle.ecma_place.proofs.RunLemmas.{passed-later-by}
 use Rattle.ecma_token.specs.View.{TokenView, ErrorView, token_view}
 use Rattle.ecma_token.specs.declared.token.Token.{Token, Shebang}
-use Rattle.ecma_scan.specs.Found.{FoundView, found_at, token_behind, span_of}
-use Rattle.ecma_scan.specs.Fronts.{line, behind_line, in_line}
-use Rattle.ecma_scan.specs.Shebangs.{opens_shebang, shebang}
-use Rattle.ecma_scan.proofs.Fronts.{begins_with-front, front_after}
+use Rattle.ecma_grammar.specs.Found.{FoundView, found_at, token_behind, span_of}
+use Rattle.ecma_grammar.specs.Fronts.{line, behind_line, in_line}
+use Rattle.ecma_grammar.specs.Shebangs.{opens_shebang, shebang}
+use Rattle.ecma_grammar.proofs.Fronts.{begins_with-front, front_after}
 
 -- the token of the shebang with which a text begins
 abbrev pub shebang_token : Text → Option Token

@@ -7,10 +7,10 @@ use Rattle.ecma_place.specs.Character.{is_line_break, is_line_terminator}
 use Rattle.ecma_token.specs.View.{ErrorView, KindView, plain, bad_escape, plain_token}
 use Rattle.ecma_token.specs.declared.error.SyntaxError.{LegacyOctal, UnterminatedStrLit, InvalidUnicodeEscape, InvalidStrEscape}
 use Rattle.ecma_token.specs.declared.token.Token.{Str}
-use Rattle.ecma_scan.specs.declared.found.Blame.{Blame}
-use Rattle.ecma_scan.specs.declared.found.Blame.TheVariants.{Always, Strict}
-use Rattle.ecma_scan.specs.Found.{Fault, span_of}
-use Rattle.ecma_scan.specs.Strings.{string_literal, scanned_string}
+use Rattle.ecma_grammar.specs.declared.found.Blame.{Blame}
+use Rattle.ecma_grammar.specs.declared.found.Blame.TheVariants.{Always, Strict}
+use Rattle.ecma_grammar.specs.Found.{Fault, span_of}
+use Rattle.ecma_grammar.specs.Strings.{string_literal, scanned_string}
 
 abbrev error : KindView → ℕ → ℕ → ErrorView
 error kind low high = record { kind = kind; span = span_of low high }

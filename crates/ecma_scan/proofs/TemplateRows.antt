@@ -8,8 +8,8 @@ use Rattle.ecma_place.specs.Character.{is_line_terminator}
 use Rattle.ecma_token.specs.View.{TokenView, KindView, plain, bad_escape, plain_token, refused_template}
 use Rattle.ecma_token.specs.declared.error.SyntaxError.{LegacyOctal, UnterminatedTpl, InvalidUnicodeEscape}
 use Rattle.ecma_token.specs.declared.token.Token.{BackQuote, DollarLBrace, Template', Ok'}
-use Rattle.ecma_scan.specs.Found.{FoundView, Scanned, scanned, span_of}
-use Rattle.ecma_scan.specs.Templates.{template_text, template_found}
+use Rattle.ecma_grammar.specs.Found.{FoundView, Scanned, scanned, span_of}
+use Rattle.ecma_grammar.specs.Templates.{template_text, template_found}
 
 -- a template text, what it means, its spelling, and whether it has a line break
 abbrev text : AtomView → AtomView → Text → Bool → Scanned TokenView

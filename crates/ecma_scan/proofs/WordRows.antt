@@ -16,11 +16,11 @@ use Rattle.ecma_syntax.specs.declared.word.Word.{Word}
 use Rattle.ecma_syntax.specs.declared.word.Word.TheVariants.{Keyword, Ident}
 use Rattle.ecma_token.specs.View.{ErrorView, KindView, plain, bad_escape}
 use Rattle.ecma_token.specs.declared.error.SyntaxError.{EscapeInReservedWord, ExpectedUnicodeEscape, InvalidIdentChar, InvalidUnicodeEscape}
-use Rattle.ecma_scan.specs.declared.found.Blame.TheVariants.{Always}
-use Rattle.ecma_scan.specs.Found.{Fault, Scanned, scanned, span_of}
-use Rattle.ecma_scan.specs.Fronts.{front, after, next_is}
-use Rattle.ecma_scan.specs.Words.{identifier_name, word}
-use Rattle.ecma_scan.proofs.WordLaws.{plain_word_is_its_row}
+use Rattle.ecma_grammar.specs.declared.found.Blame.TheVariants.{Always}
+use Rattle.ecma_grammar.specs.Found.{Fault, Scanned, scanned, span_of}
+use Rattle.ecma_grammar.specs.Fronts.{front, after, next_is}
+use Rattle.ecma_grammar.specs.Words.{identifier_name, word}
+use Rattle.ecma_escape.proofs.WordLaws.{plain_word_is_its_row}
 
 abbrev error : KindView → ℕ → ℕ → ErrorView
 error kind low high = record { kind = kind; span = span_of low high }

@@ -1,24 +1,24 @@
 //! Punctuators.
 ghost use Rattle.std.specs.Prelude.{◌≡◌, ◌∷◌, ◌<◌, [], Bool, true, false, Some, length, option_map, slice_get, IfSome, IfNone, if◌then◌else◌, IfOk, IsOk, OnOk};
 ghost use Rattle.ecma_place.specs.Cursor.{rest, place, passed};
-ghost use Rattle.ecma_scan.specs.Found.{found_view, found_at, token_behind};
-ghost use Rattle.ecma_scan.specs.Punctuators as grammar;
-ghost use Rattle.ecma_scan.specs.Numbers.{opens_fraction};
+ghost use Rattle.ecma_grammar.specs.Found.{found_view, found_at, token_behind};
+ghost use Rattle.ecma_grammar.specs.Punctuators as grammar;
+ghost use Rattle.ecma_grammar.specs.Numbers.{opens_fraction};
 ghost use Rattle.ecma_scan.specs.PunctuatorKinds.{kind_token};
-ghost use Rattle.ecma_scan.specs.Fronts.{begins_with};
-ghost use Rattle.ecma_scan.specs.Punctuators.{first_of, punctuators, token_in, spelling_in, count_behind, is_lone, begins_more, punctuator_in, angle_in, spells};
+ghost use Rattle.ecma_grammar.specs.Fronts.{begins_with};
+ghost use Rattle.ecma_grammar.specs.Punctuators.{first_of, punctuators, token_in, spelling_in, count_behind, is_lone, begins_more, punctuator_in, angle_in, spells};
 ghost use Rattle.ecma_place.specs.Text.{Text};
 ghost use Rattle.ecma_token.specs.View.{token_view};
 
-use crate::found::Found;
 use crate::punctuator_kind::PunctuatorKind;
+use ecma_grammar::found::Found;
 use ecma_place::{Span, StringInput};
 use ecma_syntax::{AssignOp, BinOpToken};
 use ecma_token::Token;
 use std::alloc::{AllocError, Global};
 
 /// Moves behind the character, where the rest begins with it.
-#[tactic(auto, using(crate::proofs::PunctuatorLemmas::eating))]
+#[tactic(auto, using(ecma_grammar::proofs::PunctuatorLemmas::eating))]
 fn eat_one(input: &mut StringInput, first: u8) -> bool
     requires { first < 128 }
     ensures value { result ≡ begins_with (first ∷ []) (rest input.old) }
@@ -28,7 +28,7 @@ fn eat_one(input: &mut StringInput, first: u8) -> bool
 }
 
 /// Moves behind the two characters, where the rest begins with them.
-#[tactic(auto, using(crate::proofs::PunctuatorLemmas::eating))]
+#[tactic(auto, using(ecma_grammar::proofs::PunctuatorLemmas::eating))]
 pub(crate) fn eat_two(input: &mut StringInput, first: u8, second: u8) -> bool
     requires { first < 128 }
     ensures value { result ≡ begins_with (first ∷ second ∷ []) (rest input.old) }
@@ -44,7 +44,7 @@ pub(crate) fn eat_two(input: &mut StringInput, first: u8, second: u8) -> bool
 }
 
 /// Moves behind the three characters, where the rest begins with them.
-#[tactic(auto, using(crate::proofs::PunctuatorLemmas::eating))]
+#[tactic(auto, using(ecma_grammar::proofs::PunctuatorLemmas::eating))]
 fn eat_three(input: &mut StringInput, first: u8, second: u8, third: u8) -> bool
     requires { first < 128 }
     ensures value { result ≡ begins_with (first ∷ second ∷ third ∷ []) (rest input.old) }
@@ -64,7 +64,7 @@ fn eat_three(input: &mut StringInput, first: u8, second: u8, third: u8) -> bool
 }
 
 /// The punctuator that begins with `.`, which stands before the cursor.
-#[tactic(auto, using(crate::proofs::PunctuatorLemmas::eating))]
+#[tactic(auto, using(ecma_grammar::proofs::PunctuatorLemmas::eating))]
 fn behind_dot(input: &mut StringInput) -> PunctuatorKind
     ensures token { token_in (first_of punctuators (46 ∷ rest input.old)) ≡ Some (kind_token result) }
     ensures moved { input.new ≡ passed (count_behind (first_of punctuators (46 ∷ rest input.old))) input.old }
@@ -77,7 +77,7 @@ fn behind_dot(input: &mut StringInput) -> PunctuatorKind
 }
 
 /// The punctuator that begins with `=`, which stands before the cursor.
-#[tactic(auto, using(crate::proofs::PunctuatorLemmas::eating))]
+#[tactic(auto, using(ecma_grammar::proofs::PunctuatorLemmas::eating))]
 fn behind_equals(input: &mut StringInput) -> PunctuatorKind
     ensures token { token_in (first_of punctuators (61 ∷ rest input.old)) ≡ Some (kind_token result) }
     ensures moved { input.new ≡ passed (count_behind (first_of punctuators (61 ∷ rest input.old))) input.old }
@@ -94,7 +94,7 @@ fn behind_equals(input: &mut StringInput) -> PunctuatorKind
 }
 
 /// The punctuator that begins with `!`, which stands before the cursor.
-#[tactic(auto, using(crate::proofs::PunctuatorLemmas::eating))]
+#[tactic(auto, using(ecma_grammar::proofs::PunctuatorLemmas::eating))]
 fn behind_bang(input: &mut StringInput) -> PunctuatorKind
     ensures token { token_in (first_of punctuators (33 ∷ rest input.old)) ≡ Some (kind_token result) }
     ensures moved { input.new ≡ passed (count_behind (first_of punctuators (33 ∷ rest input.old))) input.old }
@@ -109,7 +109,7 @@ fn behind_bang(input: &mut StringInput) -> PunctuatorKind
 }
 
 /// The punctuator that begins with `<`, which stands before the cursor.
-#[tactic(auto, using(crate::proofs::PunctuatorLemmas::eating))]
+#[tactic(auto, using(ecma_grammar::proofs::PunctuatorLemmas::eating))]
 fn behind_less(input: &mut StringInput) -> PunctuatorKind
     ensures token { token_in (first_of punctuators (60 ∷ rest input.old)) ≡ Some (kind_token result) }
     ensures moved { input.new ≡ passed (count_behind (first_of punctuators (60 ∷ rest input.old))) input.old }
@@ -126,7 +126,7 @@ fn behind_less(input: &mut StringInput) -> PunctuatorKind
 }
 
 /// The punctuator that begins with `>`, which stands before the cursor.
-#[tactic(auto, using(crate::proofs::PunctuatorLemmas::eating))]
+#[tactic(auto, using(ecma_grammar::proofs::PunctuatorLemmas::eating))]
 fn behind_greater(input: &mut StringInput) -> PunctuatorKind
     ensures token { token_in (first_of punctuators (62 ∷ rest input.old)) ≡ Some (kind_token result) }
     ensures moved { input.new ≡ passed (count_behind (first_of punctuators (62 ∷ rest input.old))) input.old }
@@ -147,7 +147,7 @@ fn behind_greater(input: &mut StringInput) -> PunctuatorKind
 }
 
 /// The punctuator that begins with `+`, which stands before the cursor.
-#[tactic(auto, using(crate::proofs::PunctuatorLemmas::eating))]
+#[tactic(auto, using(ecma_grammar::proofs::PunctuatorLemmas::eating))]
 fn behind_plus(input: &mut StringInput) -> PunctuatorKind
     ensures token { token_in (first_of punctuators (43 ∷ rest input.old)) ≡ Some (kind_token result) }
     ensures moved { input.new ≡ passed (count_behind (first_of punctuators (43 ∷ rest input.old))) input.old }
@@ -162,7 +162,7 @@ fn behind_plus(input: &mut StringInput) -> PunctuatorKind
 }
 
 /// The punctuator that begins with `-`, which stands before the cursor.
-#[tactic(auto, using(crate::proofs::PunctuatorLemmas::eating))]
+#[tactic(auto, using(ecma_grammar::proofs::PunctuatorLemmas::eating))]
 fn behind_minus(input: &mut StringInput) -> PunctuatorKind
     ensures token { token_in (first_of punctuators (45 ∷ rest input.old)) ≡ Some (kind_token result) }
     ensures moved { input.new ≡ passed (count_behind (first_of punctuators (45 ∷ rest input.old))) input.old }
@@ -177,7 +177,7 @@ fn behind_minus(input: &mut StringInput) -> PunctuatorKind
 }
 
 /// The punctuator that begins with `*`, which stands before the cursor.
-#[tactic(auto, using(crate::proofs::PunctuatorLemmas::eating))]
+#[tactic(auto, using(ecma_grammar::proofs::PunctuatorLemmas::eating))]
 fn behind_star(input: &mut StringInput) -> PunctuatorKind
     ensures token { token_in (first_of punctuators (42 ∷ rest input.old)) ≡ Some (kind_token result) }
     ensures moved { input.new ≡ passed (count_behind (first_of punctuators (42 ∷ rest input.old))) input.old }
@@ -194,7 +194,7 @@ fn behind_star(input: &mut StringInput) -> PunctuatorKind
 }
 
 /// The punctuator that begins with `/`, which stands before the cursor.
-#[tactic(auto, using(crate::proofs::PunctuatorLemmas::eating))]
+#[tactic(auto, using(ecma_grammar::proofs::PunctuatorLemmas::eating))]
 fn behind_slash(input: &mut StringInput) -> PunctuatorKind
     ensures token { token_in (first_of punctuators (47 ∷ rest input.old)) ≡ Some (kind_token result) }
     ensures moved { input.new ≡ passed (count_behind (first_of punctuators (47 ∷ rest input.old))) input.old }
@@ -207,7 +207,7 @@ fn behind_slash(input: &mut StringInput) -> PunctuatorKind
 }
 
 /// The punctuator that begins with `%`, which stands before the cursor.
-#[tactic(auto, using(crate::proofs::PunctuatorLemmas::eating))]
+#[tactic(auto, using(ecma_grammar::proofs::PunctuatorLemmas::eating))]
 fn behind_percent(input: &mut StringInput) -> PunctuatorKind
     ensures token { token_in (first_of punctuators (37 ∷ rest input.old)) ≡ Some (kind_token result) }
     ensures moved { input.new ≡ passed (count_behind (first_of punctuators (37 ∷ rest input.old))) input.old }
@@ -220,7 +220,7 @@ fn behind_percent(input: &mut StringInput) -> PunctuatorKind
 }
 
 /// The punctuator that begins with `|`, which stands before the cursor.
-#[tactic(auto, using(crate::proofs::PunctuatorLemmas::eating))]
+#[tactic(auto, using(ecma_grammar::proofs::PunctuatorLemmas::eating))]
 fn behind_bar(input: &mut StringInput) -> PunctuatorKind
     ensures token { token_in (first_of punctuators (124 ∷ rest input.old)) ≡ Some (kind_token result) }
     ensures moved { input.new ≡ passed (count_behind (first_of punctuators (124 ∷ rest input.old))) input.old }
@@ -237,7 +237,7 @@ fn behind_bar(input: &mut StringInput) -> PunctuatorKind
 }
 
 /// The punctuator that begins with `&`, which stands before the cursor.
-#[tactic(auto, using(crate::proofs::PunctuatorLemmas::eating))]
+#[tactic(auto, using(ecma_grammar::proofs::PunctuatorLemmas::eating))]
 fn behind_ampersand(input: &mut StringInput) -> PunctuatorKind
     ensures token { token_in (first_of punctuators (38 ∷ rest input.old)) ≡ Some (kind_token result) }
     ensures moved { input.new ≡ passed (count_behind (first_of punctuators (38 ∷ rest input.old))) input.old }
@@ -254,7 +254,7 @@ fn behind_ampersand(input: &mut StringInput) -> PunctuatorKind
 }
 
 /// The punctuator that begins with `^`, which stands before the cursor.
-#[tactic(auto, using(crate::proofs::PunctuatorLemmas::eating))]
+#[tactic(auto, using(ecma_grammar::proofs::PunctuatorLemmas::eating))]
 fn behind_caret(input: &mut StringInput) -> PunctuatorKind
     ensures token { token_in (first_of punctuators (94 ∷ rest input.old)) ≡ Some (kind_token result) }
     ensures moved { input.new ≡ passed (count_behind (first_of punctuators (94 ∷ rest input.old))) input.old }
@@ -267,7 +267,7 @@ fn behind_caret(input: &mut StringInput) -> PunctuatorKind
 }
 
 /// The punctuator that begins with `?`, which stands before the cursor.
-#[tactic(auto, using(crate::proofs::PunctuatorLemmas::eating))]
+#[tactic(auto, using(ecma_grammar::proofs::PunctuatorLemmas::eating))]
 fn behind_question(input: &mut StringInput) -> PunctuatorKind
     ensures token { token_in (first_of punctuators (63 ∷ rest input.old)) ≡ Some (kind_token result) }
     ensures moved { input.new ≡ passed (count_behind (first_of punctuators (63 ∷ rest input.old))) input.old }
@@ -283,7 +283,7 @@ fn behind_question(input: &mut StringInput) -> PunctuatorKind
 
 /// The punctuator that is this character, whatever follows it.
 #[inline(always)]
-#[tactic(auto, unfolding(crate::specs::Punctuators::is_lone))]
+#[tactic(auto, unfolding(ecma_grammar::specs::Punctuators::is_lone))]
 fn lone(first: char) -> Option<PunctuatorKind>
     ensures some { IfSome result (λ kind. (text : Text) →
         first_of punctuators (first ∷ text) ≡ Some (spells (first ∷ []) (kind_token kind))) }
@@ -309,7 +309,7 @@ fn lone(first: char) -> Option<PunctuatorKind>
 }
 
 /// Whether punctuators begin with the character that go on by what follows it.
-#[tactic(auto, unfolding(crate::specs::Punctuators::begins_more))]
+#[tactic(auto, unfolding(ecma_grammar::specs::Punctuators::begins_more))]
 fn begins_more(first: char) -> bool
     ensures { result ≡ begins_more first }
 {
@@ -320,7 +320,7 @@ fn begins_more(first: char) -> bool
 }
 
 /// The punctuator whose first character stands before the cursor.
-#[tactic(auto, unfolding(crate::specs::Punctuators::begins_more))]
+#[tactic(auto, unfolding(ecma_grammar::specs::Punctuators::begins_more))]
 fn behind_first(input: &mut StringInput, first: char) -> PunctuatorKind
     requires { begins_more first ≡ true }
     ensures token { token_in (first_of punctuators (first ∷ rest input.old)) ≡ Some (kind_token result) }

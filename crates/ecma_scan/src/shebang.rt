@@ -3,13 +3,13 @@ ghost use Rattle.std.specs.Prelude.{◌≡◌, None, Some, length, drop, option_
 ghost use Rattle.ecma_place.specs.Atom.{borrowed_atom};
 ghost use Rattle.ecma_place.specs.Cursor.{rest, place, passed};
 ghost use Rattle.ecma_token.specs.View.{token_view};
-ghost use Rattle.ecma_scan.specs.Found.{found_view, found_at, token_behind};
-ghost use Rattle.ecma_scan.specs.Fronts.{line};
-ghost use Rattle.ecma_scan.specs.Shebangs as grammar;
+ghost use Rattle.ecma_grammar.specs.Found.{found_view, found_at, token_behind};
+ghost use Rattle.ecma_grammar.specs.Fronts.{line};
+ghost use Rattle.ecma_grammar.specs.Shebangs as grammar;
 
-use crate::found::Found;
-use crate::line::read_line;
 use crate::punctuator::eat_two;
+use ecma_grammar::found::Found;
+use ecma_grammar::line::read_line;
 use ecma_place::{Atom, Span, StringInput};
 use ecma_token::Token;
 use std::alloc::{AllocError, Global};

@@ -1,5 +1,5 @@
 //! What holds of every word and operator: each call does nothing, and its contract is the law.
-ghost use Rattle.ecma_syntax.specs.Laws.{WordsReadBack, WordsKeepTheirText, WordsAreLookedUp, OperatorsKeepTheirText};
+ghost use Rattle.ecma_word.specs.Laws.{WordsReadBack, WordsKeepTheirText, WordsAreLookedUp, OperatorsKeepTheirText};
 
 /// Reading a word's text gives the word back, unless it is an other name with a text of the table of words.
 pub fn words_read_back()

@@ -1,20 +1,13 @@
 //! Settings, context flags, words and operators.
 #![tactic(auto)]
 
-pub mod context;
-pub mod keyword;
-pub mod known_ident;
 pub mod laws;
-pub mod operator;
-pub mod settings;
-mod table;
-#[cfg(test)]
-mod tests;
-pub mod word;
 
-pub use context::{Context, ExpressionContext};
-pub use keyword::Keyword;
-pub use known_ident::KnownIdent;
-pub use operator::{AssignOp, BinOpToken, BinaryOp};
-pub use settings::{EsConfig, EsSyntax, EsVersion, JscTarget, Syntax, TsConfig, TsSyntax};
-pub use word::{IdentKind, IdentLike, Word, WordKind};
+pub use ecma_settings::{
+    Context, EsConfig, EsSyntax, EsVersion, ExpressionContext, JscTarget, Syntax, TsConfig,
+    TsSyntax, context, settings,
+};
+pub use ecma_word::{
+    AssignOp, BinOpToken, BinaryOp, IdentKind, IdentLike, Keyword, KnownIdent, Word, WordKind,
+    keyword, known_ident, operator, word,
+};

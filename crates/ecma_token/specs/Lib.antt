@@ -5,4 +5,4 @@ pub mod Questions
 pub mod Quoted
 pub mod View
 pub use Rattle.ecma_place.specs.Atom
-pub use Rattle.ecma_syntax.specs.Word
+pub use Rattle.ecma_word.specs.Word

@@ -1,9 +1,9 @@
 -- What a kind of token allows behind it, and where it may stand.
 use Rattle.std.specs.Prelude.{Bool, true, false}
-use Rattle.ecma_syntax.specs.declared.keyword.Keyword.{Keyword}
-use Rattle.ecma_syntax.specs.declared.keyword.Keyword.TheVariants as keyword
-use Rattle.ecma_syntax.specs.declared.word.WordKind.TheVariants as word
-use Rattle.ecma_syntax.specs.declared.operator.BinOpToken.TheVariants.{Add, Sub}
+use Rattle.ecma_word.specs.declared.keyword.Keyword.{Keyword}
+use Rattle.ecma_word.specs.declared.keyword.Keyword.TheVariants as keyword
+use Rattle.ecma_word.specs.declared.word.WordKind.TheVariants as word
+use Rattle.ecma_word.specs.declared.operator.BinOpToken.TheVariants.{Add, Sub}
 use Rattle.ecma_token.specs.declared.kind.TokenKind.{TokenKind}
 use Rattle.ecma_token.specs.declared.kind.TokenKind.TheVariants.{Word, BinOp, AssignOp, Arrow, BackQuote, Bang, BigInt, Colon, Comma, DollarLBrace, Dot, DotDotDot, JSXName, JSXTagEnd, JSXTagStart, JSXText, LBrace, LBracket, LParen, MinusMinus, Num, PlusPlus, QuestionMark, RBrace, RParen, Regex, Semi, Str, Template, Tilde}
 

@@ -1,8 +1,8 @@
 -- Tokens and errors as callers see them: what owns memory is seen as what it holds.
-use Rattle.std.specs.Prelude.{◌≡◌, ℕ, Bool, true, false, ◌&&◌, List, map, string_bytes}
+use Rattle.std.specs.Prelude.{◌≡◌, ℕ, Bool, true, false, not, ◌&&◌, List, map, string_bytes}
 use Rattle.ecma_place.specs.Atom.{AtomView}
 use Rattle.ecma_place.specs.declared.place.Span.{Span}
-use Rattle.ecma_syntax.specs.Word.{word_owns_nothing}
+use Rattle.ecma_word.specs.Word.{word_owns_nothing}
 use Rattle.ecma_token.specs.declared.token.Token.{Token, Word, Template', Str, Regex, Num, BigInt, JSXName, JSXText, Shebang, Error', Ok', Err'}
 use Rattle.ecma_token.specs.declared.token.TokenAndSpan.{TokenAndSpan}
 use Rattle.ecma_token.specs.declared.error.SyntaxError.{SyntaxError, EscapeInReservedWord, InvalidIdentInStrict, DuplicateLabel, JSXExpectedClosingTag, PrivateNameModifier, ExportExpectFrom, ImportBindingIsString, TS1030, TS1089, TS1273, TS1274, TS1277, TsNonNullAssertionNotAllowed, TS1029, TS1243, BadCharacterEscapeSequence, UnaryInExp, Unexpected, UnexpectedTokenWithSuggestions, Expected', WithLabel'}
@@ -112,3 +112,50 @@ kind_owns_nothing (UnexpectedTokenWithSuggestions all) = false
 kind_owns_nothing (Expected' p token got) = false
 kind_owns_nothing (WithLabel' p q kind at span note) = false
 kind_owns_nothing _ = true
+
+-- it holds texts and no error
+abbrev pub has_texts : Token → Bool
+has_texts (Word word) = true
+has_texts (Template' raw (Ok' cooked)) = true
+has_texts (Str value raw) = true
+has_texts (Regex body flags) = true
+has_texts (Num raw radix digits whole) = true
+has_texts (BigInt raw radix digits) = true
+has_texts (JSXName name) = true
+has_texts (JSXText value raw) = true
+has_texts (Shebang text) = true
+has_texts _ = false
+
+-- it holds neither a text nor an error
+abbrev pub is_sign : Token → Bool
+is_sign (Template' raw cooked) = false
+is_sign (Error' p kind span) = false
+is_sign token = not (has_texts token)
+
+-- it holds texts that are words, and nothing else that owns memory
+abbrev pub holds_words : SyntaxError → Bool
+holds_words (EscapeInReservedWord word) = true
+holds_words (InvalidIdentInStrict word) = true
+holds_words (DuplicateLabel word) = true
+holds_words (JSXExpectedClosingTag word) = true
+holds_words (PrivateNameModifier word) = true
+holds_words (ExportExpectFrom word) = true
+holds_words (ImportBindingIsString word) = true
+holds_words (TS1030 word) = true
+holds_words (TS1089 word) = true
+holds_words (TS1273 word) = true
+holds_words (TS1274 word) = true
+holds_words (TS1277 word) = true
+holds_words (TsNonNullAssertionNotAllowed word) = true
+holds_words (TS1029 left right) = true
+holds_words (TS1243 left right) = true
+holds_words _ = false
+
+-- it holds nothing that owns memory
+abbrev pub is_plain : SyntaxError → Bool
+is_plain (UnaryInExp left at) = false
+is_plain (Unexpected got wanted) = false
+is_plain (UnexpectedTokenWithSuggestions all) = false
+is_plain (Expected' p token got) = false
+is_plain (WithLabel' p q kind at span note) = false
+is_plain kind = not (holds_words kind)

@@ -1,6 +1,6 @@
 //! What a text can have wrong.
 ghost use Rattle.std.specs.Prelude.{◌≡◌, IfOk, IsOk, IsTrue};
-ghost use Rattle.ecma_token.specs.View.{IsErrorAt, error_kind, error_span, error_view, kind_owns_nothing, kind_view};
+ghost use Rattle.ecma_token.specs.View.{IsErrorAt, error_kind, error_span, error_view, holds_words, is_plain, kind_owns_nothing, kind_view};
 
 use crate::plain::PlainError;
 use crate::token::{Radix, Token};
@@ -173,38 +173,6 @@ impl<'a> SyntaxError<'a> {
         ensures free { IsTrue (kind_owns_nothing self.now) → IsOk result }
     {
         match self {
-            SyntaxError::LegacyDecimal => Ok(SyntaxError::LegacyDecimal),
-            SyntaxError::LegacyOctal => Ok(SyntaxError::LegacyOctal),
-            SyntaxError::InvalidIdentChar => Ok(SyntaxError::InvalidIdentChar),
-            SyntaxError::UnterminatedBlockComment => Ok(SyntaxError::UnterminatedBlockComment),
-            SyntaxError::UnterminatedStrLit => Ok(SyntaxError::UnterminatedStrLit),
-            SyntaxError::ExpectedUnicodeEscape => Ok(SyntaxError::ExpectedUnicodeEscape),
-            SyntaxError::UnterminatedRegExp => Ok(SyntaxError::UnterminatedRegExp),
-            SyntaxError::UnterminatedTpl => Ok(SyntaxError::UnterminatedTpl),
-            SyntaxError::IdentAfterNum => Ok(SyntaxError::IdentAfterNum),
-            SyntaxError::InvalidStrEscape => Ok(SyntaxError::InvalidStrEscape),
-            SyntaxError::InvalidUnicodeEscape => Ok(SyntaxError::InvalidUnicodeEscape),
-            SyntaxError::NumLitTerminatedWithExp => Ok(SyntaxError::NumLitTerminatedWithExp),
-            SyntaxError::LegacyCommentInModule => Ok(SyntaxError::LegacyCommentInModule),
-            SyntaxError::NumericSeparatorIsAllowedOnlyBetweenTwoDigits => Ok(
-                SyntaxError::NumericSeparatorIsAllowedOnlyBetweenTwoDigits,
-            ),
-            SyntaxError::TS1085 => Ok(SyntaxError::TS1085),
-            SyntaxError::TS1185 => Ok(SyntaxError::TS1185),
-            SyntaxError::Plain(error) => Ok(SyntaxError::Plain(*error)),
-            SyntaxError::ExpectedDigit { radix } => Ok(SyntaxError::ExpectedDigit {
-                radix: *radix,
-            }),
-            SyntaxError::EscapeInReservedWord { word } => Ok(SyntaxError::EscapeInReservedWord {
-                word: word.copy(alloc)?,
-            }),
-            SyntaxError::UnexpectedChar { c } => Ok(SyntaxError::UnexpectedChar { c: *c }),
-            SyntaxError::BadCharacterEscapeSequence { expected } => Ok(
-                SyntaxError::BadCharacterEscapeSequence { expected },
-            ),
-            SyntaxError::InvalidIdentInStrict(word) => Ok(SyntaxError::InvalidIdentInStrict(
-                word.copy(alloc)?,
-            )),
             SyntaxError::UnaryInExp { left, left_span } => Ok(SyntaxError::UnaryInExp {
                 left: left.clone()?,
                 left_span: *left_span,
@@ -222,16 +190,44 @@ impl<'a> SyntaxError<'a> {
                 Box::new(alloc, token.copy(alloc)?)?,
                 got.clone()?,
             )),
-            SyntaxError::ExpectedSemiForExprStmt { expr } => Ok(
-                SyntaxError::ExpectedSemiForExprStmt { expr: *expr },
-            ),
-            SyntaxError::MultipleDefault { previous } => Ok(SyntaxError::MultipleDefault {
-                previous: *previous,
+            SyntaxError::WithLabel { inner, span, note } => Ok(SyntaxError::WithLabel {
+                inner: Box::new(alloc, inner.copy(alloc)?)?,
+                span: *span,
+                note,
+            }),
+            SyntaxError::EscapeInReservedWord { .. }
+            | SyntaxError::JSXExpectedClosingTag { .. }
+            | SyntaxError::TS1029(_, _)
+            | SyntaxError::TS1243(_, _)
+            | SyntaxError::InvalidIdentInStrict(_)
+            | SyntaxError::DuplicateLabel(_)
+            | SyntaxError::PrivateNameModifier(_)
+            | SyntaxError::ExportExpectFrom(_)
+            | SyntaxError::ImportBindingIsString(_)
+            | SyntaxError::TS1030(_)
+            | SyntaxError::TS1089(_)
+            | SyntaxError::TS1273(_)
+            | SyntaxError::TS1274(_)
+            | SyntaxError::TS1277(_)
+            | SyntaxError::TsNonNullAssertionNotAllowed(_) => self.copy_words(alloc),
+            _ => Ok(self.copy_plain()),
+        }
+    }
+
+    /// The same, where it holds words. It stands apart from `copy` since each text that may be refused costs a proof for all
+    /// that recurs beside it.
+    fn copy_words(&self, alloc: Global) -> Result<SyntaxError<'a>, AllocError>
+        requires { IsTrue (holds_words self.now) }
+        ensures same { IfOk result (λ kind. kind_view kind ≡ kind_view self.now) }
+        ensures free { IsTrue (kind_owns_nothing self.now) → IsOk result }
+    {
+        match self {
+            SyntaxError::EscapeInReservedWord { word } => Ok(SyntaxError::EscapeInReservedWord {
+                word: word.copy(alloc)?,
             }),
             SyntaxError::JSXExpectedClosingTag { tag } => Ok(SyntaxError::JSXExpectedClosingTag {
                 tag: tag.copy(alloc)?,
             }),
-            SyntaxError::DuplicatedRegExpFlags(c) => Ok(SyntaxError::DuplicatedRegExpFlags(*c)),
             SyntaxError::TS1029(left, right) => Ok(SyntaxError::TS1029(
                 left.copy(alloc)?,
                 right.copy(alloc)?,
@@ -239,6 +235,9 @@ impl<'a> SyntaxError<'a> {
             SyntaxError::TS1243(left, right) => Ok(SyntaxError::TS1243(
                 left.copy(alloc)?,
                 right.copy(alloc)?,
+            )),
+            SyntaxError::InvalidIdentInStrict(word) => Ok(SyntaxError::InvalidIdentInStrict(
+                word.copy(alloc)?,
             )),
             SyntaxError::DuplicateLabel(word) => Ok(SyntaxError::DuplicateLabel(word.copy(alloc)?)),
             SyntaxError::PrivateNameModifier(word) => Ok(SyntaxError::PrivateNameModifier(word.copy(
@@ -258,11 +257,46 @@ impl<'a> SyntaxError<'a> {
             SyntaxError::TsNonNullAssertionNotAllowed(word) => Ok(
                 SyntaxError::TsNonNullAssertionNotAllowed(word.copy(alloc)?),
             ),
-            SyntaxError::WithLabel { inner, span, note } => Ok(SyntaxError::WithLabel {
-                inner: Box::new(alloc, inner.copy(alloc)?)?,
-                span: *span,
-                note,
-            }),
+            _ => Err(AllocError),
+        }
+    }
+
+    /// The same, where it holds no memory at all.
+    fn copy_plain(&self) -> SyntaxError<'a>
+        requires { IsTrue (is_plain self.now) }
+        ensures { kind_view result ≡ kind_view self.now }
+    {
+        match self {
+            SyntaxError::Plain(error) => SyntaxError::Plain(*error),
+            SyntaxError::ExpectedDigit { radix } => SyntaxError::ExpectedDigit { radix: *radix },
+            SyntaxError::UnexpectedChar { c } => SyntaxError::UnexpectedChar { c: *c },
+            SyntaxError::BadCharacterEscapeSequence { expected } => {
+                SyntaxError::BadCharacterEscapeSequence { expected }
+            }
+            SyntaxError::ExpectedSemiForExprStmt { expr } => {
+                SyntaxError::ExpectedSemiForExprStmt { expr: *expr }
+            }
+            SyntaxError::MultipleDefault { previous } => SyntaxError::MultipleDefault {
+                previous: *previous,
+            },
+            SyntaxError::DuplicatedRegExpFlags(c) => SyntaxError::DuplicatedRegExpFlags(*c),
+            SyntaxError::LegacyOctal => SyntaxError::LegacyOctal,
+            SyntaxError::InvalidIdentChar => SyntaxError::InvalidIdentChar,
+            SyntaxError::UnterminatedBlockComment => SyntaxError::UnterminatedBlockComment,
+            SyntaxError::UnterminatedStrLit => SyntaxError::UnterminatedStrLit,
+            SyntaxError::ExpectedUnicodeEscape => SyntaxError::ExpectedUnicodeEscape,
+            SyntaxError::UnterminatedRegExp => SyntaxError::UnterminatedRegExp,
+            SyntaxError::UnterminatedTpl => SyntaxError::UnterminatedTpl,
+            SyntaxError::IdentAfterNum => SyntaxError::IdentAfterNum,
+            SyntaxError::InvalidStrEscape => SyntaxError::InvalidStrEscape,
+            SyntaxError::InvalidUnicodeEscape => SyntaxError::InvalidUnicodeEscape,
+            SyntaxError::NumLitTerminatedWithExp => SyntaxError::NumLitTerminatedWithExp,
+            SyntaxError::LegacyCommentInModule => SyntaxError::LegacyCommentInModule,
+            SyntaxError::NumericSeparatorIsAllowedOnlyBetweenTwoDigits =>
+                SyntaxError::NumericSeparatorIsAllowedOnlyBetweenTwoDigits,
+            SyntaxError::TS1085 => SyntaxError::TS1085,
+            SyntaxError::TS1185 => SyntaxError::TS1185,
+            _ => SyntaxError::LegacyDecimal,
         }
     }
 }

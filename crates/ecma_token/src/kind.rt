@@ -2,7 +2,7 @@
 ghost use Rattle.std.specs.Prelude.{◌≡◌};
 ghost use Rattle.ecma_token.specs.Questions as ask;
 
-use ecma_syntax::{AssignOp, BinOpToken, Keyword, WordKind};
+use ecma_word::{AssignOp, BinOpToken, Keyword, WordKind};
 
 /// The kind of a token: its variant, with the word or operator that it is.
 #[derive(Debug, Clone, Copy, PartialEq, Eq, Hash)]

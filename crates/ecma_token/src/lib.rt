@@ -7,8 +7,6 @@ mod message;
 mod names;
 pub mod plain;
 mod quoted;
-#[cfg(test)]
-mod tests;
 pub mod token;
 
 pub use error::{Error, SyntaxError};

@@ -3,12 +3,12 @@ ghost use Rattle.std.specs.Prelude.{◌≡◌, IfOk, IsOk, IsTrue};
 ghost use Rattle.std.specs.Option.{option_copied};
 ghost use Rattle.ecma_token.specs.Kinds.{token_kind};
 ghost use Rattle.ecma_token.specs.Messages.{spelling, token_text};
-ghost use Rattle.ecma_token.specs.View.{owns_nothing, spanned_view, token_view};
+ghost use Rattle.ecma_token.specs.View.{has_texts, is_sign, owns_nothing, spanned_view, token_view};
 
 use crate::error::Error;
 use crate::kind::TokenKind;
 use ecma_place::{Atom, Span, Spanned};
-use ecma_syntax::{AssignOp, BinOpToken, Word};
+use ecma_word::{AssignOp, BinOpToken, Word};
 use std::alloc::{AllocError, Global};
 use std::fmt;
 
@@ -170,45 +170,42 @@ impl<'a> Token<'a> {
         ensures free { IsTrue (owns_nothing (token_view self.now)) → IsOk result }
     {
         match self {
-            Token::Word(word) => Ok(Token::Word(word.copy(alloc)?)),
-            Token::BinOp(op) => Ok(Token::BinOp(*op)),
-            Token::AssignOp(op) => Ok(Token::AssignOp(*op)),
-            Token::Arrow => Ok(Token::Arrow),
-            Token::Hash => Ok(Token::Hash),
-            Token::At => Ok(Token::At),
-            Token::Dot => Ok(Token::Dot),
-            Token::DotDotDot => Ok(Token::DotDotDot),
-            Token::Bang => Ok(Token::Bang),
-            Token::LParen => Ok(Token::LParen),
-            Token::RParen => Ok(Token::RParen),
-            Token::LBracket => Ok(Token::LBracket),
-            Token::RBracket => Ok(Token::RBracket),
-            Token::LBrace => Ok(Token::LBrace),
-            Token::RBrace => Ok(Token::RBrace),
-            Token::Semi => Ok(Token::Semi),
-            Token::Comma => Ok(Token::Comma),
-            Token::BackQuote => Ok(Token::BackQuote),
-            Token::Colon => Ok(Token::Colon),
-            Token::DollarLBrace => Ok(Token::DollarLBrace),
-            Token::QuestionMark => Ok(Token::QuestionMark),
-            Token::PlusPlus => Ok(Token::PlusPlus),
-            Token::MinusMinus => Ok(Token::MinusMinus),
-            Token::Tilde => Ok(Token::Tilde),
-            Token::JSXTagStart => Ok(Token::JSXTagStart),
-            Token::JSXTagEnd => Ok(Token::JSXTagEnd),
-            Token::Template {
-                raw,
-                cooked: Ok(cooked),
-            } => Ok(Token::Template {
-                raw: raw.copy(alloc)?,
-                cooked: Ok(cooked.copy(alloc)?),
-            }),
             Token::Template {
                 raw,
                 cooked: Err(error),
             } => Ok(Token::Template {
                 raw: raw.copy(alloc)?,
                 cooked: Err(error.copy(alloc)?),
+            }),
+            Token::Error(error) => Ok(Token::Error(error.copy(alloc)?)),
+            Token::Word(_)
+            | Token::Template { .. }
+            | Token::Str { .. }
+            | Token::Regex(_, _)
+            | Token::Num { .. }
+            | Token::BigInt { .. }
+            | Token::JSXName { .. }
+            | Token::JSXText { .. }
+            | Token::Shebang(_) => self.copy_texts(alloc),
+            _ => Ok(self.copy_sign()),
+        }
+    }
+
+    /// The same token, where it holds texts and no error. It stands apart from `copy` since each text that may be refused
+    /// costs a proof for all that recurs beside it.
+    fn copy_texts(&self, alloc: Global) -> Result<Token<'a>, AllocError>
+        requires { IsTrue (has_texts self.now) }
+        ensures same { IfOk result (λ token. token_view token ≡ token_view self.now) }
+        ensures free { IsTrue (owns_nothing (token_view self.now)) → IsOk result }
+    {
+        match self {
+            Token::Word(word) => Ok(Token::Word(word.copy(alloc)?)),
+            Token::Template {
+                raw,
+                cooked: Ok(cooked),
+            } => Ok(Token::Template {
+                raw: raw.copy(alloc)?,
+                cooked: Ok(cooked.copy(alloc)?),
             }),
             Token::Str { value, raw } => Ok(Token::Str {
                 value: value.copy(alloc)?,
@@ -239,7 +236,41 @@ impl<'a> Token<'a> {
                 raw: raw.copy(alloc)?,
             }),
             Token::Shebang(text) => Ok(Token::Shebang(text.copy(alloc)?)),
-            Token::Error(error) => Ok(Token::Error(error.copy(alloc)?)),
+            _ => Err(AllocError),
+        }
+    }
+
+    /// The same token, where it holds neither a text nor an error.
+    fn copy_sign(&self) -> Token<'a>
+        requires { IsTrue (is_sign self.now) }
+        ensures { token_view result ≡ token_view self.now }
+    {
+        match self {
+            Token::BinOp(op) => Token::BinOp(*op),
+            Token::AssignOp(op) => Token::AssignOp(*op),
+            Token::Hash => Token::Hash,
+            Token::At => Token::At,
+            Token::Dot => Token::Dot,
+            Token::DotDotDot => Token::DotDotDot,
+            Token::Bang => Token::Bang,
+            Token::LParen => Token::LParen,
+            Token::RParen => Token::RParen,
+            Token::LBracket => Token::LBracket,
+            Token::RBracket => Token::RBracket,
+            Token::LBrace => Token::LBrace,
+            Token::RBrace => Token::RBrace,
+            Token::Semi => Token::Semi,
+            Token::Comma => Token::Comma,
+            Token::BackQuote => Token::BackQuote,
+            Token::Colon => Token::Colon,
+            Token::DollarLBrace => Token::DollarLBrace,
+            Token::QuestionMark => Token::QuestionMark,
+            Token::PlusPlus => Token::PlusPlus,
+            Token::MinusMinus => Token::MinusMinus,
+            Token::Tilde => Token::Tilde,
+            Token::JSXTagStart => Token::JSXTagStart,
+            Token::JSXTagEnd => Token::JSXTagEnd,
+            _ => Token::Arrow,
         }
     }
 

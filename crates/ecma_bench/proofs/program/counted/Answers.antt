@@ -1,4 +1,4 @@
-use Rattle.ecma_bench.proofs.Halting.{some_input, halts_reading}
+use Rattle.ecma_stdio.proofs.Halting.{some_input, halts_reading}
 use Rattle.ecma_bench.proofs.program.counted.Goals as goal
 
 pub returns-in_err-input : goal.returns-in_err-input

@@ -1,8 +1,8 @@
 use Rattle.std.proofs.Common.{◌≡◌, ap, sym, ◌∙◌, length, slice_get, Some}
 use Rattle.ecma_place.specs.Cursor.{rest, passed}
-use Rattle.ecma_scan.specs.Punctuators.{spelling_in, token_in}
-use Rattle.ecma_scan.proofs.BlankGapLemmas.{ascii-is}
-use Rattle.ecma_scan.proofs.PunctuatorLemmas.{first_of-lone, lone-everywhere}
+use Rattle.ecma_grammar.specs.Punctuators.{spelling_in, token_in}
+use Rattle.ecma_gap.proofs.BlankGapLemmas.{ascii-is}
+use Rattle.ecma_grammar.proofs.PunctuatorLemmas.{first_of-lone, lone-everywhere}
 use Rattle.ecma_scan.proofs.punctuator.eat_lone.Goals as goal
 
 pub returns-clause-token : goal.returns-clause-token

@@ -1,8 +1,8 @@
 use Rattle.std.proofs.Common.{◌∷◌, length, sym, ap, ◌∙◌}
 use Rattle.ecma_place.specs.Cursor.{rest, passed}
 use Rattle.ecma_scan.specs.PunctuatorKinds.{kind_token}
-use Rattle.ecma_scan.specs.Punctuators.{punctuators, first_of, token_in, spelling_in}
-use Rattle.ecma_scan.proofs.PunctuatorLemmas.{passed-zero, first_of-lone, first_of-none-at, rest-bumped, count_behind-found, moved-behind}
+use Rattle.ecma_grammar.specs.Punctuators.{punctuators, first_of, token_in, spelling_in}
+use Rattle.ecma_grammar.proofs.PunctuatorLemmas.{passed-zero, first_of-lone, first_of-none-at, rest-bumped, count_behind-found, moved-behind}
 use Rattle.ecma_scan.proofs.punctuator.longest.Goals as goal
 
 pub returns-in-Some-clause-token : goal.returns-in-Some-clause-token

@@ -1,8 +1,8 @@
 use Rattle.std.proofs.Common.{refl, ◌∙◌}
 use Rattle.ecma_place.specs.Cursor.{rest, place}
 use Rattle.ecma_place.proofs.MoveLemmas.{place-passed-le, span-passed}
-use Rattle.ecma_scan.specs.Punctuators.{punctuator_in, spelling_in}
-use Rattle.ecma_scan.proofs.PunctuatorLemmas.{punctuator-front, punctuator-seen}
+use Rattle.ecma_grammar.specs.Punctuators.{punctuator_in, spelling_in}
+use Rattle.ecma_grammar.proofs.PunctuatorLemmas.{punctuator-front, punctuator-seen}
 use Rattle.ecma_scan.proofs.punctuator.scan_punct.Goals as goal
 
 pub new-requires-2 : goal.new-requires-2

@@ -1,7 +1,7 @@
 use Rattle.std.proofs.Common.{◌∙◌}
 use Rattle.ecma_place.specs.Cursor.{rest, place}
 use Rattle.ecma_place.proofs.MoveLemmas.{place-passed-le, span-passed}
-use Rattle.ecma_scan.specs.Shebangs.{shebang}
+use Rattle.ecma_grammar.specs.Shebangs.{shebang}
 use Rattle.ecma_scan.proofs.ShebangLemmas.{shebang-front, shebang-seen}
 use Rattle.ecma_scan.proofs.shebang.scan_shebang.Goals as goal
 

@@ -1,0 +1,12 @@
+pub mod EscapeBytes
+pub mod EscapeForms
+pub mod EscapeReading
+pub mod EscapeSpans
+pub mod NameReading
+pub mod NameRuns
+pub mod PieceReading
+pub mod StringFound
+pub mod StringLaws
+pub mod StringReading
+pub mod WordLaws
+pub mod WordReading

@@ -1,0 +1,45 @@
+-- The parts of an escape that its readers answer.
+use Rattle.std.specs.Prelude.{ℕ, Bool, true, false, List, [], ◌∷◌, Option, Some, None, encode_utf8_all}
+use Rattle.ecma_place.specs.Text.{Text}
+use Rattle.ecma_token.specs.View.{ErrorView, plain}
+use Rattle.ecma_token.specs.declared.error.SyntaxError.{LegacyOctal}
+use Rattle.ecma_escape.specs.declared.escape.Answer.{Answer}
+use Rattle.ecma_escape.specs.declared.escape.Answer.TheVariants as answer
+use Rattle.ecma_grammar.specs.declared.found.Blame.TheVariants.{Strict}
+use Rattle.ecma_grammar.specs.Found.{Fault, error_over}
+use Rattle.ecma_grammar.specs.Escapes.{Use, InString, InTemplate, Escape, Accepted, Refused}
+
+-- what it stands for
+abbrev pub escape_value : Escape → Text
+escape_value (Accepted spelling value faults) = value
+escape_value (Refused spelling error) = []
+
+-- what is said of it
+abbrev pub escape_faults : Escape → List Fault
+escape_faults (Accepted spelling value faults) = faults
+escape_faults (Refused spelling error) = []
+
+-- why it is refused, if it is
+abbrev pub escape_refusal : Escape → Option ErrorView
+escape_refusal (Accepted spelling value faults) = None
+escape_refusal (Refused spelling error) = Some error
+
+-- the same of what is answered of an escape in a string or a template that is not refused, and is written with these bytes
+abbrev pub answer_value : List ℕ → Answer → List ℕ
+answer_value spelling answer.Nothing = []
+answer_value spelling (answer.Character c) = encode_utf8_all (c ∷ [])
+answer_value spelling (answer.Octal c) = encode_utf8_all (c ∷ [])
+answer_value spelling answer.Spelling = spelling
+answer_value spelling (answer.Refused refusal) = []
+
+abbrev pub answer_faults : Answer → List Fault
+answer_faults answer.Nothing = []
+answer_faults (answer.Character c) = []
+answer_faults (answer.Octal c) = record { blame = Strict; error = error_over (plain LegacyOctal) 2 } ∷ []
+answer_faults answer.Spelling = []
+answer_faults (answer.Refused refusal) = []
+
+-- where an escape by itself stands
+abbrev pub use_in : Bool → Use
+use_in true = InTemplate
+use_in false = InString

@@ -1,0 +1,9 @@
+//! Readers of escapes, and of words, in which they stand.
+#![tactic(auto)]
+
+pub mod escape;
+pub mod name;
+pub mod word;
+
+pub use escape::scan_escape;
+pub use word::{eat_plain_word, scan_word};

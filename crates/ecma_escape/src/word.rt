@@ -1,0 +1,144 @@
+//! Words.
+ghost use Rattle.std.specs.Prelude.{◌≡◌, true, length, string_bytes, Result, Ok, Err, IfNone, IfOk, IfSome, IsOk, OnOk};
+ghost use Rattle.ecma_escape.specs.EscapeAnswers.{opens_escape};
+ghost use Rattle.std.specs.List.{prefix_len, take_while};
+ghost use Rattle.ecma_place.specs.Atom.{AtomView, owned_atom};
+ghost use Rattle.ecma_place.specs.Character.{is_ident_part};
+ghost use Rattle.ecma_place.specs.Cursor.{rest, place, passed};
+ghost use Rattle.ecma_syntax.specs.Reserved.{is_reserved};
+ghost use Rattle.ecma_syntax.specs.Word.{word_of, word_kind};
+ghost use Rattle.ecma_syntax.specs.declared.context.Context.{Context};
+ghost use Rattle.ecma_grammar.specs.Found.{found_view, found_at, placeless, scanned, value_view};
+ghost use Rattle.ecma_escape.specs.NameParts.{cow_atom, escaped_word_at, word_at};
+ghost use Rattle.ecma_grammar.specs.Words as grammar;
+
+use crate::escape::at_escape;
+use crate::name::{part_characters, read_name};
+use ecma_grammar::found::Found;
+use ecma_place::{Atom, Span, StringInput};
+use ecma_syntax::{Context, IdentKind, IdentLike, Word, WordKind};
+use ecma_token::{Error, SyntaxError};
+use std::alloc::{AllocError, Global};
+use std::borrow::CowStr;
+
+/// The row of the table of words for this text.
+fn kind_of(text: &str) -> WordKind
+    ensures { result ≡ word_kind (word_of text.now) }
+{
+    let word = Word::from_str(text);
+    word.kind()
+}
+
+/// The word with this text, which an other name owns.
+#[tactic(auto, using(crate::proofs::WordReading::rows))]
+fn owned_word<'a>(text: String) -> Word<'a>
+    ensures { result ≡ grammar.owned_word (word_of (string_bytes text)) }
+{
+    match kind_of(text.as_str()) {
+        WordKind::Keyword(keyword) => Word::Keyword(keyword),
+        WordKind::Null => Word::Null,
+        WordKind::True => Word::True,
+        WordKind::False => Word::False,
+        WordKind::Ident(IdentKind::Known(known)) => Word::Ident(IdentLike::Known(known)),
+        WordKind::Ident(IdentKind::Other) => Word::Ident(IdentLike::Other(Atom::from(text))),
+    }
+}
+
+/// Whether the word with this text is reserved.
+fn is_reserved(context: &Context, text: &str) -> bool
+    ensures { result ≡ is_reserved context.now (word_of text.now) }
+{
+    context.is_reserved(&Word::from_str(text))
+}
+
+/// The word with this text that is written with an escape over this span: none that is reserved (12.7.2).
+fn escaped_word<'a>(
+    alloc: Global,
+    context: &Context,
+    text: String,
+    span: Span,
+) -> Result<Result<Word<'a>, Error<'a>>, AllocError>
+    ensures { IfOk result (λ r. value_view (λ w. w) r ≡ escaped_word_at context.now span (owned_atom (string_bytes text))) }
+{
+    if is_reserved(context, text.as_str()) {
+        let kind = SyntaxError::EscapeInReservedWord {
+            word: Atom::from(text),
+        };
+        return Ok(Err(Error::new(alloc, span, kind)?));
+    }
+    Ok(Ok(owned_word(text)))
+}
+
+/// The word of a name over this span. A name that borrows its text takes no memory.
+fn word_of_name<'a>(
+    alloc: Global,
+    context: &Context,
+    name: Result<CowStr<'a>, Error<'a>>,
+    span: Span,
+) -> Result<Result<Word<'a>, Error<'a>>, AllocError>
+    ensures word { IfOk result (λ r. value_view (λ w. w) r ≡ word_at context.now span (value_view cow_atom name.entry)) }
+    ensures free { (text : AtomView) → value_view cow_atom name.entry ≡ Ok text → text.is_borrowed ≡ true → IsOk result }
+{
+    match name {
+        Err(error) => Ok(Err(error)),
+        Ok(CowStr::Borrowed(text)) => Ok(Ok(Word::from_str(text))),
+        Ok(CowStr::Owned(text)) => escaped_word(alloc, context, text, span),
+    }
+}
+
+/// Moves behind the word at the cursor, where it is written with no escape, and answers it: what [`scan_word`] finds, without
+/// its extent. It is the row of the table of words for the part characters that stand there, which are passed.
+///
+/// Where a backslash follows them there is no answer. No memory is taken. Our own, for speed.
+#[inline(always)]
+pub fn eat_plain_word<'a>(input: &mut StringInput<'a>) -> Option<Word<'a>>
+    ensures word { IfSome result (λ w. (context : Context) →
+        grammar.word context (rest input.old) ≡ scanned w (take_while is_ident_part (rest input.old))) }
+    ensures none { IfNone result (opens_escape (rest input.new) ≡ true) }
+    ensures moved { input.new ≡ passed (prefix_len is_ident_part (rest input.old)) input.old }
+{
+    let text = part_characters(input);
+    if at_escape(input) {
+        return None;
+    }
+    Some(Word::from_str(text))
+}
+
+/// Reads the word at the cursor (ECMA-262 IdentifierName, 12.7): part characters and escapes of code points, as many
+/// as there are.
+///
+/// The cursor stands at a start character or a backslash. The word is the row of the table of words for its unescaped
+/// text, which an other name borrows from the source where it holds no escape. A word that is written with an escape
+/// and is reserved in the context is refused (12.7.2). An escaped character that may not stand in a name, or not first,
+/// is a fault over its escape, and stays (our own choice). A refused escape refuses all from the word's start up to
+/// where reading goes on. A word without an escape takes no memory.
+///
+/// # Errors
+///
+/// `AllocError` where there is no memory for the text or an error; the cursor then stands somewhere in the text.
+pub fn scan_word<'a>(
+    alloc: Global,
+    input: &mut StringInput<'a>,
+    context: &Context,
+) -> Result<Found<'a, Word<'a>>, AllocError>
+    requires { grammar.opens_word (rest input.old) ≡ true }
+    ensures found { IfOk result (λ f. found_view (λ w. w) f ≡
+        found_at placeless (place input.old) (grammar.word context.now (rest input.old))) }
+    ensures moved { OnOk result
+        (input.new ≡ passed (length (grammar.word context.now (rest input.old)).spelling) input.old) }
+    ensures free { (text : AtomView) → (grammar.identifier_name (rest input.old)).value ≡ Ok text → text.is_borrowed ≡ true → IsOk result }
+{
+    let Found {
+        value,
+        faults,
+        extent,
+        line_break,
+    } = read_name(alloc, input)?;
+    let value = word_of_name(alloc, context, value, extent)?;
+    Ok(Found {
+        value,
+        faults,
+        extent,
+        line_break,
+    })
+}

@@ -1,0 +1,10 @@
+pub mod BarsLaws
+pub mod BarsLemmas
+pub mod BlankGapLemmas
+pub mod BodyLemmas
+pub mod ElementLemmas
+pub mod GapFaults
+pub mod MarkerLemmas
+pub mod NextElements
+pub mod ReadingLemmas
+pub mod WhiteLemmas

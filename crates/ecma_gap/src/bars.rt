@@ -1,0 +1,91 @@
+//! Markers of bars. They are our own choice; ECMA-262 knows none.
+ghost use Rattle.std.specs.Prelude.{◌≡◌, true, false, length, option_map, if◌then◌else◌, IfOk, IsOk, OnOk};
+ghost use Rattle.ecma_place.specs.Cursor.{rest, place, passed};
+ghost use Rattle.ecma_grammar.specs.Bars as grammar;
+ghost use Rattle.ecma_grammar.specs.Bars.{common_cutter};
+ghost use Rattle.ecma_grammar.specs.Pieces.{pieces, spelled};
+ghost use Rattle.ecma_gap.specs.Readings.{bars_view, bars_found_at, found_with, gap_view, reading_view};
+
+use crate::element::{read_comment, read_marker};
+use crate::gap::Gap;
+use crate::reading::Reading;
+use crate::white_space::skip_white_space;
+use ecma_grammar::gap_mode::GapMode;
+use ecma_place::StringInput;
+use ecma_token::{Error, SyntaxError};
+use std::alloc::{AllocError, Global};
+
+/// A marker of bars: seven bars and a space, the line, and white space, line and block comments behind it.
+#[derive(Drop)]
+pub struct Bars<'a> {
+    /// What the marker holds, as a gap does: its comments, and its faults, of which its own error is the first.
+    pub gap: Gap<'a>,
+    /// Why the token of the bars is refused: `TS1185` over the bars.
+    pub error: Error<'a>,
+}
+
+/// Reads the comments and the white space at the cursor, as many as there are.
+fn read_comments<'a>(
+    alloc: Global,
+    input: &mut StringInput<'a>,
+    mode: &GapMode,
+    reading: Reading<'a>,
+) -> Result<Gap<'a>, AllocError>
+    ensures gap { IfOk result (λ gap. gap_view gap ≡
+        found_with mode.now (place input.old) (rest input.old) (pieces common_cutter tt (rest input.old)) (reading_view reading.entry)) }
+    ensures moved { OnOk result (input.new ≡ passed (length (spelled common_cutter (pieces common_cutter tt (rest input.old)))) input.old) }
+{
+    let mut reading = reading;
+    let mut more = true;
+    'comments: while more {
+        reading.line_break |= skip_white_space(input);
+        more = read_comment(alloc, input, mode, &mut reading)?;
+    }
+    reading.into_gap(alloc, input.cur_pos())
+}
+
+/// Reads the marker of bars at the cursor.
+fn read_bars<'a>(
+    alloc: Global,
+    input: &mut StringInput<'a>,
+    mode: &GapMode,
+) -> Result<Bars<'a>, AllocError>
+    requires { grammar.opens_bars (rest input.old) ≡ true }
+    ensures bars { IfOk result (λ bars. bars_view bars ≡
+        bars_found_at (place input.old) (grammar.found_bars (place input.old) mode.now (rest input.old))) }
+    ensures moved { OnOk result (input.new ≡ passed (length (grammar.bars_spelling (rest input.old))) input.old) }
+{
+    let mut reading = Reading::new(alloc, true);
+    let span = read_marker(alloc, input, mode, &mut reading, '|')?;
+    let gap = read_comments(alloc, input, mode, reading)?;
+    let error = Error::new(alloc, span, SyntaxError::TS1185)?;
+    Ok(Bars { gap, error })
+}
+
+/// Reads the marker of bars at the cursor, if seven bars and a space stand there: with the line, and the white space, line
+/// and block comments behind it. Where none stands there the cursor stays, and nothing takes memory.
+///
+/// The caller has seen that no token came before, or that a line terminator stands before the bars. So each comment is for
+/// the token of the bars, but a block comment before a semicolon is not.
+///
+/// # Errors
+///
+/// `AllocError` where there is no memory for a fault, a comment or the error; the cursor then stands somewhere in the
+/// text.
+pub fn scan_bars<'a>(
+    alloc: Global,
+    input: &mut StringInput<'a>,
+    mode: &GapMode,
+) -> Result<Option<Bars<'a>>, AllocError>
+    ensures found { IfOk result (λ bars. option_map bars_view bars ≡
+        option_map (bars_found_at (place input.old)) (grammar.bars_at (place input.old) mode.now (rest input.old))) }
+    ensures moved { OnOk result (input.new ≡
+        (if grammar.opens_bars (rest input.old) then passed (length (grammar.bars_spelling (rest input.old))) input.old else input.old)) }
+    ensures free { grammar.opens_bars (rest input.old) ≡ false → IsOk result }
+{
+    if input.is_str("||||||| ") {
+        Ok(Some(read_bars(alloc, input, mode)?))
+    } else {
+        Ok(None)
+    }
+}

@@ -1,0 +1,18 @@
+//! Readers of what stands between tokens: white space, comments, conflict markers, and markers of bars.
+#![tactic(auto)]
+
+mod attachment;
+pub mod bars;
+pub mod blank_gap;
+mod comment;
+mod element;
+pub mod gap;
+mod marker;
+mod reading;
+pub mod skip_whitespace;
+mod white_space;
+
+pub use bars::{Bars, scan_bars};
+pub use blank_gap::{BlankGap, scan_blank_gap};
+pub use gap::{Gap, scan_gap};
+pub use skip_whitespace::SkipWhitespace;

@@ -1,0 +1,14 @@
+pub mod Agreement
+pub mod AttachmentLemmas
+pub mod EscapeLaws
+pub mod Fronts
+pub mod GapForms
+pub mod GapLaws
+pub mod LineLemmas
+pub mod NumberFound
+pub mod NumberRefusals
+pub mod PartFaults
+pub mod PieceLemmas
+pub mod PunctuatorLemmas
+pub mod RunReading
+pub mod SignLemmas

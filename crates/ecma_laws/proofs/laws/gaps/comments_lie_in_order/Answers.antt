@@ -1,0 +1,5 @@
+use Rattle.ecma_scan.proofs.CommentLaws.{comments_lie_in_order}
+use Rattle.ecma_laws.proofs.laws.gaps.comments_lie_in_order.Goals as goal
+
+pub returns : goal.returns
+returns c = comments_lie_in_order

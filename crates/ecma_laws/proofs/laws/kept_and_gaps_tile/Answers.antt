@@ -1,0 +1,5 @@
+use Rattle.ecma_laws.proofs.TilingLemmas.{tiles}
+use Rattle.ecma_laws.proofs.laws.kept_and_gaps_tile.Goals as goal
+
+pub returns : goal.returns
+returns c = tiles

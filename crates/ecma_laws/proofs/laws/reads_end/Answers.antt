@@ -1,0 +1,5 @@
+use Rattle.ecma_stream.proofs.EndingLemmas.{reads_out}
+use Rattle.ecma_laws.proofs.laws.reads_end.Goals as goal
+
+pub returns : goal.returns
+returns c = reads_out

@@ -1,0 +1,5 @@
+use Rattle.ecma_scan.proofs.TemplateLaws.{template_is_local}
+use Rattle.ecma_laws.proofs.laws.templates.template_is_local.Goals as goal
+
+pub returns : goal.returns
+returns c = template_is_local

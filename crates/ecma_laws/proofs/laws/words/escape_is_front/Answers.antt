@@ -1,0 +1,5 @@
+use Rattle.ecma_scan.proofs.EscapeLaws.{escape_is_front}
+use Rattle.ecma_laws.proofs.laws.words.escape_is_front.Goals as goal
+
+pub returns : goal.returns
+returns c = escape_is_front

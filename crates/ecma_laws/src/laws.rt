@@ -1,0 +1,73 @@
+//! Laws over the definitions alone.
+ghost use Rattle.ecma_laws.specs.Collecting.{CollectingChangesNothing, CommentsAreKept};
+ghost use Rattle.ecma_laws.specs.EmptyTokens.{EmptyTokensStandAlone};
+ghost use Rattle.ecma_laws.specs.Excursion.{GoingBackUndoes};
+ghost use Rattle.ecma_stream.specs.Ending.{ReadsOut, TokensRunOut};
+ghost use Rattle.ecma_laws.specs.FewTokens.{TokensAreFew};
+ghost use Rattle.ecma_laws.specs.Order.{AnswersAreInOrder, TokensAreInOrder};
+ghost use Rattle.ecma_state.specs.Reading.{ReadingIsDetermined};
+ghost use Rattle.ecma_laws.specs.Tiling.{Tiles};
+
+pub mod expressions;
+pub mod gaps;
+pub mod numbers;
+pub mod punctuators;
+pub mod strings;
+pub mod templates;
+pub mod words;
+
+/// Gap, own bytes, gap, own bytes and so on, joined, are the text up to where a run stands; once the end was answered,
+/// all of the text.
+pub fn kept_and_gaps_tile()
+    ensures { Tiles }
+{}
+
+/// Enough reads answer the end, from any session, and more of them keep the same tokens and errors.
+pub fn reads_end()
+    ensures { ReadsOut }
+{}
+
+/// What a read finds depends on the mode, on what is left, and on the place of that alone.
+pub fn reading_is_determined()
+    ensures { ReadingIsDetermined }
+{}
+
+/// Each token that is read leaves fewer that may come: at most two for a character, and one.
+pub fn tokens_run_out()
+    ensures { TokensRunOut }
+{}
+
+/// No two tokens without characters stand one after the other.
+pub fn empty_tokens_stand_alone()
+    ensures { EmptyTokensStandAlone }
+{}
+
+/// Every run keeps at most two tokens for each byte of its text.
+pub fn tokens_are_few()
+    ensures { TokensAreFew }
+{}
+
+/// The tokens that a run keeps lie in order, and none over another, whatever its steps were.
+pub fn tokens_are_in_order()
+    ensures { TokensAreInOrder }
+{}
+
+/// So do the tokens that are answered where no step goes back or has a slash read again: they are those that are kept.
+pub fn answers_are_in_order()
+    ensures { AnswersAreInOrder }
+{}
+
+/// Going back undoes all that came since the save, whatever that was: what follows answers as if it had never been.
+pub fn going_back_undoes()
+    ensures { GoingBackUndoes }
+{}
+
+/// Collecting comments changes no token, flag or error, nor anything else but the comments.
+pub fn collecting_changes_nothing()
+    ensures { CollectingChangesNothing }
+{}
+
+/// Each comment that the reads of a run find is kept once, with its kind, span and text.
+pub fn comments_are_kept()
+    ensures { CommentsAreKept }
+{}

@@ -1,5 +1,0 @@
-use Rattle.ecma_lexer.proofs.OrderLemmas.{answers_are_in_order}
-use Rattle.ecma_lexer.proofs.laws.answers_are_in_order.Goals as goal
-
-pub returns : goal.returns
-returns c = answers_are_in_order

@@ -1,5 +1,0 @@
-use Rattle.ecma_lexer.proofs.EmptyLemmas.{empty_tokens_stand_alone}
-use Rattle.ecma_lexer.proofs.laws.empty_tokens_stand_alone.Goals as goal
-
-pub returns : goal.returns
-returns c = empty_tokens_stand_alone

@@ -1,5 +1,0 @@
-use Rattle.ecma_scan.proofs.ExpressionLaws.{body_tiles}
-use Rattle.ecma_lexer.proofs.laws.expressions.body_tiles.Goals as goal
-
-pub returns : goal.returns
-returns c = body_tiles

@@ -1,5 +1,0 @@
-use Rattle.ecma_scan.proofs.ExpressionForms.{expression_is_pieces}
-use Rattle.ecma_lexer.proofs.laws.expressions.expression_is_pieces.Goals as goal
-
-pub returns : goal.returns
-returns c = expression_is_pieces

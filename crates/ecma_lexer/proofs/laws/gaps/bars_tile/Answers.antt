@@ -1,5 +1,0 @@
-use Rattle.ecma_scan.proofs.BarsLaws.{bars_tile}
-use Rattle.ecma_lexer.proofs.laws.gaps.bars_tile.Goals as goal
-
-pub returns : goal.returns
-returns c = bars_tile

@@ -1,5 +1,0 @@
-use Rattle.ecma_scan.proofs.CommentLaws.{comments_lie_in_order}
-use Rattle.ecma_lexer.proofs.laws.gaps.comments_lie_in_order.Goals as goal
-
-pub returns : goal.returns
-returns c = comments_lie_in_order

@@ -1,5 +1,0 @@
-use Rattle.ecma_scan.proofs.GapLaws.{no_element}
-use Rattle.ecma_lexer.proofs.laws.gaps.no_element.Goals as goal
-
-pub returns : goal.returns
-returns c = no_element

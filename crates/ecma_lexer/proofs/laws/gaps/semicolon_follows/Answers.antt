@@ -1,5 +1,0 @@
-use Rattle.ecma_scan.proofs.CommentLaws.{semicolon_is_seen}
-use Rattle.ecma_lexer.proofs.laws.gaps.semicolon_follows.Goals as goal
-
-pub returns : goal.returns
-returns c = semicolon_is_seen

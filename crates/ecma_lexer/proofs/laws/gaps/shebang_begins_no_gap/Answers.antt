@@ -1,5 +1,0 @@
-use Rattle.ecma_scan.proofs.SeparationLaws.{shebang_begins_no_gap}
-use Rattle.ecma_lexer.proofs.laws.gaps.shebang_begins_no_gap.Goals as goal
-
-pub returns : goal.returns
-returns c = shebang_begins_no_gap

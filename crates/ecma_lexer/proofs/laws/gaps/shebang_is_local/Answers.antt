@@ -1,5 +1,0 @@
-use Rattle.ecma_scan.proofs.ShebangLaws.{shebang_is_local}
-use Rattle.ecma_lexer.proofs.laws.gaps.shebang_is_local.Goals as goal
-
-pub returns : goal.returns
-returns c = shebang_is_local

@@ -1,5 +1,0 @@
-use Rattle.ecma_lexer.proofs.GoingBack.{going_back_undoes}
-use Rattle.ecma_lexer.proofs.laws.going_back_undoes.Goals as goal
-
-pub returns : goal.returns
-returns c = going_back_undoes

@@ -1,5 +1,0 @@
-use Rattle.ecma_lexer.proofs.TilingLemmas.{tiles}
-use Rattle.ecma_lexer.proofs.laws.kept_and_gaps_tile.Goals as goal
-
-pub returns : goal.returns
-returns c = tiles

@@ -1,5 +1,0 @@
-use Rattle.ecma_scan.proofs.PunctuatorLaws.{closers_are_local}
-use Rattle.ecma_lexer.proofs.laws.punctuators.closers_are_local.Goals as goal
-
-pub returns : goal.returns
-returns c = closers_are_local

@@ -1,5 +1,0 @@
-use Rattle.ecma_scan.proofs.PunctuatorLaws.{table_is_longest_first}
-use Rattle.ecma_lexer.proofs.laws.punctuators.table_is_longest_first.Goals as goal
-
-pub returns : goal.returns
-returns c = table_is_longest_first

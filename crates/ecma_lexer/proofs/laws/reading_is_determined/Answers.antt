@@ -1,5 +1,0 @@
-use Rattle.ecma_lexer.proofs.DeterminedLemmas.{reading_is_determined}
-use Rattle.ecma_lexer.proofs.laws.reading_is_determined.Goals as goal
-
-pub returns : goal.returns
-returns c = reading_is_determined

@@ -1,5 +1,0 @@
-use Rattle.ecma_scan.proofs.SeparationLaws.{string_begins_no_gap}
-use Rattle.ecma_lexer.proofs.laws.strings.string_begins_no_gap.Goals as goal
-
-pub returns : goal.returns
-returns c = string_begins_no_gap

@@ -1,5 +1,0 @@
-use Rattle.ecma_scan.proofs.StringLaws.{string_is_local}
-use Rattle.ecma_lexer.proofs.laws.strings.string_is_local.Goals as goal
-
-pub returns : goal.returns
-returns c = string_is_local

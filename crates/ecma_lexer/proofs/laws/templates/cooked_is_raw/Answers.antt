@@ -1,5 +1,0 @@
-use Rattle.ecma_scan.proofs.TemplateLaws.{cooked_is_raw}
-use Rattle.ecma_lexer.proofs.laws.templates.cooked_is_raw.Goals as goal
-
-pub returns : goal.returns
-returns c = cooked_is_raw

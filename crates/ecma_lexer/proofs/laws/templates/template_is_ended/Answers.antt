@@ -1,5 +1,0 @@
-use Rattle.ecma_scan.proofs.TemplateLaws.{template_is_ended}
-use Rattle.ecma_lexer.proofs.laws.templates.template_is_ended.Goals as goal
-
-pub returns : goal.returns
-returns c = template_is_ended

@@ -1,5 +1,0 @@
-use Rattle.ecma_lexer.proofs.FewLemmas.{tokens_are_few}
-use Rattle.ecma_lexer.proofs.laws.tokens_are_few.Goals as goal
-
-pub returns : goal.returns
-returns c = tokens_are_few

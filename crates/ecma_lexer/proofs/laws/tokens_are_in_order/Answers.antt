@@ -1,5 +1,0 @@
-use Rattle.ecma_lexer.proofs.TilingLemmas.{tokens_are_in_order}
-use Rattle.ecma_lexer.proofs.laws.tokens_are_in_order.Goals as goal
-
-pub returns : goal.returns
-returns c = tokens_are_in_order

@@ -1,5 +1,0 @@
-use Rattle.ecma_lexer.proofs.EndingLemmas.{tokens_run_out}
-use Rattle.ecma_lexer.proofs.laws.tokens_run_out.Goals as goal
-
-pub returns : goal.returns
-returns c = tokens_run_out

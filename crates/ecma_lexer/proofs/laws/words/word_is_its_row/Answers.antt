@@ -1,5 +1,0 @@
-use Rattle.ecma_scan.proofs.WordLaws.{word_is_its_row}
-use Rattle.ecma_lexer.proofs.laws.words.word_is_its_row.Goals as goal
-
-pub returns : goal.returns
-returns c = word_is_its_row

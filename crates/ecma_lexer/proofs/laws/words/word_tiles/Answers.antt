@@ -1,5 +1,0 @@
-use Rattle.ecma_scan.proofs.WordLaws.{word_tiles}
-use Rattle.ecma_lexer.proofs.laws.words.word_tiles.Goals as goal
-
-pub returns : goal.returns
-returns c = word_tiles

@@ -1,8 +1,0 @@
-use Rattle.std.proofs.Common.{◌∙◌, ap, refl}
-use Rattle.ecma_lexer.proofs.SlashLemmas.{kept-lexer}
-use Rattle.ecma_lexer.proofs.lexer.Lexer.set_expr_allowed.Goals as goal
-
-pub invariant_of-self : goal.invariant_of-self
-invariant_of-self c =
-    kept-lexer c.self.inside _ _ c.self-inside.view_is c.self.invariant refl refl refl refl
-    (ap (λ a. a.comments.pending_leading) c.self-inside.view_is ∙ c.self.invariant.none_pending)

@@ -1,0 +1,41 @@
+-- What is written of the comments of a text: a line each. The form of the lines is our own choice.
+use Rattle.std.specs.Prelude.{ℕ, true, List, [], ◌∷◌, ◌++◌, Option, codes, decimal, flat_map, option_map}
+use Rattle.ecma_place.specs.declared.comment.CommentKind.{CommentKind}
+use Rattle.ecma_place.specs.declared.comment.CommentKind.TheVariants.{Line, Block}
+use Rattle.ecma_lexer.specs.Ending.{comments_of}
+use Rattle.ecma_lexer.specs.Session.{Session}
+use Rattle.ecma_lexer.specs.declared.comments_buffer.BufferedComment.{BufferedComment}
+use Rattle.ecma_lexer.specs.declared.comments_buffer.BufferedCommentKind.{BufferedCommentKind}
+use Rattle.ecma_lexer.specs.declared.comments_buffer.BufferedCommentKind.TheVariants.{Leading, Trailing}
+use Rattle.ecma_lines.specs.Lines.{escaped}
+use Rattle.ecma_lines.specs.Opening.{opening}
+use Rattle.ecma_lines.specs.declared.command.Options.{Options}
+
+abbrev pub side_name : BufferedCommentKind → List ℕ
+side_name Leading = codes "leading"
+side_name Trailing = codes "trailing"
+
+abbrev pub form_name : CommentKind → List ℕ
+form_name Line = codes "line"
+form_name Block = codes "block"
+
+-- its side, the place of its token, where it lies and its form, each with a space behind it
+abbrev pub comment_head : BufferedComment → List ℕ
+comment_head c =
+    side_name c.kind
+    ++ (codes " "
+    ++ (decimal c.pos.0 ++ (codes " " ++ (decimal c.comment.span.lo.0 ++ (codes " " ++ (decimal c.comment.span.hi.0 ++ (codes " " ++ (form_name c.comment.kind ++ codes " "))))))))
+
+-- the line of a comment; what it says stands behind its head
+abbrev pub comment_line : BufferedComment → List ℕ
+comment_line c = comment_head c ++ escaped c.comment.text.bytes ++ 10 ∷ []
+
+abbrev pub comment_lines : List BufferedComment → List ℕ
+comment_lines comments = flat_map comment_line comments
+
+-- the comments in the order in which the lexer hands them over
+abbrev pub comments_from : Session → List ℕ
+comments_from s = comment_lines (comments_of s)
+
+abbrev pub comments_text : Options → List ℕ → List ℕ → Option (List ℕ)
+comments_text options rereads bytes = option_map comments_from (opening true options rereads bytes)

@@ -1,0 +1,9 @@
+pub mod Begin
+pub mod Command
+pub mod CommentLines
+pub mod ErrorLines
+pub mod Gathered
+pub mod Lines
+pub mod MessageView
+pub mod Opening
+pub mod Reply

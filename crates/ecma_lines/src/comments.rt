@@ -1,0 +1,162 @@
+//! What is written of the comments of a text: a line each.
+ghost use Rattle.std.specs.Prelude.{◌≡◌, ◌++◌, ◌∷◌, [], None, Some, ◌^◌, ◌<◌, true, is_some, length, string_bytes, IfOk, IfErr, MatchResult, OnOk, OnErr};
+ghost use Rattle.ecma_lexer.specs.Ending.{comments_of};
+ghost use Rattle.ecma_lexer.specs.HandOver.{has_comments};
+ghost use Rattle.ecma_lexer.specs.Run.{reading_of, state_behind};
+ghost use Rattle.ecma_lexer.specs.Session.{Session, lexer_state, state_of};
+ghost use Rattle.ecma_lines.specs.CommentLines as grammar;
+ghost use Rattle.ecma_lines.specs.Opening.{Lacks};
+
+use crate::command::Options;
+use crate::lines::push_escaped;
+use crate::opening::open;
+use ecma_lexer::{BufferedComment, BufferedCommentKind, Lexer, hand_comments};
+use ecma_place::{BytePos, Comment, CommentKind, Comments};
+use ecma_stdio::Fault;
+use std::alloc::{AllocError, Global};
+
+/// The comments that were handed over, in order.
+#[derive(Drop)]
+struct Handed<'a> {
+    comments: Vec<BufferedComment<'a>>,
+}
+
+impl<'a> Handed<'a> {
+    /// Adds a comment, or gives it back where there is no memory for it.
+    fn add(&mut self, buffered: BufferedComment<'a>) -> Result<(), Comment<'a>>
+        ensures ok { OnOk result (self.new.comments.items ≡ self.old.comments.items ++ buffered.entry ∷ []) }
+        ensures err { OnErr result (self.new.comments.items ≡ self.old.comments.items) }
+        ensures back { IfErr result (λ c. c ≡ buffered.entry.comment) }
+    {
+        self.comments
+            .push(buffered)
+            .map_err(|failed| failed.value.comment)
+    }
+}
+
+impl<'a> Comments<'a> for Handed<'a> {
+    ghost use Rattle.std.specs.Prelude.{map};
+    ghost use Rattle.ecma_lexer.specs.HandOver.{added_of};
+
+    ghost added = { λ s. map added_of s.comments.items };
+
+    fn add_leading(&mut self, pos: BytePos, comment: Comment<'a>) -> Result<(), Comment<'a>> {
+        self.add(BufferedComment {
+            kind: BufferedCommentKind::Leading,
+            pos,
+            comment,
+        })
+    }
+
+    fn add_trailing(&mut self, pos: BytePos, comment: Comment<'a>) -> Result<(), Comment<'a>> {
+        self.add(BufferedComment {
+            kind: BufferedCommentKind::Trailing,
+            pos,
+            comment,
+        })
+    }
+}
+
+fn side_name(kind: BufferedCommentKind) -> &'static str
+    ensures { result.now ≡ grammar.side_name kind }
+{
+    match kind {
+        BufferedCommentKind::Leading => "leading",
+        BufferedCommentKind::Trailing => "trailing",
+    }
+}
+
+fn form_name(kind: CommentKind) -> &'static str
+    ensures { result.now ≡ grammar.form_name kind }
+{
+    match kind {
+        CommentKind::Line => "line",
+        CommentKind::Block => "block",
+    }
+}
+
+/// Its side, the place of its token, where it lies and its form, each with a space behind it.
+fn head(alloc: Global, buffered: &BufferedComment) -> Result<String, AllocError>
+    ensures { IfOk result (λ text. string_bytes text ≡ grammar.comment_head buffered.now) }
+{
+    let side = side_name(buffered.kind);
+    let pos = buffered.pos.0;
+    let lo = buffered.comment.span.lo.0;
+    let hi = buffered.comment.span.hi.0;
+    let form = form_name(buffered.comment.kind);
+    format!(in alloc; "{side} {pos} {lo} {hi} {form} ")
+}
+
+/// Adds the line of a comment.
+fn push_comment(
+    alloc: Global,
+    out: &mut Vec<u8>,
+    buffered: &BufferedComment,
+) -> Result<(), AllocError>
+    ensures { OnOk result (out.new.items ≡ out.old.items ++ grammar.comment_line buffered.now) }
+{
+    let head = head(alloc, buffered)?;
+    out.extend_from_slice(head.as_bytes())?;
+    push_escaped(out, buffered.comment.text.as_str().as_bytes())?;
+    out.push(b'\n')?;
+    Ok(())
+}
+
+/// Adds the lines of comments, in order.
+fn push_comments(
+    alloc: Global,
+    out: &mut Vec<u8>,
+    comments: &[BufferedComment],
+) -> Result<(), AllocError>
+    ensures { OnOk result (out.new.items ≡ out.old.items ++ grammar.comment_lines comments.now) }
+{
+    for comment in comments {
+        push_comment(alloc, out, comment)?;
+    }
+    Ok(())
+}
+
+/// Reads the next token, and says whether there was one.
+fn pass_next(lexer: &mut Lexer) -> Result<bool, AllocError>
+    ensures more { IfOk result (λ more. more ≡ is_some (reading_of (lexer_state lexer.old)).found) }
+    ensures after { OnOk result (lexer_state lexer.new ≡ state_behind (lexer_state lexer.old) (reading_of (lexer_state lexer.old))) }
+{
+    Ok(lexer.read()?.is_some())
+}
+
+/// Reads to the end, behind which the comments may be handed over.
+fn read_out(lexer: &mut Lexer) -> Result<(), AllocError>
+    requires { lexer.old.reread ≡ None }
+    ensures comments { (s : Session) → state_of s ≡ lexer_state lexer.old → OnOk result ((lexer_state lexer.new).comments ≡ comments_of s) }
+    ensures ended { (s : Session) → state_of s ≡ lexer_state lexer.old → OnOk result (has_comments (lexer_state lexer.new) ≡ true) }
+{
+    'tokens: while pass_next(lexer)? {}
+    Ok(())
+}
+
+/// The lines of the comments of a text that starts at the place 0, where the tokens with these numbers are read again.
+///
+/// # Errors
+///
+/// `NoSlash` where one of those is no slash or isn't there; `OutOfMemory`.
+pub fn comments_text(
+    alloc: Global,
+    options: Options,
+    rereads: &[u64],
+    text: &str,
+) -> Result<Vec<u8>, Fault>
+    requires { length text.now < 2 ^ 32 }
+    ensures { MatchResult result
+        (λ out. grammar.comments_text options rereads.now text.now ≡ Some out.items)
+        (λ fault. Lacks (grammar.comments_text options rereads.now text.now) fault) }
+{
+    let mut lexer = open(alloc, true, options, rereads, text)?.lexer;
+    read_out(&mut lexer)?;
+    let mut handed = Handed {
+        comments: Vec::new(alloc),
+    };
+    hand_comments(&mut lexer, &mut handed)?;
+    let mut out = Vec::new(alloc);
+    push_comments(alloc, &mut out, &handed.comments)?;
+    Ok(out)
+}

@@ -1,0 +1,177 @@
+//! What is written of the tokens of a text: a line each.
+ghost use Rattle.std.specs.Prelude.{◌≡◌, ◌++◌, ◌+◌, ◌^◌, ◌<◌, ◌≤◌, Some, length, map, string_bytes, option_map, IfOk, MatchResult, OnOk};
+ghost use Rattle.ecma_lexer.specs.Run.{reading_of, state_behind};
+ghost use Rattle.ecma_lexer.specs.Session.{kept_of, lexer_state};
+ghost use Rattle.ecma_token.specs.View.{spanned_view};
+ghost use Rattle.ecma_lines.specs.Lines as grammar;
+ghost use Rattle.ecma_lines.specs.Opening.{AllWithin, Lacks};
+
+use crate::command::Options;
+use crate::opening::{Opened, open};
+use ecma_lexer::{Kept, Lexer};
+use ecma_stdio::Fault;
+use ecma_syntax::WordKind;
+use ecma_token::{TokenAndSpan, TokenKind};
+use std::alloc::{AllocError, Global};
+
+fn word_name(kind: WordKind) -> &'static str
+    ensures { result.now ≡ grammar.word_name kind }
+{
+    match kind {
+        WordKind::Keyword(_) => "Keyword",
+        WordKind::Null => "Null",
+        WordKind::True => "True",
+        WordKind::False => "False",
+        WordKind::Ident(_) => "Ident",
+    }
+}
+
+/// The name of the variant; of a word, that of its kind.
+fn kind_name(kind: TokenKind) -> &'static str
+    ensures { result.now ≡ grammar.kind_name kind }
+{
+    match kind {
+        TokenKind::Word(word) => word_name(word),
+        TokenKind::Arrow => "Arrow",
+        TokenKind::Hash => "Hash",
+        TokenKind::At => "At",
+        TokenKind::Dot => "Dot",
+        TokenKind::DotDotDot => "DotDotDot",
+        TokenKind::Bang => "Bang",
+        TokenKind::LParen => "LParen",
+        TokenKind::RParen => "RParen",
+        TokenKind::LBracket => "LBracket",
+        TokenKind::RBracket => "RBracket",
+        TokenKind::LBrace => "LBrace",
+        TokenKind::RBrace => "RBrace",
+        TokenKind::Semi => "Semi",
+        TokenKind::Comma => "Comma",
+        TokenKind::BackQuote => "BackQuote",
+        TokenKind::Template => "Template",
+        TokenKind::Colon => "Colon",
+        TokenKind::BinOp(_) => "BinOp",
+        TokenKind::AssignOp(_) => "AssignOp",
+        TokenKind::DollarLBrace => "DollarLBrace",
+        TokenKind::QuestionMark => "QuestionMark",
+        TokenKind::PlusPlus => "PlusPlus",
+        TokenKind::MinusMinus => "MinusMinus",
+        TokenKind::Tilde => "Tilde",
+        TokenKind::Str => "Str",
+        TokenKind::Regex => "Regex",
+        TokenKind::Num => "Num",
+        TokenKind::BigInt => "BigInt",
+        TokenKind::JSXName => "JSXName",
+        TokenKind::JSXText => "JSXText",
+        TokenKind::JSXTagStart => "JSXTagStart",
+        TokenKind::JSXTagEnd => "JSXTagEnd",
+        TokenKind::Shebang => "Shebang",
+        TokenKind::Error => "Error",
+    }
+}
+
+fn flag_text(flag: bool) -> &'static str
+    ensures { result.now ≡ grammar.flag_text flag }
+{
+    if flag { "lf" } else { "-" }
+}
+
+/// Where the token begins and ends, its flag and its kind, each with a space behind it.
+fn head(alloc: Global, token: Kept) -> Result<String, AllocError>
+    ensures { IfOk result (λ text. string_bytes text ≡ grammar.head token) }
+{
+    let lo = token.span.lo.0;
+    let hi = token.span.hi.0;
+    let flag = flag_text(token.flag);
+    let kind = kind_name(token.kind);
+    format!(in alloc; "{lo} {hi} {flag} {kind} ")
+}
+
+/// Adds the byte, with a backslash where it is one, a line feed or a carriage return.
+fn push_escaped_byte(out: &mut Vec<u8>, byte: u8) -> Result<(), AllocError>
+    ensures { OnOk result (out.new.items ≡ out.old.items ++ grammar.escaped_byte byte) }
+{
+    match byte {
+        b'\\' => out.extend_from_slice(b"\\\\"),
+        b'\n' => out.extend_from_slice(b"\\n"),
+        b'\r' => out.extend_from_slice(b"\\r"),
+        _ => Ok(out.push(byte)?),
+    }
+}
+
+/// Adds the bytes, each as `push_escaped_byte` does.
+pub fn push_escaped(out: &mut Vec<u8>, bytes: &[u8]) -> Result<(), AllocError>
+    ensures { OnOk result (out.new.items ≡ out.old.items ++ grammar.escaped bytes.now) }
+{
+    for byte in bytes {
+        push_escaped_byte(out, *byte)?;
+    }
+    Ok(())
+}
+
+/// Adds the line of a token of the text with these bytes, which starts at the place 0.
+fn push_line(alloc: Global, out: &mut Vec<u8>, bytes: &[u8], token: Kept) -> Result<(), AllocError>
+    requires in_order { token.span.lo.0 ≤ token.span.hi.0 }
+    requires within { token.span.hi.0 ≤ length bytes.now }
+    ensures { OnOk result (out.new.items ≡ out.old.items ++ grammar.line bytes.now token) }
+{
+    let head = head(alloc, token)?;
+    out.extend_from_slice(head.as_bytes())?;
+    push_escaped(
+        out,
+        &bytes[token.span.lo.0 as usize..token.span.hi.0 as usize],
+    )?;
+    out.push(b'\n')?;
+    Ok(())
+}
+
+/// What is kept of the next token, or nothing at the end.
+fn next_kept(lexer: &mut Lexer) -> Result<Option<Kept>, AllocError>
+    ensures kept { IfOk result (λ kept. kept ≡ option_map kept_of (reading_of (lexer_state lexer.old)).found) }
+    ensures after { OnOk result (lexer_state lexer.new ≡ state_behind (lexer_state lexer.old) (reading_of (lexer_state lexer.old))) }
+{
+    match lexer.read()? {
+        Some(token) => Ok(Some(Kept::from(token))),
+        None => Ok(None),
+    }
+}
+
+/// Adds the lines of these tokens of the text, in order.
+fn push_lines(
+    alloc: Global,
+    out: &mut Vec<u8>,
+    bytes: &[u8],
+    tokens: &[TokenAndSpan],
+) -> Result<(), AllocError>
+    requires { AllWithin (length bytes.now) (map spanned_view tokens.now) }
+    ensures { OnOk result (out.new.items ≡ out.old.items ++ grammar.lines bytes.now (map kept_of (map spanned_view tokens.now))) }
+{
+    for token in tokens {
+        push_line(alloc, out, bytes, Kept::of(token))?;
+    }
+    Ok(())
+}
+
+/// The lines of the tokens of a text that starts at the place 0, where those with these numbers are read again.
+///
+/// # Errors
+///
+/// `NoSlash` where one of those is no slash or isn't there; `OutOfMemory`.
+pub fn tokens_text(
+    alloc: Global,
+    options: Options,
+    rereads: &[u64],
+    text: &str,
+) -> Result<Vec<u8>, Fault>
+    requires { length text.now < 2 ^ 32 }
+    ensures { MatchResult result
+        (λ out. grammar.tokens_text options rereads.now text.now ≡ Some out.items)
+        (λ fault. Lacks (grammar.tokens_text options rereads.now text.now) fault) }
+{
+    let Opened { mut lexer, tokens } = open(alloc, false, options, rereads, text)?;
+    let mut out = Vec::new(alloc);
+    push_lines(alloc, &mut out, text.as_bytes(), &tokens)?;
+    'tokens: while let Some(token) = next_kept(&mut lexer)? {
+        push_line(alloc, &mut out, text.as_bytes(), token)?;
+    }
+    Ok(out)
+}

@@ -1,0 +1,8 @@
+pub mod ExpressionForms
+pub mod ExpressionFound
+pub mod ExpressionLaws
+pub mod ExpressionPieces
+pub mod PlainRuns
+pub mod TemplateFound
+pub mod TemplateLaws
+pub mod TemplatePieces

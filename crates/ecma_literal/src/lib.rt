@@ -1,0 +1,10 @@
+//! Readers of strings, template texts and regular expressions.
+#![tactic(auto)]
+
+pub mod expression;
+pub mod string;
+pub mod template;
+
+pub use expression::scan_regexp;
+pub use string::scan_string;
+pub use template::scan_template;

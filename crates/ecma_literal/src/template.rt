@@ -1,0 +1,126 @@
+//! Template text.
+ghost use Rattle.std.specs.Prelude.{◌≡◌, ◌≤◌, ◌<◌, Ok, true, false, length, IfOk, IsOk, OnOk};
+ghost use Rattle.std.specs.List.{list_all};
+ghost use Rattle.ecma_place.specs.Cursor.{rest, place, passed};
+ghost use Rattle.ecma_token.specs.View.{token_view};
+ghost use Rattle.ecma_grammar.specs.Found.{found_view, found_at, token_behind};
+ghost use Rattle.ecma_grammar.specs.Locality.{ends_template, is_accepted};
+ghost use Rattle.ecma_grammar.specs.Pieces.{pieces};
+ghost use Rattle.ecma_grammar.specs.Templates as grammar;
+
+mod cooked;
+mod pieces;
+mod survey;
+mod token;
+
+use crate::template::survey::survey_text;
+use crate::template::token::template_token;
+use ecma_grammar::found::Found;
+use ecma_place::{BytePos, Span, StringInput};
+use ecma_token::{Error, SyntaxError, Token};
+use std::alloc::{AllocError, Global};
+
+/// Whether a back quote or `${` stands at the cursor.
+fn is_at_mark(input: &StringInput) -> bool
+    ensures { result ≡ ends_template (rest input.now) }
+{
+    input.cur() == Some('`') || (input.cur() == Some('$') && input.peek() == Some('{'))
+}
+
+/// Moves behind the back quote or `${` at the cursor, and answers it.
+fn read_mark<'a>(input: &mut StringInput) -> Token<'a>
+    requires { ends_template (rest input.old) ≡ true }
+    ensures value { (grammar.mark_of (grammar.template_end (rest input.old))).value ≡ Ok (token_view result) }
+    ensures moved { input.new ≡ passed (length (grammar.mark_of (grammar.template_end (rest input.old))).spelling) input.old }
+{
+    if input.eat_byte(b'`') {
+        return Token::BackQuote;
+    }
+    input.bump();
+    input.bump();
+    Token::DollarLBrace
+}
+
+/// Reads the back quote or `${` at the cursor. No memory is taken.
+fn scan_mark<'a>(alloc: Global, input: &mut StringInput<'a>) -> Found<'a, Token<'a>>
+    requires { ends_template (rest input.old) ≡ true }
+    ensures found { found_view token_view result
+        ≡ found_at token_behind (place input.old) (grammar.mark_of (grammar.template_end (rest input.old))) }
+    ensures moved { input.new ≡ passed (length (grammar.mark_of (grammar.template_end (rest input.old))).spelling) input.old }
+{
+    let start = input.cur_pos();
+    let token = read_mark(input);
+    Found {
+        value: Ok(token),
+        faults: Vec::new(alloc),
+        extent: Span::new(start, input.cur_pos()),
+        line_break: false,
+    }
+}
+
+/// Reads the template text at the cursor, which may be empty, in a template that was opened at the place.
+fn scan_text<'a>(
+    alloc: Global,
+    input: &mut StringInput<'a>,
+    opened: BytePos,
+) -> Result<Found<'a, Token<'a>>, AllocError>
+    requires { opened.0 ≤ place input.old }
+    ensures found { IfOk result (λ f. found_view token_view f
+        ≡ grammar.template_found opened.0 (place input.old) (grammar.template_text false (rest input.old))) }
+    ensures moved { OnOk result (input.new ≡ passed (length (grammar.template_text false (rest input.old)).spelling) input.old) }
+    ensures free { list_all grammar.is_verbatim (pieces grammar.template_cutter tt (rest input.old)) ≡ true
+        → is_accepted (grammar.template_text false (rest input.old)).value ≡ true → IsOk result }
+{
+    let mut text = input.clone()?;
+    let start = input.cur_pos();
+    let survey = survey_text(input);
+    let extent = Span::new(start, input.cur_pos());
+    let value = match input.cur() {
+        None => {
+            let span = Span::new(opened, extent.hi);
+            Err(Error::new(alloc, span, SyntaxError::UnterminatedTpl)?)
+        }
+        Some(_) => {
+            let raw = input.slice(extent.lo, extent.hi);
+            Ok(template_token(alloc, raw, survey, &mut text)?)
+        }
+    };
+    Ok(Found {
+        value,
+        faults: Vec::new(alloc),
+        extent,
+        line_break: survey.line_break,
+    })
+}
+
+/// Reads what stands at the cursor in a template (ECMA-262 TemplateCharacters, 12.9.6), and moves behind it: text up to
+/// a back quote, `${` or the end, or, where no text stands behind template text, the back quote or `${`.
+///
+/// The cursor does not stand at the end. `opened` is the place of the last back quote that opened a template, or the
+/// lexer's start place, and not behind the cursor; `after_template` says that the last token was template text. The
+/// answer is a `Template`, a `BackQuote` or a `DollarLBrace`. An escape that is refused is the error that stands in the
+/// `Template` for what the text means, the last one where there are several. Text that meets the end is refused with
+/// `UnterminatedTpl`, from `opened` to the end: our own choice. There are no faults. The flag says whether a line
+/// terminator stands in the text outside an escape.
+///
+/// Text without escape, CR and refusal takes no memory.
+pub fn scan_template<'a>(
+    alloc: Global,
+    input: &mut StringInput<'a>,
+    opened: BytePos,
+    after_template: bool,
+) -> Result<Found<'a, Token<'a>>, AllocError>
+    requires more { 0 < length (rest input.old) }
+    requires opened { opened.0 ≤ place input.old }
+    ensures found { IfOk result (λ f. found_view token_view f
+        ≡ grammar.template_found opened.0 (place input.old) (grammar.template_text after_template (rest input.old))) }
+    ensures moved { OnOk result (input.new ≡ passed (length (grammar.template_text after_template (rest input.old)).spelling) input.old) }
+    ensures free { list_all grammar.is_verbatim (pieces grammar.template_cutter tt (rest input.old)) ≡ true
+        → is_accepted (grammar.template_text after_template (rest input.old)).value ≡ true → IsOk result }
+{
+    if after_template && is_at_mark(input) {
+        Ok(scan_mark(alloc, input))
+    } else {
+        scan_text(alloc, input, opened)
+    }
+}

@@ -1,0 +1,41 @@
+//! What template text means (the standard's TV).
+ghost use Rattle.std.specs.Prelude.{◌≡◌, ◌++◌, OnOk, IfOk, IsOk, true, length, encode_utf8_all, string_bytes};
+ghost use Rattle.std.specs.List.{list_all};
+ghost use Rattle.ecma_place.specs.Cursor.{rest, passed};
+ghost use Rattle.ecma_place.specs.Text.{Text};
+ghost use Rattle.ecma_grammar.specs.Pieces.{pieces, spelled};
+ghost use Rattle.ecma_grammar.specs.Templates as grammar;
+ghost use Rattle.ecma_literal.specs.WrittenTemplates.{piece_of};
+
+use crate::template::pieces::{Piece, read_piece};
+use ecma_escape::escape::push_value;
+use ecma_place::StringInput;
+use std::alloc::{AllocError, Global};
+
+/// Adds what a piece means that is written so.
+#[tactic(auto, using(crate::proofs::TemplatePieces::cooked_answers))]
+fn push_piece(cooked: &mut String, piece: Piece, spelling: &str) -> Result<(), AllocError>
+    ensures { (text : Text) → spelling.now ≡ encode_utf8_all text
+        → OnOk result (string_bytes cooked.new ≡ string_bytes cooked.old ++ encode_utf8_all (grammar.cooked_piece (piece_of text piece))) }
+{
+    match piece {
+        Piece::Plain(c) => cooked.push(c),
+        Piece::Break(c) => cooked.push(if c == '\r' { '\n' } else { c }),
+        Piece::Return(_) => cooked.push('\n'),
+        Piece::Escaped(answer) => push_value(cooked, answer, spelling),
+    }
+}
+
+/// Moves over template text, up to a back quote, `${` or the end, and answers what it means.
+pub(super) fn cook_text(alloc: Global, input: &mut StringInput) -> Result<String, AllocError>
+    ensures { IfOk result (λ s. string_bytes s ≡ encode_utf8_all (grammar.cooked_text (pieces grammar.template_cutter tt (rest input.old)))) }
+{
+    let mut cooked = String::new(alloc);
+    let mut start = input.cur_pos();
+    'pieces: while let Some(piece) = read_piece(input) {
+        let end = input.cur_pos();
+        push_piece(&mut cooked, piece, input.slice(start, end))?;
+        start = end;
+    }
+    Ok(cooked)
+}

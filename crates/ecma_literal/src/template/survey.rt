@@ -1,0 +1,84 @@
+//! What stands in template text, before anything is made of it.
+ghost use Rattle.std.specs.Prelude.{◌≡◌, ◌≤◌, ◌+◌, ℕ, None, option_map, length};
+ghost use Rattle.std.specs.List.{list_all, list_any};
+ghost use Rattle.ecma_place.specs.Cursor.{rest, place, passed};
+ghost use Rattle.ecma_place.specs.Text.{Text};
+ghost use Rattle.ecma_escape.specs.EscapeAnswers.{refusal_error};
+ghost use Rattle.ecma_grammar.specs.Escapes.{InTemplate};
+ghost use Rattle.ecma_grammar.specs.Found.{span_behind};
+ghost use Rattle.ecma_grammar.specs.Pieces.{pieces, spelled};
+ghost use Rattle.ecma_grammar.specs.Templates as grammar;
+ghost use Rattle.ecma_literal.specs.WrittenTemplates.{piece_of, refused_at};
+ghost use Rattle.ecma_escape.specs.declared.escape.Refusal.{Refusal};
+ghost use Rattle.ecma_escape.specs.declared.escape.Answer.TheVariants.{Refused};
+ghost use Rattle.ecma_literal.specs.declared.template.pieces.Piece.TheVariants.{Escaped};
+
+use crate::template::pieces::{Piece, is_break, is_verbatim, read_piece};
+use ecma_escape::escape::{Answer, Refusal};
+use ecma_place::{BytePos, Span, StringInput};
+
+/// What stands in template text.
+#[derive(Clone, Copy)]
+pub(super) struct Survey {
+    /// Whether it means what is written: it holds neither an escape nor a CR.
+    pub(super) is_verbatim: bool,
+    /// Whether a line terminator stands in it as itself.
+    pub(super) line_break: bool,
+    /// Why the last escape that is refused is so, and where.
+    pub(super) refusal: Option<(Refusal, Span)>,
+}
+
+/// Where the error of a refused escape lies that reaches from one place to another.
+fn refusal_span(refusal: Refusal, start: BytePos, end: BytePos) -> Span
+    requires { start.0 ≤ end.0 }
+    ensures { (n : ℕ) → start.0 + n ≡ end.0 → result ≡ span_behind start.0 (refusal_error InTemplate refusal n).span }
+{
+    match refusal {
+        Refusal::NoCodePoint => Span::new(start, start),
+        Refusal::AtEnd => Span::new(start, start),
+        _ => Span::new(start, end),
+    }
+}
+
+/// The refusal of a piece that reaches from one place to another, or the one before it.
+fn newer(
+    before: Option<(Refusal, Span)>,
+    piece: Piece,
+    start: BytePos,
+    end: BytePos,
+) -> Option<(Refusal, Span)>
+    requires { start.0 ≤ end.0 }
+    ensures { (spelling : Text) → ((refusal : Refusal) → piece ≡ Escaped (Refused refusal) → start.0 + length spelling ≡ end.0)
+        → option_map refused_at result ≡ grammar.newer start.0 (option_map refused_at before) (grammar.piece_refusal (piece_of spelling piece)) }
+{
+    match piece {
+        Piece::Escaped(Answer::Refused(refusal)) => {
+            Some((refusal, refusal_span(refusal, start, end)))
+        }
+        _ => before,
+    }
+}
+
+/// Moves over template text, up to a back quote, `${` or the end, and says what stands in it. No memory is taken.
+pub(super) fn survey_text(input: &mut StringInput) -> Survey
+    ensures verbatim { result.is_verbatim ≡ list_all grammar.is_verbatim (pieces grammar.template_cutter tt (rest input.old)) }
+    ensures line_break { result.line_break ≡ list_any grammar.is_break (pieces grammar.template_cutter tt (rest input.old)) }
+    ensures refusal { option_map refused_at result.refusal
+        ≡ grammar.last_refusal (place input.old) None (pieces grammar.template_cutter tt (rest input.old)) }
+    ensures moved { input.new ≡ passed (length (spelled grammar.template_cutter (pieces grammar.template_cutter tt (rest input.old)))) input.old }
+{
+    let mut survey = Survey {
+        is_verbatim: true,
+        line_break: false,
+        refusal: None,
+    };
+    let mut start = input.cur_pos();
+    'pieces: while let Some(piece) = read_piece(input) {
+        let end = input.cur_pos();
+        survey.is_verbatim &= is_verbatim(piece);
+        survey.line_break |= is_break(piece);
+        survey.refusal = newer(survey.refusal, piece, start, end);
+        start = end;
+    }
+    survey
+}

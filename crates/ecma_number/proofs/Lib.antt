@@ -1,0 +1,9 @@
+pub mod DigitValues
+pub mod NumberDigits
+pub mod NumberForms
+pub mod NumberLaws
+pub mod NumberLocal
+pub mod NumberReading
+pub mod OctalFaults
+pub mod Refusals
+pub mod RunFaults

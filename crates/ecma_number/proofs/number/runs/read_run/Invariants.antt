@@ -1,0 +1,11 @@
+use Rattle.std.proofs.Common.{◌≡◌, length}
+use Rattle.ecma_place.specs.Cursor.{rest, place}
+use Rattle.ecma_place.proofs.RunLemmas.{IsOnRun}
+use Rattle.ecma_grammar.specs.Numbers.{in_run}
+use Rattle.ecma_number.proofs.number.runs.read_run.Given as goal
+
+abbrev pub invariant-chars : goal.invariant-chars
+invariant-chars l = IsOnRun (in_run l.radix) l.fn.input l.input × (l.start.0 ≡ place l.fn.input)
+
+abbrev pub decreases-chars : goal.decreases-chars
+decreases-chars l = length (rest l.input)

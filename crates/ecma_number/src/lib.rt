@@ -1,0 +1,6 @@
+//! The reader of numbers.
+#![tactic(auto)]
+
+pub mod number;
+
+pub use number::scan_number;

@@ -1,0 +1,144 @@
+//! Why a number is refused.
+ghost use Rattle.std.specs.Prelude.{◌≡◌, ◌<◌, ◌+◌, ◌^◌, ◌↔◌, ℕ, IsTrue, None, length, option_map, IfOk, IsOk};
+ghost use Rattle.ecma_place.specs.Text.{byte_len};
+ghost use Rattle.ecma_place.specs.Cursor.{rest, place};
+ghost use Rattle.ecma_token.specs.View.{error_view};
+ghost use Rattle.ecma_grammar.specs.Found.{error_behind};
+ghost use Rattle.ecma_grammar.specs.Numbers as grammar;
+ghost use Rattle.ecma_number.specs.WrittenNumbers.{number_of, exponent_of};
+
+use crate::number::parts::{WrittenExponent, WrittenNumber, fraction_len, is_big};
+use crate::number::runs::has_digit;
+use ecma_grammar::name_start::begins_name;
+use ecma_place::{BytePos, Span, StringInput};
+use ecma_token::{Error, Radix, SyntaxError};
+use std::alloc::{AllocError, Global};
+
+/// The refusal of a run that starts at the place, if it has no digit.
+fn digit_refusal<'a>(
+    alloc: Global,
+    run: &str,
+    radix: Radix,
+    start: BytePos,
+) -> Result<Option<Error<'a>>, AllocError>
+    requires fits { start.0 + length run.now < 2 ^ 32 }
+    requires run { grammar.IsRun radix run.now }
+    ensures value { IfOk result (λ r. option_map error_view r ≡ grammar.digit_refusal start.0 radix run.now) }
+    ensures free { grammar.digit_refusal start.0 radix run.now ≡ None → IsOk result }
+{
+    if has_digit(run, radix) {
+        return Ok(None);
+    }
+    let span = Span::new(start, BytePos(start.0 + run.len() as u32));
+    let error = Error::new(alloc, span, SyntaxError::ExpectedDigit { radix })?;
+    Ok(Some(error))
+}
+
+/// Whether the text ends right behind the mark of an exponent.
+fn ends_at_mark(sign: &str, run: &str, input: &StringInput) -> bool
+    ensures { IsTrue result ↔ (length sign.now + (length run.now + length (rest input.now)) ≡ 0) }
+{
+    sign.is_empty() && run.is_empty() && input.cur().is_none()
+}
+
+/// The refusal of an exponent that starts at the place, behind which the cursor stands.
+fn exponent_refusal<'a>(
+    alloc: Global,
+    exponent: WrittenExponent,
+    start: BytePos,
+    input: &StringInput,
+) -> Result<Option<Error<'a>>, AllocError>
+    requires fits { start.0 + length (grammar.exponent_text (exponent_of exponent)) < 2 ^ 32 }
+    requires form { grammar.IsExponent (exponent_of exponent) }
+    ensures value { IfOk result (λ r. option_map error_view r ≡
+        grammar.exponent_refusal start.0 (exponent_of exponent.entry) (rest input.now)) }
+    ensures free { grammar.exponent_refusal start.0 (exponent_of exponent.entry) (rest input.now) ≡ None → IsOk result }
+{
+    match exponent {
+        WrittenExponent::Unscaled => Ok(None),
+        WrittenExponent::Marked { mark: _, sign, run } => {
+            let behind = BytePos(start.0 + 1);
+            if ends_at_mark(sign, run, input) {
+                let kind = SyntaxError::NumLitTerminatedWithExp;
+                let error = Error::new(alloc, Span::new(behind, behind), kind)?;
+                return Ok(Some(error));
+            }
+            digit_refusal(
+                alloc,
+                run,
+                Radix::Decimal,
+                BytePos(behind.0 + sign.len() as u32),
+            )
+        }
+    }
+}
+
+/// The refusal of the parts of a number that starts at the place, behind which the cursor stands.
+fn part_refusal<'a>(
+    alloc: Global,
+    number: WrittenNumber,
+    start: BytePos,
+    input: &StringInput,
+) -> Result<Option<Error<'a>>, AllocError>
+    requires fits { start.0 + length (grammar.number_text (number_of number)) < 2 ^ 32 }
+    requires form { grammar.IsNumber (number_of number) }
+    ensures value { IfOk result (λ r. option_map error_view r ≡
+        option_map (error_behind start.0) (grammar.part_refusal (number_of number.entry) (rest input.now))) }
+    ensures free { grammar.part_refusal (number_of number.entry) (rest input.now) ≡ None → IsOk result }
+{
+    match number {
+        WrittenNumber::Radixed { radix, run, .. } => {
+            digit_refusal(alloc, run, radix, BytePos(start.0 + 2))
+        }
+        WrittenNumber::Big(_) => Ok(None),
+        WrittenNumber::Legacy(_) => Ok(None),
+        WrittenNumber::Plain {
+            run,
+            fraction,
+            exponent,
+        } => {
+            let behind = BytePos(start.0 + (run.len() + fraction_len(fraction)) as u32);
+            exponent_refusal(alloc, exponent, behind, input)
+        }
+    }
+}
+
+/// The refusal of a name that begins at the cursor, right behind a number that is no big integer.
+fn name_refusal<'a>(
+    alloc: Global,
+    number: &WrittenNumber,
+    input: &StringInput,
+) -> Result<Option<Error<'a>>, AllocError>
+    ensures value { (start : ℕ) → start + byte_len (grammar.number_text (number_of number.now)) ≡ place input.now →
+        IfOk result (λ r. option_map error_view r ≡
+        option_map (error_behind start) (grammar.name_refusal (number_of number.now) (rest input.now))) }
+    ensures free { grammar.name_refusal (number_of number.now) (rest input.now) ≡ None → IsOk result }
+{
+    if is_big(number) || !begins_name(input) {
+        return Ok(None);
+    }
+    let here = input.cur_pos();
+    let error = Error::new(alloc, Span::new(here, here), SyntaxError::IdentAfterNum)?;
+    Ok(Some(error))
+}
+
+/// Why a number that starts at the place is refused, if it is: by its parts, else by the name that begins behind it,
+/// where the cursor stands. A number that is not refused takes no memory.
+pub(super) fn refusal<'a>(
+    alloc: Global,
+    number: WrittenNumber,
+    start: BytePos,
+    input: &StringInput,
+) -> Result<Option<Error<'a>>, AllocError>
+    requires fits { start.0 + length (grammar.number_text (number_of number)) < 2 ^ 32 }
+    requires form { grammar.IsNumber (number_of number) }
+    requires behind { start.0 + byte_len (grammar.number_text (number_of number)) ≡ place input.now }
+    ensures value { IfOk result (λ r. option_map error_view r ≡
+        option_map (error_behind start.0) (grammar.refusal (number_of number.entry) (rest input.now))) }
+    ensures free { grammar.refusal (number_of number.entry) (rest input.now) ≡ None → IsOk result }
+{
+    match part_refusal(alloc, number, start, input)? {
+        Some(error) => Ok(Some(error)),
+        None => name_refusal(alloc, &number, input),
+    }
+}

@@ -1,0 +1,72 @@
+-- What a replay keeps, and how it stands to the run of its steps.
+use Rattle.std.specs.Prelude.{◌≡◌, ◌++◌, ⊤, List, [], ◌∷◌, map, reverse}
+use Rattle.ecma_token.specs.View.{error_view, spanned_view}
+use Rattle.ecma_state.specs.Counting.{count_all, counting, none_yet}
+use Rattle.ecma_state.specs.Run as run
+use Rattle.ecma_state.specs.Run.{Acted, act_all, answers_behind}
+use Rattle.ecma_state.specs.Session.{LexerKept, Session, has_ended, kept_back, kept_of, lexer_state, state_of}
+use Rattle.ecma_replay.specs.declared.answer.Answer.{Answer}
+use Rattle.ecma_replay.specs.declared.answer.Answer.TheVariants.{Token, End, Done, Errors, NoSlash, NoSave, NoContext}
+use Rattle.ecma_state.specs.declared.kept.Kept.{Kept}
+use Rattle.ecma_replay.specs.declared.replayed.Replay.{Replay}
+use Rattle.ecma_state.specs.declared.step.Step.{Step}
+
+-- how an answer is seen
+abbrev pub answer_view : Answer → run.Answer
+answer_view (Token token) = run.Token' (spanned_view token)
+answer_view End = run.End
+answer_view Done = run.Done
+answer_view (Errors errors) = run.Errors' (map error_view errors)
+answer_view NoSlash = run.NoSlash
+answer_view NoSave = run.NoSave
+answer_view NoContext = run.NoContext
+
+-- a lexer, and the tokens that are kept of what it answered, the newest first
+pub record PlayerKept : Type 0 where
+  pub lexer : LexerKept
+  pub kept : List Kept
+
+-- it has come to a session
+pub record IsAt (s : Session) (p : PlayerKept) : Type 0 where
+  pub state : lexer_state p.lexer ≡ state_of s
+  pub kept : p.kept ≡ map kept_of (kept_back s.past)
+
+-- a step answered and led to what it does in the run
+pub record Acts (acted : Acted) (answer : Answer) (p : PlayerKept) : Type 0 where
+  pub answered : answer_view answer ≡ acted.answer
+  pub after : IsAt acted.after p
+
+-- as many have come to the sessions behind as many lists of counting steps
+abbrev pub AllAt : Session → List (List Step) → List PlayerKept → Type 0
+AllAt begin [] [] = ⊤
+AllAt begin [] (p ∷ ps) = ⊥
+AllAt begin (steps ∷ more) [] = ⊥
+AllAt begin (steps ∷ more) (p ∷ ps) = IsAt (act_all begin steps) p × AllAt begin more ps
+
+-- what a list of steps has come to: the lexer that goes on, those that were saved, and the answers
+pub record RunnerKept : Type 0 where
+  pub player : PlayerKept
+  pub saves : List PlayerKept
+  pub answers : List Answer
+
+abbrev pub with_answer : RunnerKept → Answer → RunnerKept
+with_answer r answer = record r { answers = r.answers ++ answer ∷ [] }
+
+-- it has come to where these steps lead
+pub record Follows (begin : Session) (steps : List Step) (r : RunnerKept) : Type 0 where
+  pub player : IsAt (act_all begin (count_all none_yet steps).steps) r.player
+  pub saves : AllAt begin (count_all none_yet steps).saves r.saves
+  pub answers : map answer_view r.answers ≡ answers_behind begin none_yet steps
+
+-- the tokens that are kept, in order
+abbrev pub kept_tokens : Session → List Kept
+kept_tokens s = reverse (map kept_of (kept_back s.past))
+
+-- it tells what these steps answer, and where they come to from a session
+pub record Replays (begin : Session) (steps : List Step) (r : Replay) : Type 0 where
+  pub answers : map answer_view r.answers.items ≡ answers_behind begin none_yet steps
+  pub kept : r.kept.items ≡ kept_tokens (act_all begin (counting steps))
+  pub errors : map error_view r.errors ≡ (act_all begin (counting steps)).errors.recorded
+  pub waiting : map error_view r.waiting ≡ (act_all begin (counting steps)).errors.waiting
+  pub comments : r.comments.items ≡ (act_all begin (counting steps)).comments
+  pub ended : r.ended ≡ has_ended (act_all begin (counting steps)).past

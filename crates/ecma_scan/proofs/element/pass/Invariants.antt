@@ -1,6 +1,0 @@
-use Rattle.std.proofs.Common.{◌≡◌}
-use Rattle.ecma_place.specs.Cursor.{passed}
-use Rattle.ecma_scan.proofs.element.pass.Given as goal
-
-abbrev pub invariant-loop-passed : goal.invariant-loop-passed
-invariant-loop-passed l = l.input ≡ passed l._passed l.fn.input

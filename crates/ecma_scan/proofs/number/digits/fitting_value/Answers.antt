@@ -1,7 +1,0 @@
-use Rattle.std.proofs.Common.{◌∙◌}
-use Rattle.ecma_scan.proofs.DigitValues.{fitting-parsed}
-use Rattle.ecma_scan.proofs.number.digits.fitting_value.Goals as goal
-
-pub returns : goal.returns
-returns c =
-    c.ok.ensures.value ∙ fitting-parsed c.args.radix c.args.digits.now c.from_str_radix.result (rw c.base.ensures.value at c.from_str_radix.ensures.value) c.requires.all c.requires.some

@@ -1,6 +1,0 @@
-use Rattle.std.proofs.Common.{◌≡◌, take, encode_utf8_all, string_bytes}
-use Rattle.ecma_scan.specs.Numbers as grammar
-use Rattle.ecma_scan.proofs.number.digits.without_separators.Given as goal
-
-abbrev pub invariant-bytes : goal.invariant-bytes
-invariant-bytes l = string_bytes l.digits ≡ encode_utf8_all (grammar.without_separators (take l.b-index l.text))

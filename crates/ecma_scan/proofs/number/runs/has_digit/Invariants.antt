@@ -1,7 +1,0 @@
-use Rattle.std.proofs.Common.{◌≡◌, take}
-use Rattle.std.specs.List.{list_any}
-use Rattle.ecma_scan.specs.Numbers.{digit}
-use Rattle.ecma_scan.proofs.number.runs.has_digit.Given as goal
-
-abbrev pub invariant-bytes : goal.invariant-bytes
-invariant-bytes l = l.has ≡ list_any (digit l.radix) (take l.b-index l.run)

@@ -1,0 +1,4 @@
+pub mod AttachmentRows
+pub mod ErrorLemmas
+pub mod OpeningLemmas
+pub mod TransitionRows

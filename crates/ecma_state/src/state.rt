@@ -1,0 +1,240 @@
+//! What a lexer keeps between two reads, and what is asked of it.
+ghost use Rattle.std.specs.Prelude.{◌≡◌, ◌<◌, ◌≤◌, Some, length, IsOk, IfOk, OnOk, OnErr};
+ghost use Rattle.ecma_grammar.specs.Comments.{can_trail_line, can_trail_block};
+ghost use Rattle.ecma_state.specs.Contexts as contexts;
+ghost use Rattle.ecma_state.specs.Mode.{is_tpl_element};
+ghost use Rattle.ecma_state.specs.State as grammar;
+
+use crate::attachment::Around;
+use crate::kept::{Kept, Seen};
+use crate::token_context::TokenContext;
+use crate::token_contexts::TokenContexts;
+use crate::transition::Before;
+use ecma_place::BytePos;
+use ecma_syntax::{Syntax, WordKind};
+use ecma_token::TokenKind;
+use std::alloc::{AllocError, Global};
+use std::marker::Model;
+
+/// What a lexer keeps between two reads: what encloses the place that is read, and what was answered before it.
+#[derive(Drop)]
+pub struct State {
+    pub contexts: TokenContexts,
+    /// Whether an expression may begin.
+    pub expr_allowed: bool,
+    /// Where the text begins.
+    pub start: BytePos,
+    /// Where the back quote stands that opened a template last; the start place where none did.
+    pub opened: BytePos,
+    pub seen: Seen,
+}
+
+impl Model for State {
+    ghost use Rattle.ecma_state.specs.State.{StateKept};
+
+    ghost Value = { StateKept };
+
+    ghost view = { λ s. record { contexts = s.contexts; expr_allowed = s.expr_allowed; start = s.start; opened = s.opened; seen = s.seen } };
+}
+
+impl State {
+    /// The state before the first read of a text that starts at `start`, which takes no memory.
+    ///
+    /// It is the same whatever the syntax is, since JSX isn't read.
+    pub fn new(alloc: Global, _syntax: Syntax, start: BytePos) -> State
+        ensures { result ≡ grammar.started start }
+    {
+        let mut contexts = TokenContexts::new(alloc);
+        // One context takes no memory, so this is never refused.
+        let _ = contexts.push(TokenContext::BraceStmt);
+        State {
+            contexts,
+            expr_allowed: true,
+            start,
+            opened: start,
+            seen: Seen::none(),
+        }
+    }
+
+    /// Whether white space may be passed over: not in a template's text, nor between JSX tags.
+    pub fn can_skip_space(&self) -> bool
+        ensures { result ≡ contexts.can_skip_space self.now.contexts }
+    {
+        !matches!(
+            self.contexts.current(),
+            Some(TokenContext::Tpl | TokenContext::JSXExpr)
+        )
+    }
+
+    /// Whether a line comment may be the previous token's, also where there is none.
+    pub fn can_have_trailing_line_comment(&self) -> bool
+        ensures { result ≡ can_trail_line (grammar.previous self.now.seen) }
+    {
+        match self.seen.previous() {
+            Some(kind) => kind.can_have_trailing_line_comment(),
+            None => true,
+        }
+    }
+
+    /// Whether a block comment may be the previous token's; not where there is none.
+    pub fn can_have_trailing_comment(&self) -> bool
+        ensures { result ≡ can_trail_block (grammar.previous self.now.seen) }
+    {
+        match self.seen.previous() {
+            Some(kind) => kind.can_have_trailing_comment(),
+            None => false,
+        }
+    }
+
+    /// Whether the previous token is a template's text.
+    pub fn last_was_tpl_element(&self) -> bool
+        ensures { result ≡ is_tpl_element (grammar.previous self.now.seen) }
+    {
+        matches!(self.seen.previous(), Some(TokenKind::Template))
+    }
+
+    /// What the next token changes the contexts by.
+    #[inline(always)]
+    fn before(&self) -> Before
+        ensures { result ≡ grammar.before_of self.now }
+    {
+        Before {
+            expr_allowed: self.expr_allowed,
+            previous: self.seen.previous(),
+            previous_flag: self.seen.previous_flag(),
+        }
+    }
+
+    /// Where the token before ends; the start place where there is none.
+    fn end(&self) -> BytePos
+        ensures { result ≡ grammar.end_of self.now }
+    {
+        match self.seen.last {
+            Some(token) => token.span.hi,
+            None => self.start,
+        }
+    }
+
+    /// The places that the comments of a read go by, which answers a token or the end.
+    pub fn around(&self, answer: Option<Kept>) -> Around
+        ensures { result ≡ grammar.around_of self.now answer }
+    {
+        Around {
+            start: self.start,
+            end: self.end(),
+            next: answer.map(|token| token.span.lo),
+        }
+    }
+
+    /// Whether a token of this kind opens a template.
+    fn opens_template(&self, kind: TokenKind) -> bool
+        ensures { result ≡ grammar.opens_template self.now.contexts kind }
+    {
+        matches!(kind, TokenKind::BackQuote) && !self.contexts.is_in_template()
+    }
+
+    /// Changes the contexts as a token of any kind does, and remembers where it opens a template.
+    #[inline(never)]
+    fn turn_any(&mut self, token: Kept) -> Result<(), AllocError>
+        ensures contexts { OnOk result (self.new.contexts ≡ (grammar.turned_by self.old (Some token)).contexts) }
+        ensures allowed { OnOk result (self.new.expr_allowed ≡ (grammar.turned_by self.old (Some token)).expr_allowed) }
+        ensures opened { OnOk result (self.new.opened ≡ grammar.opened_by self.old (Some token)) }
+        ensures same { (self.new.start ≡ self.old.start) × (self.new.seen ≡ self.old.seen) }
+        ensures err { OnErr result (self.new ≡ self.old) }
+        ensures free { length self.old.contexts < 128 → IsOk result }
+    {
+        let opens = self.opens_template(token.kind);
+        self.expr_allowed = self
+            .before()
+            .turn(&mut self.contexts, token.kind, token.flag)?;
+        if opens {
+            self.opened = token.span.lo;
+        }
+        Ok(())
+    }
+
+    /// Changes the contexts as a token does, and remembers where it opens a template.
+    #[tactic(auto, unfolding(crate::specs::Transition::transition))]
+    #[inline(always)]
+    fn turn(&mut self, token: Kept) -> Result<(), AllocError>
+        ensures contexts { OnOk result (self.new.contexts ≡ (grammar.turned_by self.old (Some token)).contexts) }
+        ensures allowed { OnOk result (self.new.expr_allowed ≡ (grammar.turned_by self.old (Some token)).expr_allowed) }
+        ensures opened { OnOk result (self.new.opened ≡ grammar.opened_by self.old (Some token)) }
+        ensures same { (self.new.start ≡ self.old.start) × (self.new.seen ≡ self.old.seen) }
+        ensures err { OnErr result (self.new ≡ self.old) }
+        ensures free { length self.old.contexts < 128 → IsOk result }
+    {
+        match token.kind {
+            TokenKind::Word(WordKind::Ident(name)) => {
+                self.expr_allowed = self.before().allows_behind_name(name, &self.contexts);
+            }
+            TokenKind::Word(_)
+            | TokenKind::RParen
+            | TokenKind::RBrace
+            | TokenKind::Colon
+            | TokenKind::LBrace
+            | TokenKind::DollarLBrace
+            | TokenKind::LParen
+            | TokenKind::PlusPlus
+            | TokenKind::MinusMinus
+            | TokenKind::BackQuote => self.turn_any(token)?,
+            _ => {
+                self.expr_allowed = token.kind.before_expr();
+            }
+        }
+        Ok(())
+    }
+
+    /// Takes in a token that is answered. Fewer than 128 contexts take no memory.
+    ///
+    /// # Errors
+    ///
+    /// `AllocError` where there is no memory for one more context. Nothing is then changed.
+    #[inline(always)]
+    pub fn take_token(&mut self, token: Kept) -> Result<(), AllocError>
+        ensures ok { OnOk result (self.new ≡ grammar.behind_answer self.old token.flag (Some token)) }
+        ensures err { OnErr result (self.new ≡ self.old) }
+        ensures free { length self.old.contexts < 128 → IsOk result }
+    {
+        self.turn(token)?;
+        self.seen.give(token);
+        Ok(())
+    }
+
+    /// Takes in an answer: a token, or the end with the flag before it. Fewer than 128 contexts take no memory.
+    ///
+    /// # Errors
+    ///
+    /// `AllocError` where there is no memory for one more context. Nothing is then changed.
+    pub fn take(&mut self, answer: Option<Kept>, end_flag: bool) -> Result<(), AllocError>
+        ensures ok { OnOk result (self.new ≡ grammar.behind_answer self.old end_flag answer) }
+        ensures err { OnErr result (self.new ≡ self.old) }
+        ensures free { length self.old.contexts < 128 → IsOk result }
+    {
+        match answer {
+            Some(token) => self.take_token(token),
+            None => {
+                self.seen.end(end_flag);
+                Ok(())
+            }
+        }
+    }
+
+    /// The same state. Up to 128 contexts take no memory.
+    ///
+    /// # Errors
+    ///
+    /// `AllocError` where there is no memory for the contexts.
+    pub fn copy(&self) -> Result<State, AllocError>
+        ensures same { IfOk result (λ s. s ≡ self.now) }
+        ensures free { length self.now.contexts ≤ 128 → IsOk result }
+    {
+        Ok(State {
+            contexts: self.contexts.copy()?,
+            expr_allowed: self.expr_allowed,
+            start: self.start,
+            opened: self.opened,
+            seen: self.seen,
+        })
+    }
+}

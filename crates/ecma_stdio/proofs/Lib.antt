@@ -1,0 +1,3 @@
+pub mod Halting
+pub mod TextReplies
+pub mod Writing

@@ -1,0 +1,132 @@
+-- Reads of tokens of which nothing is to be told besides.
+use Rattle.std.proofs.Common.{◌≡◌, ℕ, ◌+◌, Bool, true, false, ◌||◌, ◌&&◌, [], Option, Some, None, Ok, length, is_some, slice_get, refl, sym, ap, ◌∙◌}
+use Rattle.std.specs.Prelude.{option_map, IfSome}
+use Rattle.ecma_place.specs.Text.{Text, byte_len}
+use Rattle.ecma_place.specs.Cursor.{Cursor, rest, place, passed}
+use Rattle.ecma_place.specs.declared.place.Span.{Span}
+use Rattle.ecma_syntax.specs.declared.word.Word.{Word}
+use Rattle.ecma_token.specs.View.{SpannedView, plain_token, token_view}
+use Rattle.ecma_token.specs.declared.token.Token as token
+use Rattle.ecma_scan.specs.BlankGaps.{IsBlankGap}
+use Rattle.ecma_scan.specs.Comments.{comments_at}
+use Rattle.ecma_scan.specs.Found.{found_at, scanned, span_of, token_behind}
+use Rattle.ecma_scan.specs.Gaps.{gap_faults_at}
+use Rattle.ecma_scan.specs.Punctuators.{Punctuator, spelling_in, token_in}
+use Rattle.ecma_scan.specs.GapViews.{GapView}
+use Rattle.ecma_scan.specs.Shebangs.{opens_shebang}
+use Rattle.ecma_scan.specs.Words.{word}
+use Rattle.ecma_state.specs.Mode.{gap_mode, is_template, keeps_space, passes_space}
+use Rattle.ecma_stream.specs.Plain.{IsPlain, plain_reading, plain_view}
+use Rattle.ecma_state.specs.Reading.{Reading, gap_in, reading, reading_if, reading_token, token_reading}
+use Rattle.ecma_state.specs.Run.{mode_of, reading_from, reading_of}
+use Rattle.ecma_state.specs.Session.{LexerKept, lexer_state}
+use Rattle.ecma_state.specs.TokenAt.{as_token, comments_in, opening, placed, punctuator_or_stray, read_opened, token_at, token_comments, word_token}
+use Rattle.ecma_stream.specs.View.{lexer_view}
+use Rattle.ecma_stream.specs.declared.lexer.Lexer.TheInside.{Inside}
+use Rattle.ecma_state.specs.declared.mode.Mode.{Mode}
+use Rattle.ecma_state.specs.declared.opening.Opening.TheVariants as opens
+use Rattle.ecma_state.specs.declared.token_context.TokenContext.{TokenContext}
+use Rattle.ecma_state.specs.declared.token_context.TokenContext.TheVariants as context
+use Rattle.ecma_dispatch.proofs.ReadingLemmas.{reading-some}
+use Rattle.ecma_dispatch.proofs.TokenLemmas.{view}
+
+-- Tokens
+
+-- a word that is written with no escape
+pub word-plain : (mode : Mode) (n : ℕ) (text spelling : Text) (w : Word) (flag : Bool) (extent : Span)
+    → word mode.context text ≡ scanned w spelling → extent ≡ span_of n (n + byte_len spelling)
+    → found_at token_behind n (word_token mode text) ≡ plain_view (record { token = plain_token (token.Word w); had_line_break = flag; span = extent })
+word-plain mode n text spelling w flag extent is at =
+    ap (λ s. found_at token_behind n (as_token s)) is ∙ ap (λ e. view (Ok (plain_token (token.Word w))) [] e false) (sym at)
+
+-- a punctuator
+pub punctuator-plain : (n : ℕ) (found : Option Punctuator) (text : Text) (t : token.Token) (flag : Bool) (extent : Span)
+    → Some t ≡ token_in found → option_map token_view (token_in found) ≡ option_map (token_behind n) (option_map (λ p. plain_token p.token) found)
+    → extent ≡ span_of n (n + byte_len (spelling_in found))
+    → found_at token_behind n (punctuator_or_stray found text) ≡ plain_view (record { token = token_view t; had_line_break = flag; span = extent })
+punctuator-plain n (Some p) text t flag extent is seen at =
+    let same : t ≡ p.token = cc in
+    let told : token_view p.token ≡ token_behind n (plain_token p.token) = cc in
+    ap (λ x. view (Ok x) [] (span_of n (n + byte_len p.spelling)) false) (sym (ap token_view same ∙ told))
+    ∙ ap (λ e. view (Ok (token_view t)) [] e false) (sym at)
+punctuator-plain n None text t flag extent is seen at = cc
+
+pub punctuator-spelled : (found : Option Punctuator) (text : Text) (t : token.Token) → Some t ≡ token_in found → spelling_in found ≡ (punctuator_or_stray found text).spelling
+punctuator-spelled (Some p) text t is = refl
+punctuator-spelled None text t is = cc
+
+pub three-some : {T : Type 0} (o : Option T) (P Q R S : T → Type 0) → IfSome o P → IfSome o Q → IfSome o R → ((x : T) → P x → Q x → R x → S x) → IfSome o S
+three-some (Some x) P Q R S p q t f = f x p q t
+three-some None P Q R S p q t f = tt
+
+-- a word is found where one opens
+pub plain-of-word : (mode : Mode) (flag : Bool) (old now : Cursor) (t : SpannedView) → opening mode flag (rest old) ≡ opens.Word
+    → found_at token_behind (place old) (word_token mode (rest old)) ≡ plain_view t → t.had_line_break ≡ flag → now ≡ passed (length (word_token mode (rest old)).spelling) old
+    → IsPlain mode t old now
+plain-of-word mode flag old now t is found same moved =
+    let opened : opening mode t.had_line_break (rest old) ≡ opens.Word = ap (λ b. opening mode b (rest old)) same ∙ is in
+    record {
+      found = ap (λ x. placed x mode (place old) (read_opened x mode (rest old))) opened ∙ found;
+      comments = ap (λ x. comments_in x mode (place old) (rest old)) opened;
+      moved = moved ∙ ap (λ x. passed (length (read_opened x mode (rest old)).spelling) old) (sym opened);
+    }
+
+-- Reads
+
+pub passes-parts : (top : Option TokenContext) → passes_space top ≡ true → (is_template top ≡ false) × (keeps_space top ≡ false)
+passes-parts None e = (refl, refl)
+passes-parts (Some context.BraceStmt) e = (refl, refl)
+passes-parts (Some context.BraceExpr) e = (refl, refl)
+passes-parts (Some context.TplQuasi) e = (refl, refl)
+passes-parts (Some (context.ParenStmt is_for_loop)) e = (refl, refl)
+passes-parts (Some context.ParenExpr) e = (refl, refl)
+passes-parts (Some context.Tpl) e = cc
+passes-parts (Some context.FnExpr) e = (refl, refl)
+passes-parts (Some context.ClassExpr) e = (refl, refl)
+passes-parts (Some context.JSXOpeningTag) e = (refl, refl)
+passes-parts (Some context.JSXClosingTag) e = (refl, refl)
+passes-parts (Some context.JSXExpr) e = cc
+
+or-false : (b : Bool) → (b || false) ≡ b
+or-false true = refl
+or-false false = refl
+
+-- behind white space alone nothing is found besides the token
+pub plain-read : (mode : Mode) (input here now : Cursor) (c : ℕ) (t : SpannedView) → mode.none_given ≡ false → slice_get (rest here) 0 ≡ Some c
+    → IsBlankGap (gap_mode mode) input here t.had_line_break → IsPlain mode t here now → reading mode input ≡ plain_reading t now
+plain-read mode input here now c t none first gap is =
+    ap (λ b. reading_if (b && opens_shebang (rest input)) mode input) none
+    ∙ reading-some mode input here c gap.moved first
+    ∙ ap (λ g. reading_token mode g here (rest here)) told
+    ∙ ap (λ f. token_reading blank f (token_comments mode flag (place here) (rest here)) behind) is.found
+    ∙ ap (λ cs. token_reading blank (plain_view t) cs behind) is.comments
+    ∙ ap (λ i. token_reading blank (plain_view t) [] i) (sym is.moved)
+    ∙ ap (λ b. let r : Reading = record { found = Some (record { token = t.token; had_line_break = b; span = t.span }); end_flag = flag; faults = []; comments = []; input = now } in r) (or-false flag)
+  where
+    flag : Bool
+    flag = t.had_line_break
+
+    blank : GapView
+    blank = record { line_break = flag; comments = []; faults = [] }
+
+    behind : Cursor
+    behind = passed (length (token_at mode flag (rest here)).spelling) here
+
+    told : gap_in mode (place input) (rest input) ≡ blank
+    told =
+        ap (λ b. let g : GapView = record { line_break = b; comments = comments_at (place input) (gap_mode mode) (rest input); faults = gap_faults_at (place input) (gap_mode mode) (rest input) } in g) gap.line_break
+        ∙ ap (λ cs. let g : GapView = record { line_break = flag; comments = cs; faults = gap_faults_at (place input) (gap_mode mode) (rest input) } in g) gap.comments
+        ∙ ap (λ fs. let g : GapView = record { line_break = flag; comments = []; faults = fs } in g) gap.faults
+
+none-is : {A : Type 0} (o : Option A) → is_some o ≡ false → o ≡ None
+none-is None e = refl
+none-is (Some x) e = cc
+
+-- where no slash is read again, that is what the lexer reads
+pub reads-plain : (a : Inside) (l : LexerKept) (mode : Mode) (input : Cursor) (r : Reading) → lexer_view a ≡ l → is_some a.reread ≡ false
+    → mode ≡ mode_of (lexer_state l) → input ≡ a.input → reading mode input ≡ r → reading_of (lexer_state l) ≡ r
+reads-plain a l mode input r shows none is at reads =
+    ap (λ o. reading_from o (lexer_state l)) (sym (ap (λ k. k.reread) shows) ∙ none-is a.reread none)
+    ∙ ap (λ m. reading m l.input) (sym is)
+    ∙ ap (reading mode) (sym (ap (λ k. k.input) shows) ∙ sym at)
+    ∙ reads

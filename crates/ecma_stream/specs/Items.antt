@@ -1,0 +1,35 @@
+-- What a lexer gives as an iterator.
+use Rattle.std.specs.Prelude.{◌≡◌, ◌+◌, true, false, Bool, Option, Some, None, Result, Ok, Err}
+use Rattle.std.specs.Iterator.{Count, at_most, endless}
+use Rattle.std.specs.declared.alloc.AllocError.{AllocError}
+use Rattle.ecma_place.specs.declared.place.BytePos.{BytePos}
+use Rattle.ecma_token.specs.View.{spanned_view}
+use Rattle.ecma_token.specs.declared.token.TokenAndSpan.{TokenAndSpan}
+use Rattle.ecma_stream.specs.Ending.{most_tokens}
+use Rattle.ecma_state.specs.Run.{reading_of, state_behind}
+use Rattle.ecma_state.specs.Session.{LexerKept, LexerState, lexer_state}
+
+-- where memory was not refused before: the token or the end that a read answers, or that memory is refused
+abbrev ReadItem : LexerKept → Option (Result TokenAndSpan AllocError) → LexerKept → Type 0
+ReadItem old None new = ((reading_of (lexer_state old)).found ≡ None) × (lexer_state new ≡ state_behind (lexer_state old) (reading_of (lexer_state old)))
+ReadItem old (Some (Ok token)) new =
+    ((reading_of (lexer_state old)).found ≡ Some (spanned_view token)) × (lexer_state new ≡ state_behind (lexer_state old) (reading_of (lexer_state old)))
+ReadItem old (Some (Err error)) new = (new.refused ≡ true) × (new.errors ≡ old.errors)
+
+-- a refusal comes once: behind it there is nothing
+abbrev ItemIf : Bool → LexerKept → Option (Result TokenAndSpan AllocError) → LexerKept → Type 0
+ItemIf true old item new = (item ≡ None) × (new ≡ old)
+ItemIf false old item new = ReadItem old item new
+
+abbrev pub GivesItem : LexerKept → Option (Result TokenAndSpan AllocError) → LexerKept → Type 0
+GivesItem old item new = ItemIf old.refused old item new
+
+-- so many items are left at most, where no slash is read again: the tokens, and one refusal
+
+abbrev pub items_from : Bool → Option BytePos → LexerState → Count
+items_from true reread l = at_most 0
+items_from false None l = at_most (most_tokens l + 1)
+items_from false (Some slash) l = endless
+
+abbrev pub items_left : LexerKept → Count
+items_left l = items_from l.refused l.reread (lexer_state l)

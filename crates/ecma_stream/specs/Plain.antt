@@ -1,0 +1,28 @@
+-- Reads of tokens of which nothing is to be told besides.
+use Rattle.std.specs.Prelude.{◌≡◌, Bool, false, Some, [], length, Ok}
+use Rattle.ecma_place.specs.Cursor.{Cursor, rest, place, passed}
+use Rattle.ecma_token.specs.View.{SpannedView, TokenView}
+use Rattle.ecma_scan.specs.Found.{FoundView}
+use Rattle.ecma_state.specs.Reading.{Reading}
+use Rattle.ecma_state.specs.TokenAt.{token_at, token_comments, token_found}
+use Rattle.ecma_state.specs.declared.mode.Mode.{Mode}
+
+-- a read that finds this token, and nothing besides
+abbrev pub plain_reading : SpannedView → Cursor → Reading
+plain_reading t behind = record { found = Some t; end_flag = t.had_line_break; faults = []; comments = []; input = behind }
+
+-- a token without a fault that holds no line terminator
+abbrev pub plain_view : SpannedView → FoundView TokenView
+plain_view t = record { value = Ok t.token; faults = []; extent = t.span; line_break = false }
+
+-- it stands between two cursors, and holds no comment
+pub record IsPlain (mode : Mode) (t : SpannedView) (old now : Cursor) : Type 0 where
+  pub found : token_found mode t.had_line_break (place old) (rest old) ≡ plain_view t
+  pub comments : token_comments mode t.had_line_break (place old) (rest old) ≡ []
+  pub moved : now ≡ passed (length (token_at mode t.had_line_break (rest old)).spelling) old
+
+-- nothing was found besides a token with this flag
+pub record IsBare (flag : Bool) (r : Reading) : Type 0 where
+  pub end_flag : r.end_flag ≡ flag
+  pub faults : r.faults ≡ []
+  pub comments : r.comments ≡ []

@@ -1,0 +1,29 @@
+-- How a lexer's fields give what it keeps, and what always holds of them.
+use Rattle.std.specs.Prelude.{◌≡◌, ◌≤◌, [], Some}
+use Rattle.ecma_place.specs.Cursor.{place}
+use Rattle.ecma_place.specs.declared.place.BytePos.{BytePos}
+use Rattle.ecma_stream.specs.declared.lexer.Lexer.TheInside.{Inside}
+use Rattle.ecma_state.specs.Session.{LexerKept}
+use Rattle.ecma_stream.specs.Slashes.{StandsSlash}
+use Rattle.ecma_state.specs.State.{last_slash}
+
+abbrev pub lexer_view : Inside → LexerKept
+lexer_view a =
+    record {
+      settings = a.settings;
+      input = a.input;
+      context = a.context;
+      state = a.state;
+      reread = a.reread;
+      errors = a.errors;
+      comments = a.comments.comments;
+      refused = a.refused;
+    }
+
+-- No template was opened behind the cursor; between two reads no comment waits for its token; and slashes stand where one
+-- was answered last and where one is read again.
+pub record IsLexer (a : Inside) : Type 0 where
+  pub opened : a.state.opened.0 ≤ place a.input
+  pub none_pending : a.comments.pending_leading ≡ []
+  pub answered : (p : BytePos) → last_slash a.state.seen ≡ Some p → StandsSlash a.input a.state.opened p
+  pub reread : (p : BytePos) → a.reread ≡ Some p → StandsSlash a.input a.state.opened p

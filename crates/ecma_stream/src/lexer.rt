@@ -1,0 +1,498 @@
+//! The lexer.
+ghost use Rattle.std.specs.Prelude.{◌≡◌, ◌<◌, true, false, None, Err, alloc_error, Some, drop, is_some, length, map, option_map, IfNone, IfOk, IfSome, IsOk, OnOk, OnErr};
+ghost use Rattle.ecma_token.specs.View.{error_view, spanned_view};
+ghost use Rattle.ecma_dispatch.specs.Besides.{IsBeside, TakesNone, bare, seen_beside, state_taking};
+ghost use Rattle.ecma_stream.specs.Plain.{IsBare};
+ghost use Rattle.ecma_stream.specs.Slashes.{IsAnswer, MayReread, slash_answered};
+ghost use Rattle.ecma_state.specs.Session.{Session, kept_in, lexer_state, state_of};
+ghost use Rattle.ecma_state.specs.declared.step.Step.{Step};
+ghost use Rattle.ecma_state.specs.Run.{act, answer_in, is_free_read, mode_of, reading_of, start_of, state_allowing, state_behind, state_rereading, state_with_contexts};
+ghost use Rattle.ecma_state.specs.Contexts.{innermost};
+ghost use Rattle.ecma_state.specs.Errors.{errors_view};
+
+use crate::plain::{Sought, read_plain};
+use crate::tokens::Tokens;
+use ecma_dispatch::read::{Besides, Reading, read_again, read_from};
+use ecma_place::{BytePos, StringInput};
+use ecma_state::commented::Commented;
+use ecma_state::comments_buffer::{BufferedComment, CommentsBuffer};
+use ecma_state::error_list::ErrorList;
+use ecma_state::errors::ErrorLists;
+use ecma_state::kept::Kept;
+use ecma_state::mode::Mode;
+use ecma_state::settings::Settings;
+use ecma_state::state::State;
+use ecma_state::token_contexts::TokenContexts;
+use ecma_syntax::{Context, EsVersion, Syntax};
+use ecma_token::{Error, TokenAndSpan};
+use std::alloc::{AllocError, Global};
+use std::marker::Model;
+use std::mem;
+
+/// Reads tokens from a text, one after another.
+#[derive(Drop)]
+pub struct Lexer<'a> {
+    alloc: Global,
+    settings: Settings,
+    input: StringInput<'a>,
+    context: Context,
+    state: State,
+    /// The slash that the next read begins at, where it reads again.
+    reread: Option<BytePos>,
+    errors: ErrorLists<'a>,
+    comments: CommentsBuffer<'a>,
+    refused: bool,
+}
+
+impl<'a> Model for Lexer<'a> {
+    ghost use Rattle.std.specs.Coded.{codes};
+    ghost use denote.Signature.{static_lft};
+    ghost use Rattle.ecma_token.specs.contracts.error.Error as e;
+    ghost use Rattle.ecma_state.specs.Session.{LexerKept};
+
+    ghost Value = { LexerKept };
+
+    ghost coded = { Prim.hlevel (codes, (e.the_row static_lft).coded) };
+
+    ghost use Rattle.ecma_stream.specs.View.{IsLexer, lexer_view};
+
+    ghost view = { lexer_view };
+
+    ghost invariant = { IsLexer };
+}
+
+impl<'a> Lexer<'a> {
+    /// A lexer of the rest of `input`, which takes no memory.
+    ///
+    /// The place of `input` is the lexer's start place. `comments` says whether comments are collected.
+    pub fn new(
+        alloc: Global,
+        syntax: Syntax,
+        target: EsVersion,
+        input: StringInput<'a>,
+        comments: bool,
+    ) -> Lexer<'a>
+        ensures { lexer_state result ≡ state_of (start_of record { syntax = syntax; target = target; comments = comments } input.entry) }
+    {
+        let start = input.cur_pos();
+        Lexer {
+            alloc,
+            settings: Settings {
+                syntax,
+                target,
+                comments,
+            },
+            input,
+            context: Context::default(),
+            state: State::new(alloc, syntax, start),
+            reread: None,
+            errors: ErrorLists::new(alloc),
+            comments: CommentsBuffer::new(alloc),
+            refused: false,
+        }
+    }
+
+    /// Whether a line terminator stands before the last token, or, where the last answer was the end, before that.
+    ///
+    /// Before any answer there is none.
+    pub fn had_line_break_before_last(&self) -> bool
+        ensures { result ≡ self.now.state.seen.flag }
+    {
+        self.state.seen.flag
+    }
+
+    /// The errors that wait until the code is known to be a module, in order.
+    pub fn module_errors(&self) -> &[Error<'a>]
+        ensures { map error_view result.now ≡ (lexer_state self.now).errors.waiting }
+    {
+        self.errors.waiting.as_slice()
+    }
+
+    /// Says whether an expression may begin.
+    pub fn set_expr_allowed(&mut self, allow: bool)
+        ensures { lexer_state self.new ≡ state_allowing allow (lexer_state self.old) }
+    {
+        self.state.expr_allowed = allow;
+    }
+
+    /// The place of the last answer, where that was `/` or `/=`. None where memory was refused.
+    pub fn last_slash(&self) -> Option<BytePos>
+        ensures { result ≡ slash_answered (lexer_state self.now) }
+    {
+        if self.refused {
+            return None;
+        }
+        self.state.seen.last_slash()
+    }
+
+    /// Has each read begin at this slash, until this is called again: it is read again as a regular expression, with the
+    /// slash's flag, and its token takes the place of the slash.
+    ///
+    /// `start` is `None`, which has reads go on behind what was read last, or the answer of [`Lexer::last_slash`].
+    pub fn set_next_regexp(&mut self, start: Option<BytePos>)
+        requires { MayReread start (lexer_state self.old) }
+        ensures { lexer_state self.new ≡ state_rereading start (lexer_state self.old) }
+    {
+        self.reread = start;
+    }
+
+    /// An equal lexer with errors and comments of its own: going back is putting it in the place of this one.
+    ///
+    /// # Errors
+    ///
+    /// `AllocError` where there is no memory for errors, comments, or more than 128 contexts.
+    pub fn copy(&self) -> Result<Lexer<'a>, AllocError>
+        ensures same { IfOk result (λ copy. lexer_state copy ≡ lexer_state self.now) }
+    {
+        Ok(Lexer {
+            alloc: self.alloc,
+            settings: self.settings,
+            input: self.input.clone()?,
+            context: self.context,
+            state: self.state.copy()?,
+            reread: self.reread,
+            errors: self.errors.copy(self.alloc)?,
+            comments: self.comments.copy()?,
+            refused: self.refused,
+        })
+    }
+
+    /// Whether the next read begins at a slash.
+    pub fn reads_again(&self) -> bool
+        ensures { result ≡ is_some self.now.reread }
+    {
+        self.reread.is_some()
+    }
+
+    /// Takes the innermost context away, and answers whether there was one.
+    pub fn pop_context(&mut self) -> bool
+        ensures some { result ≡ is_some (innermost self.old.state.contexts) }
+        ensures after { lexer_state self.new ≡ state_with_contexts (drop 1 self.old.state.contexts) (lexer_state self.old) }
+    {
+        self.state.contexts.pop().is_some()
+    }
+
+    /// The errors, the comments, and whether the last answer was the end.
+    pub fn into_parts(self) -> (ErrorLists<'a>, Vec<BufferedComment<'a>>, bool)
+        ensures errors { errors_view result.0 ≡ (lexer_state self.entry).errors }
+        ensures comments { result.1.items ≡ self.entry.comments }
+        ensures ended { result.2 ≡ self.entry.state.seen.ended }
+    {
+        let Lexer {
+            alloc: _,
+            settings: _,
+            input: _,
+            context: _,
+            state,
+            reread: _,
+            errors,
+            mut comments,
+            refused: _,
+        } = self;
+        (errors, comments.take_comments(), state.seen.ended)
+    }
+
+    /// What the next read goes by.
+    #[inline(always)]
+    fn mode(&self) -> Mode
+        ensures { result ≡ mode_of (lexer_state self.now) }
+    {
+        Mode {
+            settings: self.settings,
+            context: self.context,
+            top: self.state.contexts.current(),
+            first: self.state.seen.first,
+            none_given: self.state.seen.last.is_none(),
+            previous: self.state.seen.previous(),
+            opened: self.state.opened,
+        }
+    }
+}
+
+impl<'a> Lexer<'a> {
+    /// What the next read finds, behind which this cursor then stands, which stands where the lexer does.
+    fn read_on(&self, input: &mut StringInput<'a>) -> Result<Reading<'a>, AllocError>
+        requires { input.old ≡ self.now.input }
+        ensures found { IfOk result (λ r. option_map spanned_view r.found ≡ (reading_of (lexer_state self.now)).found) }
+        ensures besides { IfOk result (λ r. IsBeside r.besides (reading_of (lexer_state self.now))) }
+        ensures moved { OnOk result (input.new ≡ (reading_of (lexer_state self.now)).input) }
+        ensures free { is_free_read (lexer_state self.now) ≡ true → IsOk result }
+    {
+        match self.reread {
+            Some(slash) => {
+                input.reset_to(slash);
+                read_again(self.alloc, input, self.state.seen.flag)
+            }
+            None => read_from(self.alloc, input, &self.mode()),
+        }
+    }
+
+    /// What the next read finds, behind which the cursor then stands. Nothing is changed where memory is refused.
+    fn find(&mut self) -> Result<Reading<'a>, AllocError>
+        ensures found { IfOk result (λ r. option_map spanned_view r.found ≡ (reading_of (lexer_state self.old)).found) }
+        ensures besides { IfOk result (λ r. IsBeside r.besides (reading_of (lexer_state self.old))) }
+        ensures moved { OnOk result (self.new ≡ record self.old { input = (reading_of (lexer_state self.old)).input }) }
+        ensures same { OnErr result (self.new ≡ self.old) }
+        ensures answer { IfOk result (λ r. IsAnswer self.new (kept_in (option_map spanned_view r.found))) }
+        ensures free { is_free_read (lexer_state self.old) ≡ true → IsOk result }
+    {
+        let mut input = self.input.clone()?;
+        let reading = self.read_on(&mut input)?;
+        self.input = input;
+        Ok(reading)
+    }
+
+    /// Takes in what was found: the comments are attached, the contexts change, and the errors are recorded, wait or are
+    /// dropped. The errors are as before where memory is refused.
+    fn take_in(&mut self, answer: Option<Kept>, besides: Besides<'a>) -> Result<(), AllocError>
+        requires { IsAnswer self.old answer }
+        ensures after { OnOk result (lexer_state self.new ≡ state_taking (lexer_state self.old) answer (seen_beside besides.entry)) }
+        ensures kept { OnErr result (self.new.errors ≡ self.old.errors) }
+        ensures free { length self.old.state.contexts < 128 → TakesNone besides.entry → IsOk result }
+    {
+        let Besides {
+            end_flag,
+            gap_faults,
+            token_faults,
+            gap_comments,
+            token_comments,
+        } = besides;
+        let around = self.state.around(answer);
+        self.comments.attach(around, gap_comments, token_comments)?;
+        self.state.take(answer, end_flag)?;
+        self.errors
+            .take_read(&self.context, gap_faults, token_faults)
+    }
+
+    /// What the next read finds, where that is a token behind white space alone that is looked for and of which nothing is to
+    /// be told besides. The cursor then stands behind it; else nothing is changed.
+    #[inline(always)]
+    fn find_plain(&mut self, sought: Sought) -> Option<TokenAndSpan<'a>>
+        ensures found { IfSome result (λ t. Some (spanned_view t) ≡ (reading_of (lexer_state self.old)).found) }
+        ensures bare { IfSome result (λ t. IsBare t.had_line_break (reading_of (lexer_state self.old))) }
+        ensures moved { IfSome result (λ t. self.new ≡ record self.old { input = (reading_of (lexer_state self.old)).input }) }
+        ensures same { IfNone result (self.new ≡ self.old) }
+        ensures answer { IfSome result (λ t. IsAnswer self.new (kept_in (Some (spanned_view t)))) }
+    {
+        if self.reread.is_some() {
+            return None;
+        }
+        let Ok(before) = self.input.clone() else {
+            return None;
+        };
+        let mode = self.mode();
+        match read_plain(self.alloc, &mut self.input, &mode, sought) {
+            Some(token) => Some(token),
+            None => {
+                self.input = before;
+                None
+            }
+        }
+    }
+
+    /// Takes in a token that was found with nothing besides: the contexts change.
+    #[inline(always)]
+    fn take_plain(&mut self, token: Kept) -> Result<(), AllocError>
+        requires { IsAnswer self.old (Some token) }
+        ensures after { OnOk result (lexer_state self.new ≡ state_taking (lexer_state self.old) (Some token) (bare token.flag)) }
+        ensures kept { OnErr result (self.new.errors ≡ self.old.errors) }
+        ensures free { length self.old.state.contexts < 128 → IsOk result }
+    {
+        self.state.take_token(token)?;
+        Ok(())
+    }
+
+    /// Reads with all that is found besides the token.
+    #[inline(never)]
+    #[tactic(auto, using(crate::proofs::SlashLemmas::free_read_faults, crate::proofs::SlashLemmas::free_read_comments))]
+    fn next_with_besides(&mut self) -> Result<Option<TokenAndSpan<'a>>, AllocError>
+        ensures answer { IfOk result (λ answer. option_map spanned_view answer ≡ (reading_of (lexer_state self.old)).found) }
+        ensures after { OnOk result (lexer_state self.new ≡ state_behind (lexer_state self.old) (reading_of (lexer_state self.old))) }
+        ensures kept { OnErr result (self.new.errors ≡ self.old.errors) }
+        ensures free { length self.old.state.contexts < 128 → is_free_read (lexer_state self.old) ≡ true → IsOk result }
+    {
+        let Reading { found, besides } = self.find()?;
+        self.take_in(Kept::of_answer(&found), besides)?;
+        Ok(found)
+    }
+
+    /// Reads what is neither a word nor a punctuator behind white space alone.
+    #[inline(never)]
+    fn next_other(&mut self) -> Result<Option<TokenAndSpan<'a>>, AllocError>
+        ensures answer { IfOk result (λ answer. option_map spanned_view answer ≡ (reading_of (lexer_state self.old)).found) }
+        ensures after { OnOk result (lexer_state self.new ≡ state_behind (lexer_state self.old) (reading_of (lexer_state self.old))) }
+        ensures kept { OnErr result (self.new.errors ≡ self.old.errors) }
+        ensures free { length self.old.state.contexts < 128 → is_free_read (lexer_state self.old) ≡ true → IsOk result }
+    {
+        let Some(token) = self.find_plain(Sought::StringOrNumber) else {
+            return self.next_with_besides();
+        };
+        self.take_plain(Kept::of(&token))?;
+        Ok(Some(token))
+    }
+
+    /// Reads without asking whether memory was refused before.
+    #[inline(always)]
+    fn next_answer(&mut self) -> Result<Option<TokenAndSpan<'a>>, AllocError>
+        ensures answer { IfOk result (λ answer. option_map spanned_view answer ≡ (reading_of (lexer_state self.old)).found) }
+        ensures after { OnOk result (lexer_state self.new ≡ state_behind (lexer_state self.old) (reading_of (lexer_state self.old))) }
+        ensures kept { OnErr result (self.new.errors ≡ self.old.errors) }
+        ensures free { length self.old.state.contexts < 128 → is_free_read (lexer_state self.old) ≡ true → IsOk result }
+    {
+        let Some(token) = self.find_plain(Sought::WordOrPunctuator) else {
+            // A local of its own: read into the result, it would keep what most reads answer in memory too.
+            let answer = self.next_other();
+            return answer;
+        };
+        self.take_plain(Kept::of(&token))?;
+        Ok(Some(token))
+    }
+
+    /// The next token, or nothing at the end.
+    ///
+    /// What is wrong besides is recorded, waits or is dropped, as the context says; the comments before it are attached,
+    /// where they are collected. A read takes no memory where nothing is wrong, no comment is collected, the token's
+    /// value is its spelling, and fewer than 128 contexts stand.
+    ///
+    /// # Errors
+    ///
+    /// `AllocError` where there is no memory. The errors are then as before, and each later read answers the same.
+    pub fn read(&mut self) -> Result<Option<TokenAndSpan<'a>>, AllocError>
+        // One step of the run, from any session.
+        ensures step { (s : Session) → state_of s ≡ lexer_state self.old → IfOk result (λ answer.
+            (answer_in (option_map spanned_view answer) ≡ (act s Step.Read).answer) × (lexer_state self.new ≡ state_of (act s Step.Read).after)) }
+        // The same of what a lexer shows.
+        ensures answer { IfOk result (λ answer. option_map spanned_view answer ≡ (reading_of (lexer_state self.old)).found) }
+        ensures after { OnOk result (lexer_state self.new ≡ state_behind (lexer_state self.old) (reading_of (lexer_state self.old))) }
+        // Once the end was answered, it is answered again, where no slash is read again.
+        ensures again { self.old.reread ≡ None → IfOk result (λ answer. answer ≡ None → (reading_of (lexer_state self.new)).found ≡ None) }
+        ensures refused { self.old.refused ≡ true → (result ≡ Err alloc_error) × (self.new ≡ self.old) }
+        ensures refusal { OnErr result (self.new.refused ≡ true) }
+        ensures kept { OnErr result (self.new.errors ≡ self.old.errors) }
+        ensures free { self.old.refused ≡ false → length self.old.state.contexts < 128
+            → is_free_read (lexer_state self.old) ≡ true → IsOk result }
+    {
+        if self.refused {
+            return Err(AllocError);
+        }
+        match self.next_answer() {
+            Ok(answer) => Ok(answer),
+            Err(error) => {
+                self.refused = true;
+                Err(error)
+            }
+        }
+    }
+}
+
+impl<'a> Iterator for Lexer<'a> {
+    ghost use Rattle.ecma_stream.specs.Items.{GivesItem, items_left};
+
+    type Item = Result<TokenAndSpan<'a>, AllocError>;
+
+    ghost next_gives = { GivesItem };
+
+    ghost remaining = { items_left };
+
+    /// What [`Lexer::read`] answers. A refusal of memory comes once, and nothing behind it. Where no slash is read again
+    /// it ends within twice the bytes that are left and two items, and gives nothing behind its end.
+    fn next(&mut self) -> Option<Result<TokenAndSpan<'a>, AllocError>> {
+        if self.refused {
+            return None;
+        }
+        match self.read() {
+            Ok(Some(token)) => Some(Ok(token)),
+            Ok(None) => None,
+            Err(error) => Some(Err(error)),
+        }
+    }
+}
+
+impl<'a> Commented<'a> for Lexer<'a> {
+    ghost use Rattle.ecma_state.specs.Session.{lexer_state};
+
+    ghost shown = { lexer_state };
+
+    fn take_comments(&mut self) -> Option<CommentsBuffer<'a>> {
+        if self.refused || !self.state.seen.ended {
+            return None;
+        }
+        let none = CommentsBuffer::new(self.alloc);
+        Some(mem::replace(&mut self.comments, none))
+    }
+
+    fn put_comments(&mut self, comments: CommentsBuffer<'a>) {
+        let _ = mem::replace(&mut self.comments, comments);
+    }
+}
+
+impl<'a> Tokens<'a> for Lexer<'a> {
+    ghost use mir.Syntax.{named};
+    ghost use Rattle.std.specs.Borrow.{Lends, sem};
+    ghost use Rattle.std.specs.Prelude.{◌≡◌, []};
+    ghost use Rattle.ecma_state.specs.Session.{kept_with_contexts, lexer_state};
+    ghost use Rattle.ecma_stream.specs.contracts.lexer.Lexer as lexer;
+    ghost use Rattle.ecma_state.specs.contracts.token_contexts.TokenContexts as token_contexts;
+
+    ghost state = { lexer_state };
+
+    ghost with_contexts = { kept_with_contexts };
+
+    fn set_ctx(&mut self, ctx: Context) -> Result<(), AllocError> {
+        self.errors.enter(&ctx)?;
+        self.context = ctx;
+        Ok(())
+    }
+
+    fn ctx(&self) -> Context {
+        self.context
+    }
+
+    fn syntax(&self) -> Syntax {
+        self.settings.syntax
+    }
+
+    fn target(&self) -> EsVersion {
+        self.settings.target
+    }
+
+    fn start_pos(&self) -> BytePos {
+        self.state.start
+    }
+
+    fn set_expr_allowed(&mut self, allow: bool) {
+        Lexer::set_expr_allowed(self, allow);
+    }
+
+    fn set_next_regexp(&mut self, start: Option<BytePos>) {
+        Lexer::set_next_regexp(self, start);
+    }
+
+    fn token_context(&self) -> &TokenContexts {
+        &self.state.contexts
+    }
+
+    // The trait's clause, with the type of the lexer written out, which is too large to be told by its name.
+    fn token_context_mut(&mut self) -> &mut TokenContexts
+        ensures* writes_back { sem 𝓛 (Lends (lexer.the_row record { mir = named 1; lft = [] }) token_contexts.the_row self.entry result (kept_with_contexts self.old)) }
+        ensures value { result.now ≡ self.old.state.contexts }
+    {
+        &mut self.state.contexts
+    }
+
+    fn set_token_context(&mut self, contexts: TokenContexts) {
+        self.state.contexts = contexts;
+    }
+
+    fn add_error(&mut self, error: Error<'a>) -> Result<(), Error<'a>> {
+        self.errors.recorded.push(error)
+    }
+
+    fn add_module_mode_error(&mut self, error: Error<'a>) -> Result<(), Error<'a>> {
+        self.errors.take_module_mode(&self.context, error)
+    }
+
+    fn take_errors(&mut self) -> ErrorList<'a> {
+        self.errors.take_recorded_list(self.alloc)
+    }
+}

@@ -1,0 +1,206 @@
+//! Reads of tokens of which nothing is to be told besides: most reads, without lists. Our own, for speed.
+ghost use Rattle.std.specs.Prelude.{◌≡◌, true, Some, length, slice_get, IfSome};
+ghost use Rattle.ecma_place.specs.Cursor.{rest, place, passed};
+ghost use Rattle.ecma_token.specs.View.{spanned_view, token_view};
+ghost use Rattle.ecma_scan.specs.Found.{found_at, found_view, token_behind};
+ghost use Rattle.ecma_scan.specs.Numbers.{number, opens_number};
+ghost use Rattle.ecma_scan.specs.Strings.{opens_string, string_literal};
+ghost use Rattle.ecma_stream.specs.Plain.{IsPlain, plain_reading, plain_view};
+ghost use Rattle.ecma_state.specs.Reading.{reading};
+ghost use Rattle.ecma_state.specs.TokenAt as grammar;
+ghost use Rattle.ecma_state.specs.TokenAt.{ts1085};
+ghost use Rattle.ecma_state.specs.declared.mode.Mode.{Mode};
+
+use ecma_place::{Span, StringInput};
+use ecma_scan::{
+    BlankGap, Found, eat_plain_word, eat_punctuator, scan_blank_gap, scan_number, scan_string,
+};
+use ecma_state::mode::Mode;
+use ecma_state::opening::Opening;
+use ecma_token::{Token, TokenAndSpan};
+use std::alloc::Global;
+
+/// A token that was found, behind a gap whose flag stands or not, where nothing is to be told besides.
+fn plain_found<'a>(found: Found<'a, Token<'a>>, flag: bool) -> Option<TokenAndSpan<'a>>
+    ensures token { IfSome result (λ t. found_view token_view found.entry ≡ plain_view (spanned_view t)) }
+    ensures flag { IfSome result (λ t. t.had_line_break ≡ flag) }
+{
+    let Found {
+        value,
+        faults,
+        extent,
+        line_break,
+    } = found;
+    if line_break || !faults.is_empty() {
+        return None;
+    }
+    match value {
+        Ok(token) => Some(TokenAndSpan {
+            token,
+            had_line_break: flag,
+            span: extent,
+        }),
+        Err(_) => None,
+    }
+}
+
+/// The word at the cursor, behind a gap whose flag stands or not, where it is written with no escape.
+#[inline(always)]
+fn plain_word<'a>(input: &mut StringInput<'a>, flag: bool) -> Option<TokenAndSpan<'a>>
+    ensures token { IfSome result (λ t. (mode : Mode) → found_at token_behind (place input.old) (grammar.word_token mode (rest input.old)) ≡ plain_view (spanned_view t)) }
+    ensures flag { IfSome result (λ t. t.had_line_break ≡ flag) }
+    ensures moved { (mode : Mode) → IfSome result (λ t. input.new ≡ passed (length (grammar.word_token mode (rest input.old)).spelling) input.old) }
+{
+    let start = input.cur_pos();
+    let word = eat_plain_word(input)?;
+    Some(TokenAndSpan {
+        token: Token::Word(word),
+        had_line_break: flag,
+        span: Span::new(start, input.cur_pos()),
+    })
+}
+
+/// The punctuator at the cursor, behind a gap whose flag stands or not, if there is one.
+#[inline(always)]
+fn plain_punctuator<'a>(
+    input: &mut StringInput<'a>,
+    mode: &Mode,
+    flag: bool,
+) -> Option<TokenAndSpan<'a>>
+    ensures token { IfSome result (λ t. found_at token_behind (place input.old) (grammar.other_token mode.now (rest input.old)) ≡ plain_view (spanned_view t)) }
+    ensures flag { IfSome result (λ t. t.had_line_break ≡ flag) }
+    ensures moved { IfSome result (λ t. input.new ≡ passed (length (grammar.other_token mode.now (rest input.old)).spelling) input.old) }
+{
+    let start = input.cur_pos();
+    let kind = eat_punctuator(input, mode.type_mode())?;
+    Some(TokenAndSpan {
+        token: kind.token(),
+        had_line_break: flag,
+        span: Span::new(start, input.cur_pos()),
+    })
+}
+
+/// The number at the cursor, behind a gap whose flag stands or not, where nothing is wrong with it.
+#[inline(never)]
+fn plain_number<'a>(
+    alloc: Global,
+    input: &mut StringInput<'a>,
+    mode: &Mode,
+    flag: bool,
+) -> Option<TokenAndSpan<'a>>
+    requires { opens_number (rest input.old) ≡ true }
+    ensures token { IfSome result (λ t. found_at token_behind (place input.old) (number (ts1085 mode.now) (rest input.old)) ≡ plain_view (spanned_view t)) }
+    ensures flag { IfSome result (λ t. t.had_line_break ≡ flag) }
+    ensures moved { IfSome result (λ t. input.new ≡ passed (length (number (ts1085 mode.now) (rest input.old)).spelling) input.old) }
+{
+    match scan_number(alloc, input, mode.ts1085()) {
+        Ok(found) => plain_found(found, flag),
+        Err(_) => None,
+    }
+}
+
+/// The string at the cursor, behind a gap whose flag stands or not, where nothing is wrong with it and it holds no line
+/// terminator.
+#[inline(never)]
+fn plain_string<'a>(
+    alloc: Global,
+    input: &mut StringInput<'a>,
+    flag: bool,
+) -> Option<TokenAndSpan<'a>>
+    requires { opens_string (rest input.old) ≡ true }
+    ensures token { IfSome result (λ t. found_at token_behind (place input.old) (string_literal (rest input.old)) ≡ plain_view (spanned_view t)) }
+    ensures flag { IfSome result (λ t. t.had_line_break ≡ flag) }
+    ensures moved { IfSome result (λ t. input.new ≡ passed (length (string_literal (rest input.old)).spelling) input.old) }
+{
+    match scan_string(alloc, input) {
+        Ok(found) => plain_found(found, flag),
+        Err(_) => None,
+    }
+}
+
+/// The word or punctuator at the cursor, which stands before the character `c`, behind a gap whose flag stands or not, where
+/// nothing is to be told besides.
+#[inline(always)]
+fn plain_word_or_punctuator<'a>(
+    input: &mut StringInput<'a>,
+    mode: &Mode,
+    flag: bool,
+    c: char,
+) -> Option<TokenAndSpan<'a>>
+    requires { slice_get (rest input.old) 0 ≡ Some c }
+    ensures token { IfSome result (λ t. IsPlain mode.now (spanned_view t) input.old input.new) }
+    ensures flag { IfSome result (λ t. t.had_line_break ≡ flag) }
+{
+    match Opening::at(input, mode, flag, c) {
+        Opening::Word => plain_word(input, flag),
+        Opening::Other => plain_punctuator(input, mode, flag),
+        _ => None,
+    }
+}
+
+/// The string or number at the cursor, which stands before the character `c`, behind a gap whose flag stands or not, where
+/// nothing is to be told besides.
+#[inline(always)]
+fn plain_string_or_number<'a>(
+    alloc: Global,
+    input: &mut StringInput<'a>,
+    mode: &Mode,
+    flag: bool,
+    c: char,
+) -> Option<TokenAndSpan<'a>>
+    requires { slice_get (rest input.old) 0 ≡ Some c }
+    ensures token { IfSome result (λ t. IsPlain mode.now (spanned_view t) input.old input.new) }
+    ensures flag { IfSome result (λ t. t.had_line_break ≡ flag) }
+{
+    match Opening::at(input, mode, flag, c) {
+        Opening::String => plain_string(alloc, input, flag),
+        Opening::Number => plain_number(alloc, input, mode, flag),
+        _ => None,
+    }
+}
+
+/// Which tokens are looked for. Each kind has room of its own, which is cleared only where that kind is looked for.
+#[derive(Debug, Clone, Copy, PartialEq, Eq)]
+pub enum Sought {
+    WordOrPunctuator,
+    StringOrNumber,
+}
+
+/// The token at the cursor, which stands before the character `c`, behind a gap whose flag stands or not, where it is looked
+/// for and nothing is to be told besides.
+#[inline(always)]
+fn plain_token<'a>(
+    alloc: Global,
+    input: &mut StringInput<'a>,
+    mode: &Mode,
+    flag: bool,
+    c: char,
+    sought: Sought,
+) -> Option<TokenAndSpan<'a>>
+    requires { slice_get (rest input.old) 0 ≡ Some c }
+    ensures token { IfSome result (λ t. IsPlain mode.now (spanned_view t) input.old input.new) }
+    ensures flag { IfSome result (λ t. t.had_line_break ≡ flag) }
+{
+    match sought {
+        Sought::WordOrPunctuator => plain_word_or_punctuator(input, mode, flag, c),
+        Sought::StringOrNumber => plain_string_or_number(alloc, input, mode, flag, c),
+    }
+}
+
+/// Reads from the cursor on, where that finds a token behind white space alone that is looked for and of which nothing is to
+/// be told besides; what else is found, [`read_from`](ecma_dispatch::read::read_from) finds. The cursor is then anywhere.
+#[inline(always)]
+pub fn read_plain<'a>(
+    alloc: Global,
+    input: &mut StringInput<'a>,
+    mode: &Mode,
+    sought: Sought,
+) -> Option<TokenAndSpan<'a>>
+    ensures { IfSome result (λ t. reading mode.now input.old ≡ plain_reading (spanned_view t) input.new) }
+{
+    if mode.none_given || !mode.passes_space() {
+        return None;
+    }
+    let BlankGap { line_break, next } = scan_blank_gap(input, mode.first)?;
+    plain_token(alloc, input, mode, line_break, next as char, sought)
+}

@@ -1,0 +1,13 @@
+//! Words and operators: a word is the row of its text in one table.
+#![tactic(auto)]
+
+pub mod keyword;
+pub mod known_ident;
+pub mod operator;
+mod table;
+pub mod word;
+
+pub use keyword::Keyword;
+pub use known_ident::KnownIdent;
+pub use operator::{AssignOp, BinOpToken, BinaryOp};
+pub use word::{IdentKind, IdentLike, Word, WordKind};

@@ -1,0 +1,120 @@
+//! Rows of the lexer that collects comments: what each comment of a text belongs to.
+use super::comments::Store;
+use super::listing::{COLLECTING, Row, assert_listings, opened, write_next, write_note};
+use ecma_lexer::{Lexer, hand_comments};
+use std::alloc::AllocError;
+use std::test::Fail;
+
+pub(super) const ROWS: &[Row] = &[
+    (
+        COLLECTING,
+        "/**/a",
+        "4..5 lf name [a]; leading 4 0..4 Block []",
+    ),
+    (
+        COLLECTING,
+        "f() /*a*/ //b",
+        "0..1 lf name [f]; 1..2 - LParen; 2..3 - RParen; trailing 3 10..13 Line [b]; trailing 3 4..9 Block [a]",
+    ),
+    (
+        COLLECTING,
+        "a; /*b*/ c",
+        "0..1 lf name [a]; 1..2 - Semi; 9..10 - name [c]; trailing 2 3..8 Block [b]",
+    ),
+    (
+        COLLECTING,
+        "a + /*b*/;",
+        "0..1 lf name [a]; 2..3 - BinOp(Add); 9..10 - Semi; trailing 3 4..9 Block [b]",
+    ),
+    (COLLECTING, "/*a*/", "leading 0 0..5 Block [a]"),
+    (
+        COLLECTING,
+        "#!x\n//c",
+        "0..3 - Shebang [x]; trailing 3 4..7 Line [c]",
+    ),
+];
+
+/// Comments as in HTML, and conflict markers.
+pub(super) const ODD_ROWS: &[Row] = &[
+    (
+        COLLECTING,
+        "a\n-->x\nb",
+        "0..1 lf name [a]; 7..8 lf name [b]; waiting 2..5 Legacy comments cannot be used in module code; \
+         leading 7 5..6 Line [x]",
+    ),
+    (
+        COLLECTING,
+        "x<!--y\nz",
+        "0..1 lf name [x]; 7..8 lf name [z]; waiting 1..7 Legacy comments cannot be used in module code; \
+         trailing 1 2..6 Line [y]",
+    ),
+    (
+        COLLECTING,
+        "a\n=======\nb",
+        "0..1 lf name [a]; 10..11 lf name [b]; recorded 2..9 Merge conflict marker encountered.; \
+         leading 10 5..9 Line []",
+    ),
+    (
+        COLLECTING,
+        "\n<<<<<<< x\ny",
+        "11..12 lf name [y]; recorded 1..8 Merge conflict marker encountered.; leading 11 3..10 Line [ x]",
+    ),
+    (
+        COLLECTING,
+        "\n>>>>>>> x\ny",
+        "11..12 lf name [y]; recorded 1..8 Merge conflict marker encountered.; leading 11 4..10 Line [x]",
+    ),
+];
+
+#[test]
+fn comments_belong_to_tokens(rt: HostRuntime) -> Result<(), Fail> {
+    assert_listings(&rt, rt.alloc(), ROWS)
+}
+
+#[test]
+fn html_like_comments_and_markers_belong_to_tokens(rt: HostRuntime) -> Result<(), Fail> {
+    assert_listings(&rt, rt.alloc(), ODD_ROWS)
+}
+
+/// Writes whether comments were handed over, and how many the store has then.
+fn write_given<'a>(
+    out: &mut String,
+    lexer: &mut Lexer<'a>,
+    store: &mut Store<'a>,
+) -> Result<(), AllocError> {
+    let words = match hand_comments(lexer, store) {
+        Ok(true) => "handed",
+        Ok(false) => "not yet",
+        Err(_) => "refused",
+    };
+    write_note(out, words)?;
+    write!(out, " {}", store.given.len())
+}
+
+fn write_hand_overs<'a>(
+    out: &mut String,
+    lexer: &mut Lexer<'a>,
+    store: &mut Store<'a>,
+) -> Result<(), AllocError> {
+    write_given(out, lexer, store)?;
+    write_next(out, lexer)?;
+    write_given(out, lexer, store)?;
+    write_next(out, lexer)?;
+    store.room = 0;
+    write_given(out, lexer, store)?;
+    store.room = 1;
+    write_given(out, lexer, store)
+}
+
+#[test]
+fn comments_are_handed_over_behind_the_end_alone(rt: HostRuntime) -> Result<(), Fail> {
+    let alloc = rt.alloc();
+    let mut lexer = opened(alloc, COLLECTING, "/*a*/ b")?;
+    let mut out = String::new(alloc);
+    write_hand_overs(&mut out, &mut lexer, &mut Store::new(alloc, 9))?;
+    assert_eq!(rt;
+        out.as_str(),
+        "not yet 0; 6..7 lf name [b]; not yet 0; refused 0; handed 1"
+    );
+    Ok(())
+}

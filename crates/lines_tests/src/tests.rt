@@ -1,0 +1,495 @@
+//! Rows of the program, and readers and writers that fail in the middle.
+use ecma_lines::command::Options;
+use ecma_lines::comments::comments_text;
+use ecma_lines::run;
+use ecma_stdio::{Halt, read_all};
+use std::alloc::Global;
+use std::io;
+use std::io::{Read, Write};
+use std::process::Abort;
+use std::test::Fail;
+
+/// What a script has for one call.
+#[derive(Clone, Copy)]
+enum Call {
+    Gives(u8),
+    Fails(io::ErrorKind),
+}
+
+/// A reader that answers by a script, and after it says that it is at its end.
+#[derive(Drop)]
+struct Scripted<'a> {
+    calls: &'a [Call],
+    made: usize,
+}
+
+impl<'a> Scripted<'a> {
+    fn new(calls: &'a [Call]) -> Scripted<'a> {
+        Scripted { calls, made: 0 }
+    }
+}
+
+impl Read for Scripted<'_> {
+    fn read(&mut self, buf: &mut [u8]) -> io::Result<usize> {
+        let Some(call) = self.calls.get(self.made) else {
+            return Ok(0);
+        };
+        self.made = self.made.saturating_add(1);
+        match *call {
+            Call::Fails(kind) => Err(io::Error::from(kind)),
+            Call::Gives(byte) => {
+                if buf.is_empty() {
+                    return Ok(0);
+                }
+                buf[0] = byte;
+                Ok(1)
+            }
+        }
+    }
+}
+
+/// What a page does once it is full.
+#[derive(Clone, Copy, PartialEq, Eq)]
+enum WhenFull {
+    Fails,
+    TakesNothing,
+}
+
+const PAGE: usize = 64;
+
+/// A writer that takes no memory, `most` bytes at a call and `room` in all.
+#[derive(Drop)]
+struct Page {
+    bytes: [u8; PAGE],
+    taken: usize,
+    room: usize,
+    most: usize,
+    when_full: WhenFull,
+}
+
+impl Page {
+    fn new(room: usize, most: usize, when_full: WhenFull) -> Page {
+        Page {
+            bytes: [0; PAGE],
+            taken: 0,
+            room,
+            most,
+            when_full,
+        }
+    }
+
+    fn held(&self) -> &[u8] {
+        &self.bytes[..self.taken.min(PAGE)]
+    }
+}
+
+impl Write for Page {
+    fn write(&mut self, buf: &[u8]) -> io::Result<usize> {
+        let free = self.room.min(PAGE).saturating_sub(self.taken);
+        let count = free.min(self.most).min(buf.len());
+        if count == 0 && self.when_full == WhenFull::Fails {
+            return Err(io::Error::from(io::ErrorKind::StorageFull));
+        }
+        for byte in &buf[..count] {
+            if self.taken < PAGE {
+                self.bytes[self.taken] = *byte;
+                self.taken += 1;
+            }
+        }
+        Ok(count)
+    }
+
+    fn flush(&mut self) -> io::Result<()> {
+        Ok(())
+    }
+}
+
+/// Runs over memory, and asserts the status and what was written.
+fn assert_run(
+    rt: &impl Abort,
+    alloc: Global,
+    words: &[String],
+    input: &[u8],
+    status: u8,
+    output: &[u8],
+) {
+    let mut reader = input;
+    let mut writer = Vec::new(alloc);
+    assert_eq!(rt; run(alloc, words, &mut reader, &mut writer), status);
+    assert_eq!(rt; writer.as_slice(), output);
+}
+
+/// Runs over memory, and asserts what the words of the command line and an input give.
+fn assert_words(
+    rt: &impl Abort,
+    alloc: Global,
+    words: &[&str],
+    input: &[u8],
+    status: u8,
+    output: &[u8],
+) -> Result<(), Fail> {
+    let mut given = Vec::new(alloc);
+    for word in words {
+        given.push(String::from_str(alloc, word)?)?;
+    }
+    assert_run(rt, alloc, given.as_slice(), input, status, output);
+    Ok(())
+}
+
+/// Asserts that the words are bad.
+fn assert_bad(rt: &impl Abort, alloc: Global, words: &[&str]) -> Result<(), Fail> {
+    assert_words(rt, alloc, words, b";", 2, b"bad words\n")
+}
+
+#[test]
+fn writes_the_tokens(rt: HostRuntime) {
+    let alloc = rt.alloc();
+    let lines =
+        b"0 3 lf Keyword let\n4 5 - Ident x\n6 7 - AssignOp =\n8 9 - Num 1\n9 10 - Semi ;\n";
+    assert_run(&rt, alloc, &[], b"let x = 1;", 0, lines);
+    assert_run(&rt, alloc, &[], b"", 0, b"");
+    assert_run(
+        &rt,
+        alloc,
+        &[],
+        b"a\nb",
+        0,
+        b"0 1 lf Ident a\n2 3 lf Ident b\n",
+    );
+    assert_run(&rt, alloc, &[], b"\"", 0, b"0 1 lf Str \"\n");
+    assert_run(&rt, alloc, &[], b"\\", 0, b"0 1 lf Error \\\\\n");
+}
+
+#[test]
+fn tells_of_faults(rt: HostRuntime) -> Result<(), Fail> {
+    let alloc = rt.alloc();
+    assert_run(&rt, alloc, &[], b"\xff", 3, b"not UTF-8\n");
+    assert_words(&rt, alloc, &["errors"], b"\xff", 3, b"not UTF-8\n")
+}
+
+#[test]
+fn judges_the_words(rt: HostRuntime) -> Result<(), Fail> {
+    let alloc = rt.alloc();
+    assert_words(&rt, alloc, &["tokens"], b";", 0, b"0 1 lf Semi ;\n")?;
+    assert_words(
+        &rt,
+        alloc,
+        &["tokens", "strict", "ts", "module"],
+        b";",
+        0,
+        b"0 1 lf Semi ;\n",
+    )?;
+    assert_words(&rt, alloc, &["comments"], b";", 0, b"")?;
+    assert_bad(&rt, alloc, &["comments", "tokens"])?;
+    assert_bad(&rt, alloc, &["comments", "comments"])?;
+    assert_bad(&rt, alloc, &["comment"])?;
+    assert_bad(&rt, alloc, &["Tokens"])?;
+    assert_bad(&rt, alloc, &[""])?;
+    assert_bad(&rt, alloc, &["ts"])?;
+    assert_bad(&rt, alloc, &["tokens", "tokens"])?;
+    assert_bad(&rt, alloc, &["errors", "x"])?;
+    assert_bad(&rt, alloc, &["errors", "ts", "ts"])?;
+    assert_bad(&rt, alloc, &["tokens", "module", "ts", "module"])?;
+    assert_bad(&rt, alloc, &["tokens", "strict", "strict"])
+}
+
+#[test]
+fn writes_the_errors_of_tokens(rt: HostRuntime) -> Result<(), Fail> {
+    let alloc = rt.alloc();
+    let words = ["errors"].as_slice();
+    assert_words(&rt, alloc, words, b"let x = 1;", 0, b"")?;
+    assert_words(
+        &rt,
+        alloc,
+        words,
+        b"\0a",
+        0,
+        b"token 0 0 Unexpected character '\\\\0'\n",
+    )?;
+    assert_words(
+        &rt,
+        alloc,
+        words,
+        b"\\u0062reak",
+        0,
+        b"token 0 10 Unexpected escape sequence in reserved word: break\n",
+    )?;
+    let lines =
+        b"token 1 4 Bad character escape sequence, expected 2 hex characters\nrecorded 4 5 Unterminated string constant\n";
+    assert_words(&rt, alloc, words, b"'\\x4'", 0, lines)
+}
+
+#[test]
+fn writes_the_lists(rt: HostRuntime) -> Result<(), Fail> {
+    let alloc = rt.alloc();
+    let comment = b"a\n-->x".as_slice();
+    assert_words(
+        &rt,
+        alloc,
+        &["errors"],
+        comment,
+        0,
+        b"waiting 2 5 Legacy comments cannot be used in module code\n",
+    )?;
+    assert_words(
+        &rt,
+        alloc,
+        &["errors", "module"],
+        comment,
+        0,
+        b"recorded 2 5 Legacy comments cannot be used in module code\n",
+    )?;
+    assert_words(
+        &rt,
+        alloc,
+        &["errors"],
+        b"1__2",
+        0,
+        b"recorded 0 1 A numeric separator is only allowed between two digits\n",
+    )?;
+    assert_words(
+        &rt,
+        alloc,
+        &["errors"],
+        b"08.1",
+        0,
+        b"waiting 0 2 Legacy decimal escape is not permitted in strict mode\n",
+    )?;
+    assert_words(
+        &rt,
+        alloc,
+        &["errors", "strict"],
+        b"08.1",
+        0,
+        b"recorded 0 2 Legacy decimal escape is not permitted in strict mode\n",
+    )?;
+    let lines =
+        b"recorded 0 3 Legacy octal literals are not available when targeting ECMAScript 5 and higher\nwaiting 0 3 Legacy octal escape is not permitted in strict mode\n";
+    assert_words(&rt, alloc, &["errors", "ts"], b"012", 0, lines)
+}
+
+/// Asserts what is written where some tokens are read again.
+fn assert_rows(
+    rt: &impl Abort,
+    alloc: Global,
+    rows: &[(&[&str], &[u8], u8, &[u8])],
+) -> Result<(), Fail> {
+    for (words, input, status, output) in rows {
+        assert_words(rt, alloc, words, input, *status, output)?;
+    }
+    Ok(())
+}
+
+#[test]
+fn judges_the_numbers(rt: HostRuntime) -> Result<(), Fail> {
+    let alloc = rt.alloc();
+    let bad: [&[&str]; 10] = [
+        &["reread", "1"],
+        &["tokens", "reread"],
+        &["tokens", "reread", "0"],
+        &["tokens", "reread", "01"],
+        &["tokens", "reread", "+1"],
+        &["tokens", "reread", "1x"],
+        &["tokens", "reread", ""],
+        &["tokens", "reread", "18446744073709551616"],
+        &["tokens", "reread", "2", "ts", "reread", "2"],
+        &["tokens", "reread", "10", "reread", "9"],
+    ];
+    for words in bad {
+        assert_bad(&rt, alloc, words)?;
+    }
+    Ok(())
+}
+
+#[test]
+fn tells_where_no_slash_is(rt: HostRuntime) -> Result<(), Fail> {
+    let most: &[&str] = &["tokens", "reread", "18446744073709551615"];
+    assert_rows(
+        &rt,
+        rt.alloc(),
+        &[
+            (&["tokens", "reread", "1"], b"a", 2, b"no slash\n"),
+            (&["tokens", "reread", "2"], b"a", 2, b"no slash\n"),
+            (&["errors", "reread", "3"], b"a/", 2, b"no slash\n"),
+            (&["comments", "reread", "1"], b"", 2, b"no slash\n"),
+            (most, b"a/", 2, b"no slash\n"),
+            (most, b"\xff", 3, b"not UTF-8\n"),
+        ],
+    )
+}
+
+#[test]
+fn reads_slashes_again(rt: HostRuntime) -> Result<(), Fail> {
+    assert_rows(
+        &rt,
+        rt.alloc(),
+        &[
+            (
+                &["tokens", "reread", "3"],
+                b"a / /b/g",
+                0,
+                b"0 1 lf Ident a\n2 3 - BinOp /\n4 8 - Regex /b/g\n",
+            ),
+            (
+                &["tokens", "reread", "1"],
+                b"/x/g\\u0069",
+                0,
+                b"0 10 lf Regex /x/g\\\\u0069\n",
+            ),
+            (
+                &["tokens", "reread", "2"],
+                b"a /b\n",
+                0,
+                b"0 1 lf Ident a\n2 4 - Error /b\n",
+            ),
+            (
+                &["errors", "reread", "2"],
+                b"a /b\n",
+                0,
+                b"token 2 4 Unterminated regexp literal\n",
+            ),
+            (
+                &["tokens", "reread", "1", "ts", "reread", "2"],
+                b"/a/ /=b/;",
+                0,
+                b"0 3 lf Regex /a/\n4 8 - Regex /=b/\n8 9 - Semi ;\n",
+            ),
+            (
+                &["comments", "reread", "1"],
+                b"/a/ //x",
+                0,
+                b"trailing 3 4 7 line x\n",
+            ),
+        ],
+    )
+}
+
+#[test]
+fn writes_the_tokens_of_templates(rt: HostRuntime) {
+    let lines =
+        b"0 1 lf BackQuote `\n1 2 - Template a\n2 4 - DollarLBrace ${\n4 5 - Ident b\n5 6 - RBrace }\n6 7 - Template c\n7 8 - BackQuote `\n";
+    assert_run(&rt, rt.alloc(), &[], b"`a${b}c`", 0, lines);
+}
+
+/// Asserts what `comments` writes of a text.
+fn assert_comments(
+    rt: &impl Abort,
+    alloc: Global,
+    input: &[u8],
+    output: &[u8],
+) -> Result<(), Fail> {
+    assert_words(rt, alloc, &["comments"], input, 0, output)
+}
+
+#[test]
+fn writes_the_comments(rt: HostRuntime) -> Result<(), Fail> {
+    let alloc = rt.alloc();
+    assert_comments(&rt, alloc, b"", b"")?;
+    assert_comments(&rt, alloc, b"a", b"")?;
+    assert_comments(&rt, alloc, b"/**/a", b"leading 4 0 4 block \n")?;
+    let lines = b"trailing 3 10 13 line b\ntrailing 3 4 9 block a\n";
+    assert_comments(&rt, alloc, b"f() /*a*/ //b", lines)?;
+    assert_comments(&rt, alloc, b"a; /*b*/ c", b"trailing 2 3 8 block b\n")?;
+    assert_comments(&rt, alloc, b"a + /*b*/;", b"trailing 3 4 9 block b\n")?;
+    assert_comments(&rt, alloc, b"/*a*/", b"leading 0 0 5 block a\n")?;
+    assert_comments(&rt, alloc, b"#!x\n//c", b"trailing 3 4 7 line c\n")
+}
+
+#[test]
+fn writes_legacy_comments(rt: HostRuntime) -> Result<(), Fail> {
+    let alloc = rt.alloc();
+    assert_comments(&rt, alloc, b"a\n-->x\nb", b"leading 7 5 6 line x\n")?;
+    assert_comments(&rt, alloc, b"x<!--y\nz", b"trailing 1 2 6 line y\n")?;
+    assert_comments(&rt, alloc, b"a\n=======\nb", b"leading 10 5 9 line \n")?;
+    assert_comments(&rt, alloc, b"\n<<<<<<< x\ny", b"leading 11 3 10 line  x\n")?;
+    assert_comments(&rt, alloc, b"\n>>>>>>> x\ny", b"leading 11 4 10 line x\n")
+}
+
+#[test]
+fn writes_comments_escaped(rt: HostRuntime) -> Result<(), Fail> {
+    assert_comments(
+        &rt,
+        rt.alloc(),
+        b"/*a\\\r\nb*/c",
+        b"leading 9 0 9 block a\\\\\\r\\nb\n",
+    )
+}
+
+#[test]
+fn fails_where_a_read_fails(rt: HostRuntime) {
+    for kind in [io::ErrorKind::Other, io::ErrorKind::Interrupted] {
+        let script = [Call::Gives(b'a'), Call::Fails(kind), Call::Gives(b'b')];
+        let mut reader = Scripted::new(&script);
+        let mut writer = Page::new(PAGE, PAGE, WhenFull::Fails);
+        assert_eq!(rt; run(rt.alloc(), &[], &mut reader, &mut writer), 1);
+        assert_eq!(rt; writer.held(), b"".as_slice());
+        assert_eq!(rt; reader.made, 2);
+    }
+}
+
+#[test]
+fn counts_the_turns_of_reading(rt: HostRuntime) {
+    let script = [Call::Gives(b'a'), Call::Gives(b'b')];
+    let within = read_all(rt.alloc(), &mut Scripted::new(&script), 3);
+    assert!(rt; within.is_ok());
+    let beyond = read_all(rt.alloc(), &mut Scripted::new(&script), 2);
+    assert!(rt; matches!(beyond, Err(Halt::ReadFailed)));
+}
+
+#[test]
+fn fails_where_a_write_fails(rt: HostRuntime) {
+    for when_full in [WhenFull::Fails, WhenFull::TakesNothing] {
+        let mut reader = b"let x = 1;".as_slice();
+        let mut writer = Page::new(5, PAGE, when_full);
+        assert_eq!(rt; run(rt.alloc(), &[], &mut reader, &mut writer), 1);
+        assert_eq!(rt; writer.held(), b"0 3 l".as_slice());
+    }
+}
+
+#[test]
+fn fails_where_nothing_is_taken(rt: HostRuntime) {
+    let mut writer = Page::new(0, PAGE, WhenFull::TakesNothing);
+    assert_eq!(rt; run(rt.alloc(), &[], &mut b"a".as_slice(), &mut writer), 1);
+    assert_eq!(rt; writer.held(), b"".as_slice());
+}
+
+#[test]
+fn writes_a_byte_at_a_time(rt: HostRuntime) {
+    let mut writer = Page::new(PAGE, 1, WhenFull::Fails);
+    assert_eq!(rt;
+        run(rt.alloc(), &[], &mut b"a b".as_slice(), &mut writer),
+        0
+    );
+    assert_eq!(rt;
+        writer.held(),
+        b"0 1 lf Ident a\n2 3 - Ident b\n".as_slice()
+    );
+}
+
+/// No allocation here is the test's own, so each that is refused in turn is one of `run`.
+#[test]
+fn answers_whole_or_out_of_memory(rt: HostRuntime) {
+    let mut writer = Page::new(PAGE, PAGE, WhenFull::Fails);
+    let status = run(rt.alloc(), &[], &mut b"a b".as_slice(), &mut writer);
+    if status == 0 {
+        assert_eq!(rt;
+            writer.held(),
+            b"0 1 lf Ident a\n2 3 - Ident b\n".as_slice()
+        );
+    } else {
+        assert_eq!(rt; status, 5);
+        assert_eq!(rt; writer.held(), b"out of memory\n".as_slice());
+    }
+}
+
+/// No allocation here is the test's own, as above.
+#[test]
+fn gathers_all_comments_or_is_refused(rt: HostRuntime) {
+    let gathered = comments_text(rt.alloc(), Options::default(), &[], "a /*b*/; /*c*/ d");
+    if let Ok(lines) = gathered {
+        assert_eq!(rt;
+            lines.as_slice(),
+            b"trailing 1 2 7 block b\ntrailing 8 9 14 block c\n".as_slice()
+        );
+    }
+}

@@ -1,0 +1,55 @@
+//! Gaps of white space alone, and words without escapes.
+use ecma_place::{BytePos, StringInput};
+use ecma_scan::{BlankGap, eat_plain_word, scan_blank_gap};
+
+/// A text, whether no token came before, and what is told of the gap with which it begins.
+type Row = (&'static str, bool, Option<(bool, u8)>);
+
+const BLANK_GAPS: [Row; 16] = [
+    ("x", false, Some((false, b'x'))),
+    ("x", true, Some((true, b'x'))),
+    ("  \tx", false, Some((false, b'x'))),
+    (" \n (", false, Some((true, b'('))),
+    ("\u{a0}\u{2028};", false, Some((true, b';'))),
+    ("-x", false, Some((false, b'-'))),
+    ("\n-x", false, None),
+    ("=x", true, None),
+    (" >", false, Some((false, b'>'))),
+    ("\r>", false, None),
+    (" /", false, None),
+    (" /* */x", false, None),
+    ("<", false, None),
+    ("é", false, None),
+    ("", false, None),
+    (" ", true, None),
+];
+
+#[test]
+fn reads_gaps_of_white_space(rt: HostRuntime) {
+    for (text, first, told) in BLANK_GAPS {
+        let mut input = StringInput::new(text, BytePos(0));
+        let gap = scan_blank_gap(&mut input, first);
+        let told = told.map(|(line_break, next)| BlankGap { line_break, next });
+        assert_eq!(rt; gap, told, "{text}");
+    }
+}
+
+/// A text, the word without escape with which it begins, if there is one, and where its part characters end.
+const PLAIN_WORDS: [(&str, Option<&str>, u32); 6] = [
+    ("let x", Some("let"), 3),
+    ("été.", Some("été"), 5),
+    ("of", Some("of"), 2),
+    ("a$_1\u{200d}b-", Some("a$_1\u{200d}b"), 8),
+    ("a\\u{62}", None, 1),
+    ("\\u{62}", None, 0),
+];
+
+#[test]
+fn reads_words_without_escapes(rt: HostRuntime) {
+    for (text, word, end) in PLAIN_WORDS {
+        let mut input = StringInput::new(text, BytePos(0));
+        let read = eat_plain_word(&mut input);
+        assert_eq!(rt; read.as_ref().map(|word| word.as_str()), word, "{text}");
+        assert_eq!(rt; input.cur_pos(), BytePos(end), "{text}");
+    }
+}

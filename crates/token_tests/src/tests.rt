@@ -1,0 +1,91 @@
+//! What the tests of messages, debug texts and copies share.
+ghost use Rattle.std.specs.Prelude.{◌≤◌};
+
+mod copies;
+mod debug_texts;
+mod fixed_messages;
+mod messages;
+mod names;
+
+use ecma_place::{Atom, BytePos, Span};
+use ecma_token::{SyntaxError, Token};
+use std::alloc::{AllocError, Global};
+use std::process::Abort;
+use std::test::Fail;
+
+fn span(low: u32, high: u32) -> Span
+    requires { low ≤ high }
+{
+    Span::new(BytePos(low), BytePos(high))
+}
+
+fn owned<'a>(alloc: Global, text: &str) -> Result<Atom<'a>, AllocError> {
+    Ok(Atom::from(String::from_str(alloc, text)?))
+}
+
+fn assert_msg(rt: &impl Abort, alloc: Global, error: &SyntaxError, want: &str) -> Result<(), Fail> {
+    assert_eq!(rt; error.msg(alloc)?.as_str(), want);
+    Ok(())
+}
+
+fn assert_display(
+    rt: &impl Abort,
+    alloc: Global,
+    error: &SyntaxError,
+    want: &str,
+) -> Result<(), Fail> {
+    assert_eq!(rt; error.to_string(alloc)?.as_str(), want);
+    Ok(())
+}
+
+// Errors and tokens are let go by a call: at the end of a scope the proof goes through the end of each variant.
+fn equals_its_copy(alloc: Global, error: &SyntaxError) -> Result<bool, AllocError> {
+    let copy = error.copy(alloc)?;
+    let equal = copy == *error;
+    drop(copy);
+    Ok(equal)
+}
+
+fn assert_shown(
+    rt: &impl Abort,
+    alloc: Global,
+    error: &SyntaxError,
+    want: &str,
+) -> Result<(), Fail> {
+    assert_msg(rt, alloc, error, want)?;
+    assert_display(rt, alloc, error, want)?;
+    assert!(rt; equals_its_copy(alloc, error)?, "{want}");
+    Ok(())
+}
+
+// The error has this message, by `msg` and by `Display`, and is equal to its copy.
+fn assert_message(
+    rt: &impl Abort,
+    alloc: Global,
+    error: SyntaxError,
+    want: &str,
+) -> Result<(), Fail> {
+    let shown = assert_shown(rt, alloc, &error, want);
+    drop(error);
+    shown
+}
+
+fn token_equals_its_copy(alloc: Global, token: &Token) -> Result<bool, AllocError> {
+    let copy = token.copy(alloc)?;
+    let equal = copy == *token;
+    drop(copy);
+    Ok(equal)
+}
+
+fn assert_written(rt: &impl Abort, alloc: Global, token: &Token, want: &str) -> Result<(), Fail> {
+    assert_eq!(rt; format!(in alloc; "{token:?}")?.as_str(), want);
+    assert!(rt; token_equals_its_copy(alloc, token)?, "{want}");
+    Ok(())
+}
+
+// The token has this debug text, and is equal to its copy.
+fn assert_debug_text(rt: &impl Abort, alloc: Global, token: Token, want: &str) -> Result<(), Fail> {
+    let written = assert_written(rt, alloc, &token, want);
+    drop(token);
+    written
+}
