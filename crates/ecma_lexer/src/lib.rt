@@ -4,8 +4,8 @@
 pub use ecma_laws::laws;
 pub use ecma_replay::{Answer, Replay, answer, replay, replayed, runner};
 pub use ecma_state::{
-    BufferedComment, BufferedCommentKind, Commented, CommentsBuffer, ErrorList, Kept, Settings,
-    State, Step, TokenContext, TokenContexts, commented, comments_buffer, error_list,
-    hand_comments, kept, mode, settings, state, step, token_context, token_contexts,
+    BufferedComment, BufferedCommentKind, CommentsBuffer, ErrorList, Kept, Settings, State, Step,
+    TokenContext, TokenContexts, comments_buffer, error_list, kept, mode, settings, state, step,
+    token_context, token_contexts,
 };
-pub use ecma_stream::{Lexer, Tokens, lexer, tokens};
+pub use ecma_stream::{Lexer, Tokens, hand_comments, lexer, tokens};

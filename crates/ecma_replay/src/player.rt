@@ -109,6 +109,15 @@ impl<'a> Player<'a> {
         })
     }
 
+    /// Goes back to where a copy stands.
+    pub fn go_back(&mut self, copy: Player<'a>)
+        ensures { self.new ≡ copy.entry }
+    {
+        let Player { lexer, kept } = copy;
+        self.lexer.go_back(lexer);
+        self.kept = kept;
+    }
+
     pub fn read(&mut self) -> Result<Answer<'a>, AllocError>
         ensures { (s : Session) → IsAt s self.old → IfOk result (λ answer. Acts (act s Step.Read) answer self.new) }
     {

@@ -15,7 +15,6 @@ use ecma_state::step::Step;
 use ecma_stream::lexer::Lexer;
 use std::alloc::{AllocError, Global};
 use std::marker::Model;
-use std::mem;
 
 /// What a list of steps has come to.
 #[derive(Drop)]
@@ -72,7 +71,7 @@ impl<'a> Runner<'a> {
         match self.saves.get(n) {
             Some(saved) => {
                 let saved = saved.copy()?;
-                let _ = mem::replace(&mut self.player, saved);
+                self.player.go_back(saved);
                 Ok(Answer::Done)
             }
             None => Ok(Answer::NoSave),

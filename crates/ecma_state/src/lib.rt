@@ -2,7 +2,6 @@
 #![tactic(auto)]
 
 pub mod attachment;
-pub mod commented;
 pub mod comments_buffer;
 pub mod error_list;
 pub mod errors;
@@ -17,7 +16,6 @@ pub mod token_context;
 pub mod token_contexts;
 mod transition;
 
-pub use commented::{Commented, hand_comments};
 pub use comments_buffer::{BufferedComment, BufferedCommentKind, CommentsBuffer};
 pub use error_list::ErrorList;
 pub use kept::Kept;

@@ -1,5 +1,5 @@
 //! What a lexer keeps between two reads, and what is asked of it.
-ghost use Rattle.std.specs.Prelude.{◌≡◌, ◌<◌, ◌≤◌, Some, length, IsOk, IfOk, OnOk, OnErr};
+ghost use Rattle.std.specs.Prelude.{◌≡◌, ◌<◌, ◌≤◌, None, Some, length, IsOk, IfOk, OnOk, OnErr};
 ghost use Rattle.ecma_grammar.specs.Comments.{can_trail_line, can_trail_block};
 ghost use Rattle.ecma_state.specs.Contexts as contexts;
 ghost use Rattle.ecma_state.specs.Mode.{is_tpl_element};
@@ -201,7 +201,8 @@ impl State {
         Ok(())
     }
 
-    /// Takes in an answer: a token, or the end with the flag before it. Fewer than 128 contexts take no memory.
+    /// Takes in an answer: a token, or the end with the flag before it. The end takes no memory, nor do fewer than 128
+    /// contexts.
     ///
     /// # Errors
     ///
@@ -210,6 +211,7 @@ impl State {
         ensures ok { OnOk result (self.new ≡ grammar.behind_answer self.old end_flag answer) }
         ensures err { OnErr result (self.new ≡ self.old) }
         ensures free { length self.old.contexts < 128 → IsOk result }
+        ensures ended { answer ≡ None → IsOk result }
     {
         match answer {
             Some(token) => self.take_token(token),

@@ -1,5 +1,5 @@
 -- Where a read comes to, and what is read at the end.
-use Rattle.std.proofs.Common.{◌≡◌, ℕ, ◌+◌, ◌-◌, ◌*◌, ◌<◌, ◌≤◌, Bool, true, false, cond, ◌&&◌, List, [], ◌∷◌, length, take, drop-drop, length-drop, Option, Some, None, refl, sym, ap, ◌∙◌, arith}
+use Rattle.std.proofs.Common.{◌≡◌, ℕ, ◌+◌, ◌-◌, ◌*◌, ◌<◌, ◌≤◌, Bool, true, false, cond, ◌||◌, ◌&&◌, List, [], ◌∷◌, length, take, drop-drop, length-drop, Option, Some, None, refl, sym, ap, ◌∙◌, arith}
 use Rattle.std.proofs.lemmas.Option.{none-some}
 use Rattle.ecma_place.specs.Text.{Text, byte_len}
 use Rattle.ecma_place.specs.Cursor.{Cursor, rest, place, passed}
@@ -19,8 +19,8 @@ use Rattle.ecma_scan.proofs.PunctuatorLemmas.{passed-zero}
 use Rattle.ecma_scan.specs.Shebangs.{opens_shebang}
 use Rattle.ecma_stream.specs.Ending.{empty_room}
 use Rattle.ecma_state.specs.Mode.{gap_mode, is_tpl_element}
-use Rattle.ecma_state.specs.Reading.{Reading, reading, reading_behind, reading_code, reading_if, behind_gap, gap_in, no_gap, shebang_reading, shebang_token, stands_shebang, token_reading}
-use Rattle.ecma_state.specs.TokenAt.{opening, placed, token_at, token_found}
+use Rattle.ecma_state.specs.Reading.{Reading, is_free, is_free_behind, is_free_code, reading, reading_behind, reading_code, reading_if, behind_gap, gap_in, no_gap, shebang_reading, shebang_token, stands_shebang, token_reading}
+use Rattle.ecma_state.specs.TokenAt.{is_empty, opening, placed, token_at, token_found}
 use Rattle.ecma_state.specs.declared.mode.Mode.{Mode}
 use Rattle.ecma_state.specs.declared.opening.Opening.{Opening}
 use Rattle.ecma_state.specs.declared.opening.Opening.TheVariants as opens
@@ -176,6 +176,27 @@ no-shebang false = refl
 pub reading-end : (mode : Mode) (input : Cursor) → rest input ≡ [] → reading mode input ≡ record { found = None; end_flag = has_line_break (gap_mode mode) (rest input); faults = []; comments = []; input = input }
 reading-end mode input e =
     ap (λ b. reading_if b mode input) (ap (stands_shebang mode) e ∙ no-shebang mode.none_given) ∙ code-end mode input e
+
+-- such a read takes no memory
+pub end-free : (mode : Mode) (input : Cursor) → rest input ≡ [] → is_free mode input ≡ true
+end-free mode input e =
+    ap (λ b. b || is_free_code mode input) (ap (stands_shebang mode) e ∙ no-shebang mode.none_given)
+    ∙ ap (λ faults. is_empty faults && (is_empty gap.comments && is_free_behind mode flag (rest (behind_gap mode input)))) faults
+    ∙ ap (λ comments. is_empty comments && is_free_behind mode flag (rest (behind_gap mode input))) comments
+    ∙ ap (λ here. is_free_behind mode flag (rest here)) (behind_gap-end mode input e)
+    ∙ ap (is_free_behind mode flag) e
+  where
+    gap : GapView
+    gap = gap_in mode (place input) (rest input)
+
+    flag : Bool
+    flag = has_line_break (gap_mode mode) (rest input)
+
+    faults : gap.faults ≡ []
+    faults = ap (gap_faults_at (place input) (gap_mode mode)) e ∙ gap_faults-end (place input) (gap_mode mode)
+
+    comments : gap.comments ≡ []
+    comments = ap (comments_at (place input) (gap_mode mode)) e ∙ comments-end (place input) (gap_mode mode)
 
 -- Each token leaves fewer that may come
 

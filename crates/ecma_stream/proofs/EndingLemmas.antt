@@ -15,9 +15,9 @@ use Rattle.ecma_state.specs.Reading.{reading}
 use Rattle.ecma_state.specs.Mode.{gap_mode}
 use Rattle.ecma_state.specs.Session.{AtEnd, LexerState, Past, Session, has_ended, kept_back, kept_in, seen_of, state_of}
 use Rattle.ecma_state.specs.State.{previous, seen_behind}
-use Rattle.ecma_state.specs.Run.{act_on, acted_on, given_in, mode_of, reading_from, reading_of, state_behind}
+use Rattle.ecma_state.specs.Run.{act_on, acted_on, given_in, is_free_from, is_free_read, mode_of, reading_from, reading_of, state_behind}
 use Rattle.ecma_stream.specs.Ending.{ReadsOut, TokensRunOut, behind_reads, comments_of, enough, errors_of, most_tokens, reads, tokens_of}
-use Rattle.ecma_stream.proofs.EndLemmas.{reading-end, reading-less, reading-on, room-le}
+use Rattle.ecma_stream.proofs.EndLemmas.{end-free, reading-end, reading-less, reading-on, room-le}
 
 -- At the end
 
@@ -33,6 +33,22 @@ act-end : (s : Session) → s.reread ≡ None → rest s.input ≡ [] → act_on
 act-end s plain e =
     ap (λ r. (acted_on s r).after) (plain-reading (state_of s) plain ∙ reading-end (mode_of (state_of s)) s.input e)
     ∙ ap (λ comments. record s { comments = comments; past = AtEnd (end_flag s) ∷ s.past }) (append-nil s.comments)
+
+-- a read where nothing is left finds nothing, and takes no memory
+
+pub end_found : (l : LexerState) → l.reread ≡ None → rest l.input ≡ [] → (reading_of l).found ≡ None
+end_found l plain e = ap (λ r. r.found) (plain-reading l plain ∙ reading-end (mode_of l) l.input e)
+
+pub end_faults : (l : LexerState) → l.reread ≡ None → rest l.input ≡ [] → (reading_of l).faults ≡ []
+end_faults l plain e = ap (λ r. r.faults) (plain-reading l plain ∙ reading-end (mode_of l) l.input e)
+
+pub end_comments : (l : LexerState) → l.reread ≡ None → rest l.input ≡ [] → (reading_of l).comments ≡ []
+end_comments l plain e = ap (λ r. r.comments) (plain-reading l plain ∙ reading-end (mode_of l) l.input e)
+
+pub end_free : (l : LexerState) → l.reread ≡ None → rest l.input ≡ [] → is_free_read l ≡ true
+end_free l plain e = ap (λ r. is_free_from r l) plain ∙ end-free (mode_of l) l.input e
+
+pub ruleset at_the_end = (end_found, end_faults, end_comments, end_free)
 
 -- nothing is kept of reads there, and the end is answered
 pub record Stays (s t : Session) : Type 0 where

@@ -1,33 +1,35 @@
 -- Reads of tokens of which nothing is to be told besides.
-use Rattle.std.proofs.Common.{◌≡◌, ℕ, ◌+◌, Bool, true, false, ◌||◌, ◌&&◌, [], Option, Some, None, Ok, length, is_some, slice_get, refl, sym, ap, ◌∙◌}
-use Rattle.std.specs.Prelude.{option_map, IfSome}
+use Rattle.std.proofs.Common.{◌≡◌, ℕ, ◌+◌, Bool, true, false, ◌||◌, ◌&&◌, [], Option, Some, None, Result, Ok, Err, length, is_some, slice_get, refl, sym, ap, ◌∙◌}
+use Rattle.std.specs.Prelude.{option_map, IfOk, IfSome}
 use Rattle.ecma_place.specs.Text.{Text, byte_len}
 use Rattle.ecma_place.specs.Cursor.{Cursor, rest, place, passed}
 use Rattle.ecma_place.specs.declared.place.Span.{Span}
 use Rattle.ecma_syntax.specs.declared.word.Word.{Word}
 use Rattle.ecma_token.specs.View.{SpannedView, plain_token, token_view}
 use Rattle.ecma_token.specs.declared.token.Token as token
-use Rattle.ecma_scan.specs.BlankGaps.{IsBlankGap}
+use Rattle.ecma_scan.specs.BlankGaps.{IsBlankGap, IsTold}
+use Rattle.ecma_scan.specs.declared.blank_gap.BlankGap.{BlankGap}
 use Rattle.ecma_scan.specs.Comments.{comments_at}
 use Rattle.ecma_scan.specs.Found.{found_at, scanned, span_of, token_behind}
-use Rattle.ecma_scan.specs.Gaps.{gap_faults_at}
+use Rattle.ecma_scan.specs.Gaps.{gap_faults_at, has_line_break}
 use Rattle.ecma_scan.specs.Punctuators.{Punctuator, spelling_in, token_in}
 use Rattle.ecma_scan.specs.GapViews.{GapView}
 use Rattle.ecma_scan.specs.Shebangs.{opens_shebang}
 use Rattle.ecma_scan.specs.Words.{word}
 use Rattle.ecma_state.specs.Mode.{gap_mode, is_template, keeps_space, passes_space}
-use Rattle.ecma_stream.specs.Plain.{IsPlain, plain_reading, plain_view}
-use Rattle.ecma_state.specs.Reading.{Reading, gap_in, reading, reading_if, reading_token, token_reading}
+use Rattle.ecma_stream.specs.Plain.{IsPlain, StandsPlain, plain_reading, plain_view}
+use Rattle.ecma_state.specs.Reading.{Reading, gap_in, is_free, is_free_behind, is_free_code, reading, reading_if, reading_token, token_reading}
 use Rattle.ecma_state.specs.Run.{mode_of, reading_from, reading_of}
 use Rattle.ecma_state.specs.Session.{LexerKept, lexer_state}
-use Rattle.ecma_state.specs.TokenAt.{as_token, comments_in, opening, placed, punctuator_or_stray, read_opened, token_at, token_comments, word_token}
+use Rattle.ecma_state.specs.TokenAt.{as_token, comments_in, is_free_at, is_free_token, opening, placed, punctuator_or_stray, read_opened, token_at, token_comments, word_token}
 use Rattle.ecma_stream.specs.View.{lexer_view}
 use Rattle.ecma_stream.specs.declared.lexer.Lexer.TheInside.{Inside}
 use Rattle.ecma_state.specs.declared.mode.Mode.{Mode}
+use Rattle.ecma_state.specs.declared.opening.Opening.{Opening}
 use Rattle.ecma_state.specs.declared.opening.Opening.TheVariants as opens
 use Rattle.ecma_state.specs.declared.token_context.TokenContext.{TokenContext}
 use Rattle.ecma_state.specs.declared.token_context.TokenContext.TheVariants as context
-use Rattle.ecma_dispatch.proofs.ReadingLemmas.{reading-some}
+use Rattle.ecma_dispatch.proofs.ReadingLemmas.{free-reading, free-token, reading-some}
 use Rattle.ecma_dispatch.proofs.TokenLemmas.{view}
 
 -- Tokens
@@ -59,6 +61,19 @@ pub three-some : {T : Type 0} (o : Option T) (P Q R S : T → Type 0) → IfSome
 three-some (Some x) P Q R S p q t f = f x p q t
 three-some None P Q R S p q t f = tt
 
+pub one-some : {T : Type 0} (o : Option T) (P S : T → Type 0) → IfSome o P → ((x : T) → P x → S x) → IfSome o S
+one-some (Some x) P S p f = f x p
+one-some None P S p f = tt
+
+pub ok-some : {T E : Type 0} (r : Result (Option T) E) (P Q S : T → Type 0) → IfOk r (λ o. IfSome o P) → IfOk r (λ o. IfSome o Q) → ((x : T) → P x → Q x → S x) → IfOk r (λ o. IfSome o S)
+ok-some (Ok (Some x)) P Q S p q f = f x p q
+ok-some (Ok None) P Q S p q f = tt
+ok-some (Err e) P Q S p q f = tt
+
+-- a token that takes no memory, where it is known what opens it
+pub free-opened : (mode : Mode) (flag : Bool) (text : Text) (o : Opening) → opening mode flag text ≡ o → is_free_at mode flag text ≡ true → is_free_token o text (read_opened o mode text) ≡ true
+free-opened mode flag text o is h = ap (λ x. is_free_token x text (read_opened x mode text)) (sym is) ∙ h
+
 -- a word is found where one opens
 pub plain-of-word : (mode : Mode) (flag : Bool) (old now : Cursor) (t : SpannedView) → opening mode flag (rest old) ≡ opens.Word
     → found_at token_behind (place old) (word_token mode (rest old)) ≡ plain_view t → t.had_line_break ≡ flag → now ≡ passed (length (word_token mode (rest old)).spelling) old
@@ -86,6 +101,20 @@ passes-parts (Some context.ClassExpr) e = (refl, refl)
 passes-parts (Some context.JSXOpeningTag) e = (refl, refl)
 passes-parts (Some context.JSXClosingTag) e = (refl, refl)
 passes-parts (Some context.JSXExpr) e = cc
+
+-- a gap of white space alone
+pub stands-plain : (mode : Mode) (old now : Cursor) (gap : BlankGap) → mode.none_given ≡ false → passes_space mode.top ≡ true → IsTold mode.first old now gap → StandsPlain mode old now gap
+stands-plain mode old now gap given passes told =
+    let parts = passes-parts mode.top passes in
+    record { given = given; next = told.0; blank = told.1 (gap_mode mode) refl parts.0 parts.1 }
+
+-- a read behind it takes no memory where its token takes none
+pub free-plain : (mode : Mode) (old now : Cursor) (gap : BlankGap) → StandsPlain mode old now gap → is_free mode old ≡ true → is_free_at mode gap.line_break (rest now) ≡ true
+free-plain mode old now gap stands h =
+    let code : is_free_code mode old ≡ true = ap (λ b. (b && opens_shebang (rest old)) || is_free_code mode old) (sym stands.given) ∙ h in
+    let free = free-reading mode old code in
+    let there : is_free_behind mode (has_line_break (gap_mode mode) (rest old)) (rest now) ≡ true = ap (λ c. is_free_behind mode (has_line_break (gap_mode mode) (rest old)) (rest c)) stands.blank.moved ∙ free.token in
+    free-token mode gap.line_break (rest now) gap.next stands.next (ap (λ b. is_free_behind mode b (rest now)) (sym stands.blank.line_break) ∙ there)
 
 or-false : (b : Bool) → (b || false) ≡ b
 or-false true = refl

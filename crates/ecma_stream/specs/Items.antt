@@ -1,7 +1,8 @@
 -- What a lexer gives as an iterator.
-use Rattle.std.specs.Prelude.{◌≡◌, ◌+◌, true, false, Bool, Option, Some, None, Result, Ok, Err}
+use Rattle.std.specs.Prelude.{◌≡◌, ◌+◌, [], true, false, Bool, Option, Some, None, Result, Ok, Err}
 use Rattle.std.specs.Iterator.{Count, at_most, endless}
 use Rattle.std.specs.declared.alloc.AllocError.{AllocError}
+use Rattle.ecma_place.specs.Cursor.{rest}
 use Rattle.ecma_place.specs.declared.place.BytePos.{BytePos}
 use Rattle.ecma_token.specs.View.{spanned_view}
 use Rattle.ecma_token.specs.declared.token.TokenAndSpan.{TokenAndSpan}
@@ -9,15 +10,16 @@ use Rattle.ecma_stream.specs.Ending.{most_tokens}
 use Rattle.ecma_state.specs.Run.{reading_of, state_behind}
 use Rattle.ecma_state.specs.Session.{LexerKept, LexerState, lexer_state}
 
--- where memory was not refused before: the token or the end that a read answers, or that memory is refused
-abbrev ReadItem : LexerKept → Option (Result TokenAndSpan AllocError) → LexerKept → Type 0
+-- where memory was not refused before: the token or the end that a read answers, or that memory is refused, which it is
+-- not at the end where no slash is read again
+abbrev pub ReadItem : LexerKept → Option (Result TokenAndSpan AllocError) → LexerKept → Type 0
 ReadItem old None new = ((reading_of (lexer_state old)).found ≡ None) × (lexer_state new ≡ state_behind (lexer_state old) (reading_of (lexer_state old)))
 ReadItem old (Some (Ok token)) new =
     ((reading_of (lexer_state old)).found ≡ Some (spanned_view token)) × (lexer_state new ≡ state_behind (lexer_state old) (reading_of (lexer_state old)))
-ReadItem old (Some (Err error)) new = (new.refused ≡ true) × (new.errors ≡ old.errors)
+ReadItem old (Some (Err error)) new = (new.refused ≡ true) × (new.errors ≡ old.errors) × (old.reread ≡ None → rest old.input ≡ [] → ⊥)
 
 -- a refusal comes once: behind it there is nothing
-abbrev ItemIf : Bool → LexerKept → Option (Result TokenAndSpan AllocError) → LexerKept → Type 0
+abbrev pub ItemIf : Bool → LexerKept → Option (Result TokenAndSpan AllocError) → LexerKept → Type 0
 ItemIf true old item new = (item ≡ None) × (new ≡ old)
 ItemIf false old item new = ReadItem old item new
 

@@ -1,8 +1,11 @@
 -- Reads of tokens of which nothing is to be told besides.
-use Rattle.std.specs.Prelude.{◌≡◌, Bool, false, Some, [], length, Ok}
+use Rattle.std.specs.Prelude.{◌≡◌, Bool, false, Some, [], length, slice_get, Ok}
 use Rattle.ecma_place.specs.Cursor.{Cursor, rest, place, passed}
 use Rattle.ecma_token.specs.View.{SpannedView, TokenView}
 use Rattle.ecma_scan.specs.Found.{FoundView}
+use Rattle.ecma_scan.specs.BlankGaps.{IsBlankGap}
+use Rattle.ecma_scan.specs.declared.blank_gap.BlankGap.{BlankGap}
+use Rattle.ecma_state.specs.Mode.{gap_mode}
 use Rattle.ecma_state.specs.Reading.{Reading}
 use Rattle.ecma_state.specs.TokenAt.{token_at, token_comments, token_found}
 use Rattle.ecma_state.specs.declared.mode.Mode.{Mode}
@@ -20,6 +23,12 @@ pub record IsPlain (mode : Mode) (t : SpannedView) (old now : Cursor) : Type 0 w
   pub found : token_found mode t.had_line_break (place old) (rest old) ≡ plain_view t
   pub comments : token_comments mode t.had_line_break (place old) (rest old) ≡ []
   pub moved : now ≡ passed (length (token_at mode t.had_line_break (rest old)).spelling) old
+
+-- behind the first token, white space alone stands between two cursors, and this character behind it
+pub record StandsPlain (mode : Mode) (old now : Cursor) (gap : BlankGap) : Type 0 where
+  pub given : mode.none_given ≡ false
+  pub next : slice_get (rest now) 0 ≡ Some gap.next
+  pub blank : IsBlankGap (gap_mode mode) old now gap.line_break
 
 -- nothing was found besides a token with this flag
 pub record IsBare (flag : Bool) (r : Reading) : Type 0 where

@@ -27,3 +27,9 @@ pub record IsLexer (a : Inside) : Type 0 where
   pub none_pending : a.comments.pending_leading ≡ []
   pub answered : (p : BytePos) → last_slash a.state.seen ≡ Some p → StandsSlash a.input a.state.opened p
   pub reread : (p : BytePos) → a.reread ≡ Some p → StandsSlash a.input a.state.opened p
+
+-- what the caller gave and set, and where the text starts, is as it was
+pub record IsGivenAs (old now : LexerKept) : Type 0 where
+  pub settings : now.settings ≡ old.settings
+  pub context : now.context ≡ old.context
+  pub start : now.state.start ≡ old.state.start

@@ -4,11 +4,12 @@ ghost use Rattle.ecma_state.specs.HandOver.{HandsAll, HandsFirst, has_comments};
 ghost use Rattle.ecma_state.specs.Run.{state_with_comments};
 ghost use Rattle.ecma_state.specs.Session.{LexerState};
 
-use crate::comments_buffer::CommentsBuffer;
 use ecma_place::Comments;
+use ecma_state::comments_buffer::CommentsBuffer;
 use std::alloc::AllocError;
 
-/// What gathers comments while a text is read.
+/// What gathers comments while a text is read: the lexer. Callers can't name it, so that nothing but [`hand_comments`] takes
+/// comments out.
 pub trait Commented<'a> {
     ghost shown: { Self → LexerState };
 

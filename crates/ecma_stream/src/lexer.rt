@@ -1,8 +1,10 @@
 //! The lexer.
-ghost use Rattle.std.specs.Prelude.{◌≡◌, ◌<◌, true, false, None, Err, alloc_error, Some, drop, is_some, length, map, option_map, IfNone, IfOk, IfSome, IsOk, OnOk, OnErr};
+ghost use Rattle.std.specs.Prelude.{◌≡◌, ◌<◌, true, false, None, Err, alloc_error, Some, drop, is_some, length, map, option_map, IfNone, IfOk, IfSome, IsOk, OnOk, OnErr, []};
 ghost use Rattle.ecma_token.specs.View.{error_view, spanned_view};
 ghost use Rattle.ecma_dispatch.specs.Besides.{IsBeside, TakesNone, bare, seen_beside, state_taking};
+ghost use Rattle.ecma_place.specs.Cursor.{rest};
 ghost use Rattle.ecma_stream.specs.Plain.{IsBare};
+ghost use Rattle.ecma_stream.specs.View.{IsGivenAs};
 ghost use Rattle.ecma_stream.specs.Slashes.{IsAnswer, MayReread, slash_answered};
 ghost use Rattle.ecma_state.specs.Session.{Session, kept_in, lexer_state, state_of};
 ghost use Rattle.ecma_state.specs.declared.step.Step.{Step};
@@ -10,11 +12,11 @@ ghost use Rattle.ecma_state.specs.Run.{act, answer_in, is_free_read, mode_of, re
 ghost use Rattle.ecma_state.specs.Contexts.{innermost};
 ghost use Rattle.ecma_state.specs.Errors.{errors_view};
 
-use crate::plain::{Sought, read_plain};
+use crate::commented::Commented;
+use crate::plain::{read_plain, read_plain_literal};
 use crate::tokens::Tokens;
 use ecma_dispatch::read::{Besides, Reading, read_again, read_from};
 use ecma_place::{BytePos, StringInput};
-use ecma_state::commented::Commented;
 use ecma_state::comments_buffer::{BufferedComment, CommentsBuffer};
 use ecma_state::error_list::ErrorList;
 use ecma_state::errors::ErrorLists;
@@ -157,6 +159,13 @@ impl<'a> Lexer<'a> {
         })
     }
 
+    /// Goes back to where a copy stands.
+    pub fn go_back(&mut self, copy: Lexer<'a>)
+        ensures { self.new ≡ copy.entry }
+    {
+        let _ = mem::replace(self, copy);
+    }
+
     /// Whether the next read begins at a slash.
     pub fn reads_again(&self) -> bool
         ensures { result ≡ is_some self.now.reread }
@@ -243,12 +252,14 @@ impl<'a> Lexer<'a> {
     }
 
     /// Takes in what was found: the comments are attached, the contexts change, and the errors are recorded, wait or are
-    /// dropped. The errors are as before where memory is refused.
+    /// dropped. The errors are as before where memory is refused, and what the caller set.
     fn take_in(&mut self, answer: Option<Kept>, besides: Besides<'a>) -> Result<(), AllocError>
         requires { IsAnswer self.old answer }
         ensures after { OnOk result (lexer_state self.new ≡ state_taking (lexer_state self.old) answer (seen_beside besides.entry)) }
         ensures kept { OnErr result (self.new.errors ≡ self.old.errors) }
+        ensures given { OnErr result (IsGivenAs self.old self.new) }
         ensures free { length self.old.state.contexts < 128 → TakesNone besides.entry → IsOk result }
+        ensures ended { answer ≡ None → TakesNone besides.entry → IsOk result }
     {
         let Besides {
             end_flag,
@@ -264,10 +275,10 @@ impl<'a> Lexer<'a> {
             .take_read(&self.context, gap_faults, token_faults)
     }
 
-    /// What the next read finds, where that is a token behind white space alone that is looked for and of which nothing is to
-    /// be told besides. The cursor then stands behind it; else nothing is changed.
+    /// What the next read finds, where that is a word or a punctuator behind white space alone of which nothing is to be told
+    /// besides. The cursor then stands behind it; else nothing is changed.
     #[inline(always)]
-    fn find_plain(&mut self, sought: Sought) -> Option<TokenAndSpan<'a>>
+    fn find_plain(&mut self) -> Option<TokenAndSpan<'a>>
         ensures found { IfSome result (λ t. Some (spanned_view t) ≡ (reading_of (lexer_state self.old)).found) }
         ensures bare { IfSome result (λ t. IsBare t.had_line_break (reading_of (lexer_state self.old))) }
         ensures moved { IfSome result (λ t. self.new ≡ record self.old { input = (reading_of (lexer_state self.old)).input }) }
@@ -281,7 +292,7 @@ impl<'a> Lexer<'a> {
             return None;
         };
         let mode = self.mode();
-        match read_plain(self.alloc, &mut self.input, &mode, sought) {
+        match read_plain(&mut self.input, &mode) {
             Some(token) => Some(token),
             None => {
                 self.input = before;
@@ -290,12 +301,42 @@ impl<'a> Lexer<'a> {
         }
     }
 
-    /// Takes in a token that was found with nothing besides: the contexts change.
+    /// What the next read finds, where that is a string or a number behind white space alone of which nothing is to be told
+    /// besides. The cursor then stands behind it; else, and where memory is refused, nothing is changed.
+    #[inline(always)]
+    fn find_literal(&mut self) -> Result<Option<TokenAndSpan<'a>>, AllocError>
+        ensures found { IfOk result (λ found. IfSome found (λ t. Some (spanned_view t) ≡ (reading_of (lexer_state self.old)).found)) }
+        ensures bare { IfOk result (λ found. IfSome found (λ t. IsBare t.had_line_break (reading_of (lexer_state self.old)))) }
+        ensures moved { IfOk result (λ found. IfSome found (λ t. self.new ≡ record self.old { input = (reading_of (lexer_state self.old)).input })) }
+        ensures same { IfOk result (λ found. IfNone found (self.new ≡ self.old)) }
+        ensures answer { IfOk result (λ found. IfSome found (λ t. IsAnswer self.new (kept_in (Some (spanned_view t))))) }
+        ensures refused { OnErr result (self.new ≡ self.old) }
+        ensures free { is_free_read (lexer_state self.old) ≡ true → IsOk result }
+    {
+        if self.reads_again() {
+            return Ok(None);
+        }
+        let stood = self.input.clone()?;
+        let mode = self.mode();
+        match read_plain_literal(self.alloc, &mut self.input, &mode) {
+            Ok(Some(token)) => Ok(Some(token)),
+            Ok(None) => {
+                self.input = stood;
+                Ok(None)
+            }
+            Err(error) => {
+                self.input = stood;
+                Err(error)
+            }
+        }
+    }
+
+    /// Takes in a token that was found with nothing besides: the contexts change. Nothing does where memory is refused.
     #[inline(always)]
     fn take_plain(&mut self, token: Kept) -> Result<(), AllocError>
         requires { IsAnswer self.old (Some token) }
         ensures after { OnOk result (lexer_state self.new ≡ state_taking (lexer_state self.old) (Some token) (bare token.flag)) }
-        ensures kept { OnErr result (self.new.errors ≡ self.old.errors) }
+        ensures kept { OnErr result (self.new ≡ self.old) }
         ensures free { length self.old.state.contexts < 128 → IsOk result }
     {
         self.state.take_token(token)?;
@@ -304,12 +345,14 @@ impl<'a> Lexer<'a> {
 
     /// Reads with all that is found besides the token.
     #[inline(never)]
-    #[tactic(auto, using(crate::proofs::SlashLemmas::free_read_faults, crate::proofs::SlashLemmas::free_read_comments))]
+    #[tactic(auto, using(crate::proofs::SlashLemmas::free_read_faults, crate::proofs::SlashLemmas::free_read_comments, crate::proofs::EndingLemmas::end_found, crate::proofs::EndingLemmas::end_faults, crate::proofs::EndingLemmas::end_comments, crate::proofs::EndingLemmas::end_free))]
     fn next_with_besides(&mut self) -> Result<Option<TokenAndSpan<'a>>, AllocError>
         ensures answer { IfOk result (λ answer. option_map spanned_view answer ≡ (reading_of (lexer_state self.old)).found) }
         ensures after { OnOk result (lexer_state self.new ≡ state_behind (lexer_state self.old) (reading_of (lexer_state self.old))) }
         ensures kept { OnErr result (self.new.errors ≡ self.old.errors) }
+        ensures given { OnErr result (IsGivenAs self.old self.new) }
         ensures free { length self.old.state.contexts < 128 → is_free_read (lexer_state self.old) ≡ true → IsOk result }
+        ensures ended { self.old.reread ≡ None → rest self.old.input ≡ [] → IsOk result }
     {
         let Reading { found, besides } = self.find()?;
         self.take_in(Kept::of_answer(&found), besides)?;
@@ -322,9 +365,11 @@ impl<'a> Lexer<'a> {
         ensures answer { IfOk result (λ answer. option_map spanned_view answer ≡ (reading_of (lexer_state self.old)).found) }
         ensures after { OnOk result (lexer_state self.new ≡ state_behind (lexer_state self.old) (reading_of (lexer_state self.old))) }
         ensures kept { OnErr result (self.new.errors ≡ self.old.errors) }
+        ensures given { OnErr result (IsGivenAs self.old self.new) }
         ensures free { length self.old.state.contexts < 128 → is_free_read (lexer_state self.old) ≡ true → IsOk result }
+        ensures ended { self.old.reread ≡ None → rest self.old.input ≡ [] → IsOk result }
     {
-        let Some(token) = self.find_plain(Sought::StringOrNumber) else {
+        let Some(token) = self.find_literal()? else {
             return self.next_with_besides();
         };
         self.take_plain(Kept::of(&token))?;
@@ -337,9 +382,11 @@ impl<'a> Lexer<'a> {
         ensures answer { IfOk result (λ answer. option_map spanned_view answer ≡ (reading_of (lexer_state self.old)).found) }
         ensures after { OnOk result (lexer_state self.new ≡ state_behind (lexer_state self.old) (reading_of (lexer_state self.old))) }
         ensures kept { OnErr result (self.new.errors ≡ self.old.errors) }
+        ensures given { OnErr result (IsGivenAs self.old self.new) }
         ensures free { length self.old.state.contexts < 128 → is_free_read (lexer_state self.old) ≡ true → IsOk result }
+        ensures ended { self.old.reread ≡ None → rest self.old.input ≡ [] → IsOk result }
     {
-        let Some(token) = self.find_plain(Sought::WordOrPunctuator) else {
+        let Some(token) = self.find_plain() else {
             // A local of its own: read into the result, it would keep what most reads answer in memory too.
             let answer = self.next_other();
             return answer;
@@ -356,7 +403,8 @@ impl<'a> Lexer<'a> {
     ///
     /// # Errors
     ///
-    /// `AllocError` where there is no memory. The errors are then as before, and each later read answers the same.
+    /// `AllocError` where there is no memory. The errors are then as before, and so are context, syntax, target and start
+    /// place; each later read answers the same.
     pub fn read(&mut self) -> Result<Option<TokenAndSpan<'a>>, AllocError>
         // One step of the run, from any session.
         ensures step { (s : Session) → state_of s ≡ lexer_state self.old → IfOk result (λ answer.
@@ -369,8 +417,11 @@ impl<'a> Lexer<'a> {
         ensures refused { self.old.refused ≡ true → (result ≡ Err alloc_error) × (self.new ≡ self.old) }
         ensures refusal { OnErr result (self.new.refused ≡ true) }
         ensures kept { OnErr result (self.new.errors ≡ self.old.errors) }
+        ensures given { OnErr result (IsGivenAs self.old self.new) }
         ensures free { self.old.refused ≡ false → length self.old.state.contexts < 128
             → is_free_read (lexer_state self.old) ≡ true → IsOk result }
+        // The end takes no memory, where no slash is read again.
+        ensures ended { self.old.refused ≡ false → self.old.reread ≡ None → rest self.old.input ≡ [] → IsOk result }
     {
         if self.refused {
             return Err(AllocError);

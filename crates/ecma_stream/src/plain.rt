@@ -1,15 +1,16 @@
 //! Reads of tokens of which nothing is to be told besides: most reads, without lists. Our own, for speed.
-ghost use Rattle.std.specs.Prelude.{◌≡◌, true, Some, length, slice_get, IfSome};
+ghost use Rattle.std.specs.Prelude.{◌≡◌, true, Some, length, slice_get, IfOk, IfSome, IsOk};
 ghost use Rattle.ecma_place.specs.Cursor.{rest, place, passed};
 ghost use Rattle.ecma_token.specs.View.{spanned_view, token_view};
 ghost use Rattle.ecma_scan.specs.Found.{found_at, found_view, token_behind};
 ghost use Rattle.ecma_scan.specs.Numbers.{number, opens_number};
 ghost use Rattle.ecma_scan.specs.Strings.{opens_string, string_literal};
-ghost use Rattle.ecma_stream.specs.Plain.{IsPlain, plain_reading, plain_view};
-ghost use Rattle.ecma_state.specs.Reading.{reading};
+ghost use Rattle.ecma_stream.specs.Plain.{IsPlain, StandsPlain, plain_reading, plain_view};
+ghost use Rattle.ecma_state.specs.Reading.{is_free, reading};
 ghost use Rattle.ecma_state.specs.TokenAt as grammar;
-ghost use Rattle.ecma_state.specs.TokenAt.{ts1085};
+ghost use Rattle.ecma_state.specs.TokenAt.{is_free_at, is_free_token, ts1085};
 ghost use Rattle.ecma_state.specs.declared.mode.Mode.{Mode};
+ghost use Rattle.ecma_state.specs.declared.opening.Opening.{Opening};
 
 use ecma_place::{Span, StringInput};
 use ecma_scan::{
@@ -18,7 +19,7 @@ use ecma_scan::{
 use ecma_state::mode::Mode;
 use ecma_state::opening::Opening;
 use ecma_token::{Token, TokenAndSpan};
-use std::alloc::Global;
+use std::alloc::{AllocError, Global};
 
 /// A token that was found, behind a gap whose flag stands or not, where nothing is to be told besides.
 fn plain_found<'a>(found: Found<'a, Token<'a>>, flag: bool) -> Option<TokenAndSpan<'a>>
@@ -87,16 +88,15 @@ fn plain_number<'a>(
     input: &mut StringInput<'a>,
     mode: &Mode,
     flag: bool,
-) -> Option<TokenAndSpan<'a>>
+) -> Result<Option<TokenAndSpan<'a>>, AllocError>
     requires { opens_number (rest input.old) ≡ true }
-    ensures token { IfSome result (λ t. found_at token_behind (place input.old) (number (ts1085 mode.now) (rest input.old)) ≡ plain_view (spanned_view t)) }
-    ensures flag { IfSome result (λ t. t.had_line_break ≡ flag) }
-    ensures moved { IfSome result (λ t. input.new ≡ passed (length (number (ts1085 mode.now) (rest input.old)).spelling) input.old) }
+    ensures token { IfOk result (λ found. IfSome found (λ t. found_at token_behind (place input.old) (number (ts1085 mode.now) (rest input.old)) ≡ plain_view (spanned_view t))) }
+    ensures flag { IfOk result (λ found. IfSome found (λ t. t.had_line_break ≡ flag)) }
+    ensures moved { IfOk result (λ found. IfSome found (λ t. input.new ≡ passed (length (number (ts1085 mode.now) (rest input.old)).spelling) input.old)) }
+    ensures free { is_free_token Opening.Number (rest input.old) (number (ts1085 mode.now) (rest input.old)) ≡ true → IsOk result }
 {
-    match scan_number(alloc, input, mode.ts1085()) {
-        Ok(found) => plain_found(found, flag),
-        Err(_) => None,
-    }
+    let found = scan_number(alloc, input, mode.ts1085())?;
+    Ok(plain_found(found, flag))
 }
 
 /// The string at the cursor, behind a gap whose flag stands or not, where nothing is wrong with it and it holds no line
@@ -106,16 +106,15 @@ fn plain_string<'a>(
     alloc: Global,
     input: &mut StringInput<'a>,
     flag: bool,
-) -> Option<TokenAndSpan<'a>>
+) -> Result<Option<TokenAndSpan<'a>>, AllocError>
     requires { opens_string (rest input.old) ≡ true }
-    ensures token { IfSome result (λ t. found_at token_behind (place input.old) (string_literal (rest input.old)) ≡ plain_view (spanned_view t)) }
-    ensures flag { IfSome result (λ t. t.had_line_break ≡ flag) }
-    ensures moved { IfSome result (λ t. input.new ≡ passed (length (string_literal (rest input.old)).spelling) input.old) }
+    ensures token { IfOk result (λ found. IfSome found (λ t. found_at token_behind (place input.old) (string_literal (rest input.old)) ≡ plain_view (spanned_view t))) }
+    ensures flag { IfOk result (λ found. IfSome found (λ t. t.had_line_break ≡ flag)) }
+    ensures moved { IfOk result (λ found. IfSome found (λ t. input.new ≡ passed (length (string_literal (rest input.old)).spelling) input.old)) }
+    ensures free { is_free_token Opening.String (rest input.old) (string_literal (rest input.old)) ≡ true → IsOk result }
 {
-    match scan_string(alloc, input) {
-        Ok(found) => plain_found(found, flag),
-        Err(_) => None,
-    }
+    let found = scan_string(alloc, input)?;
+    Ok(plain_found(found, flag))
 }
 
 /// The word or punctuator at the cursor, which stands before the character `c`, behind a gap whose flag stands or not, where
@@ -147,60 +146,58 @@ fn plain_string_or_number<'a>(
     mode: &Mode,
     flag: bool,
     c: char,
-) -> Option<TokenAndSpan<'a>>
+) -> Result<Option<TokenAndSpan<'a>>, AllocError>
     requires { slice_get (rest input.old) 0 ≡ Some c }
-    ensures token { IfSome result (λ t. IsPlain mode.now (spanned_view t) input.old input.new) }
-    ensures flag { IfSome result (λ t. t.had_line_break ≡ flag) }
+    ensures token { IfOk result (λ found. IfSome found (λ t. IsPlain mode.now (spanned_view t) input.old input.new)) }
+    ensures flag { IfOk result (λ found. IfSome found (λ t. t.had_line_break ≡ flag)) }
+    ensures free { is_free_at mode.now flag (rest input.old) ≡ true → IsOk result }
 {
     match Opening::at(input, mode, flag, c) {
         Opening::String => plain_string(alloc, input, flag),
         Opening::Number => plain_number(alloc, input, mode, flag),
-        _ => None,
+        _ => Ok(None),
     }
 }
 
-/// Which tokens are looked for. Each kind has room of its own, which is cleared only where that kind is looked for.
-#[derive(Debug, Clone, Copy, PartialEq, Eq)]
-pub enum Sought {
-    WordOrPunctuator,
-    StringOrNumber,
-}
-
-/// The token at the cursor, which stands before the character `c`, behind a gap whose flag stands or not, where it is looked
-/// for and nothing is to be told besides.
+/// The white space at the cursor with which a read begins, where nothing is to be told of what stands before its token but
+/// the flag.
 #[inline(always)]
-fn plain_token<'a>(
-    alloc: Global,
-    input: &mut StringInput<'a>,
-    mode: &Mode,
-    flag: bool,
-    c: char,
-    sought: Sought,
-) -> Option<TokenAndSpan<'a>>
-    requires { slice_get (rest input.old) 0 ≡ Some c }
-    ensures token { IfSome result (λ t. IsPlain mode.now (spanned_view t) input.old input.new) }
-    ensures flag { IfSome result (λ t. t.had_line_break ≡ flag) }
-{
-    match sought {
-        Sought::WordOrPunctuator => plain_word_or_punctuator(input, mode, flag, c),
-        Sought::StringOrNumber => plain_string_or_number(alloc, input, mode, flag, c),
-    }
-}
-
-/// Reads from the cursor on, where that finds a token behind white space alone that is looked for and of which nothing is to
-/// be told besides; what else is found, [`read_from`](ecma_dispatch::read::read_from) finds. The cursor is then anywhere.
-#[inline(always)]
-pub fn read_plain<'a>(
-    alloc: Global,
-    input: &mut StringInput<'a>,
-    mode: &Mode,
-    sought: Sought,
-) -> Option<TokenAndSpan<'a>>
-    ensures { IfSome result (λ t. reading mode.now input.old ≡ plain_reading (spanned_view t) input.new) }
+fn plain_gap(input: &mut StringInput, mode: &Mode) -> Option<BlankGap>
+    ensures { IfSome result (λ gap. StandsPlain mode.now input.old input.new gap) }
 {
     if mode.none_given || !mode.passes_space() {
         return None;
     }
-    let BlankGap { line_break, next } = scan_blank_gap(input, mode.first)?;
-    plain_token(alloc, input, mode, line_break, next as char, sought)
+    scan_blank_gap(input, mode.first)
+}
+
+/// Reads from the cursor on, where that finds a word or a punctuator behind white space alone of which nothing is to be told
+/// besides; what else is found, [`read_from`](ecma_dispatch::read::read_from) finds. The cursor is then anywhere.
+#[inline(always)]
+pub fn read_plain<'a>(input: &mut StringInput<'a>, mode: &Mode) -> Option<TokenAndSpan<'a>>
+    ensures { IfSome result (λ t. reading mode.now input.old ≡ plain_reading (spanned_view t) input.new) }
+{
+    let BlankGap { line_break, next } = plain_gap(input, mode)?;
+    plain_word_or_punctuator(input, mode, line_break, next as char)
+}
+
+/// Reads from the cursor on, where that finds a string or a number, as [`read_plain`] does words and punctuators.
+///
+/// # Errors
+///
+/// `AllocError` where there is no memory for its value or for what is wrong with it, which is then no reason to read it
+/// another way.
+#[inline(always)]
+pub fn read_plain_literal<'a>(
+    alloc: Global,
+    input: &mut StringInput<'a>,
+    mode: &Mode,
+) -> Result<Option<TokenAndSpan<'a>>, AllocError>
+    ensures found { IfOk result (λ found. IfSome found (λ t. reading mode.now input.old ≡ plain_reading (spanned_view t) input.new)) }
+    ensures free { is_free mode.now input.old ≡ true → IsOk result }
+{
+    let Some(BlankGap { line_break, next }) = plain_gap(input, mode) else {
+        return Ok(None);
+    };
+    plain_string_or_number(alloc, input, mode, line_break, next as char)
 }
