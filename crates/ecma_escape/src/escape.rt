@@ -5,7 +5,7 @@ ghost use Rattle.ecma_place.specs.Cursor.{rest, passed};
 ghost use Rattle.ecma_place.specs.Text.{Text};
 ghost use Rattle.ecma_grammar.specs.Fronts.{next_passes, after};
 ghost use Rattle.ecma_grammar.specs.Escapes as grammar;
-ghost use Rattle.std.specs.Prelude.{ℕ, ◌^◌, IfOk, OnOk, IsOk, Ok, encode_utf8_all, [], ◌∷◌, ◌++◌, ◌+◌, map, option_map, string_bytes};
+ghost use Rattle.std.specs.Prelude.{ℕ, ◌^◌, IfOk, OnErr, OnOk, IsOk, Ok, encode_utf8_all, [], ◌∷◌, ◌++◌, ◌+◌, map, option_map, string_bytes};
 ghost use Rattle.ecma_place.specs.Cursor.{place};
 ghost use Rattle.ecma_token.specs.View.{kind_view, error_view};
 ghost use Rattle.ecma_grammar.specs.Found.{found_view, found_at, placeless, fault_view, fault_behind, error_behind, span_behind};
@@ -473,20 +473,8 @@ fn use_in(in_template: bool) -> Use
     }
 }
 
-/// Reads the escape at the cursor (ECMA-262 EscapeSequence, 12.9.4, with LegacyOctalEscapeSequence of Annex B), in a
-/// string or in a template.
-///
-/// A backslash stands at the cursor. The value is the text that the escape stands for: nothing for a line terminator,
-/// and for a surrogate, which is no character, all that is written of the escape (our own choice). An octal escape in
-/// a string is a fault of strict code. A refused escape is read up to where reading goes on: `\x` without two
-/// hexadecimal digits and `\u` without four, or without one to 10FFFF in braces, up to behind the digits that are
-/// there, an octal escape in a template up to behind its first digit, a backslash that ends the text with nothing more.
-/// An escape that stands for nothing takes no memory.
-///
-/// # Errors
-///
-/// `AllocError` where there is no memory for the value or an error; the cursor then stands behind the escape.
-pub fn scan_escape<'a>(
+/// The escape at the cursor, behind which the cursor then stands.
+fn scanned_escape_at<'a>(
     alloc: Global,
     input: &mut StringInput<'a>,
     in_template: bool,
@@ -511,4 +499,38 @@ pub fn scan_escape<'a>(
         extent: Span::new(start, input.cur_pos()),
         line_break: false,
     })
+}
+
+/// Reads the escape at the cursor (ECMA-262 EscapeSequence, 12.9.4, with LegacyOctalEscapeSequence of Annex B), in a
+/// string or in a template.
+///
+/// A backslash stands at the cursor. The value is the text that the escape stands for: nothing for a line terminator,
+/// and for a surrogate, which is no character, all that is written of the escape (our own choice). An octal escape in
+/// a string is a fault of strict code. A refused escape is read up to where reading goes on: `\x` without two
+/// hexadecimal digits and `\u` without four, or without one to 10FFFF in braces, up to behind the digits that are
+/// there, an octal escape in a template up to behind its first digit, a backslash that ends the text with nothing more.
+/// An escape that stands for nothing takes no memory.
+///
+/// # Errors
+///
+/// `AllocError` where there is no memory for the value or an error; the cursor then stands where it stood.
+pub fn scan_escape<'a>(
+    alloc: Global,
+    input: &mut StringInput<'a>,
+    in_template: bool,
+) -> Result<Found<'a, Option<Atom<'a>>>, AllocError>
+    requires { opens_escape (rest input.old) ≡ true }
+    ensures found { IfOk result (λ f. found_view (λ value. value) f ≡
+        found_at placeless (place input.old) (grammar.scanned_escape (use_in in_template) (rest input.old))) }
+    ensures moved { OnOk result (input.new
+        ≡ passed (length (grammar.scanned_escape (use_in in_template) (rest input.old)).spelling) input.old) }
+    ensures free { (grammar.scanned_escape (use_in in_template) (rest input.old)).value ≡ Ok None → IsOk result }
+    ensures same { OnErr result (input.new ≡ input.old) }
+{
+    let before = input.clone()?;
+    let found = scanned_escape_at(alloc, input, in_template);
+    if found.is_err() {
+        *input = before;
+    }
+    found
 }

@@ -1,5 +1,5 @@
 //! Words.
-ghost use Rattle.std.specs.Prelude.{◌≡◌, true, length, string_bytes, Result, Ok, Err, IfNone, IfOk, IfSome, IsOk, OnOk};
+ghost use Rattle.std.specs.Prelude.{◌≡◌, true, length, string_bytes, Result, Ok, Err, IfNone, IfOk, IfSome, IsOk, OnErr, OnOk};
 ghost use Rattle.ecma_escape.specs.EscapeAnswers.{opens_escape};
 ghost use Rattle.std.specs.List.{prefix_len, take_while};
 ghost use Rattle.ecma_place.specs.Atom.{AtomView, owned_atom};
@@ -104,19 +104,8 @@ pub fn eat_plain_word<'a>(input: &mut StringInput<'a>) -> Option<Word<'a>>
     Some(Word::from_str(text))
 }
 
-/// Reads the word at the cursor (ECMA-262 IdentifierName, 12.7): part characters and escapes of code points, as many
-/// as there are.
-///
-/// The cursor stands at a start character or a backslash. The word is the row of the table of words for its unescaped
-/// text, which an other name borrows from the source where it holds no escape. A word that is written with an escape
-/// and is reserved in the context is refused (12.7.2). An escaped character that may not stand in a name, or not first,
-/// is a fault over its escape, and stays (our own choice). A refused escape refuses all from the word's start up to
-/// where reading goes on. A word without an escape takes no memory.
-///
-/// # Errors
-///
-/// `AllocError` where there is no memory for the text or an error; the cursor then stands somewhere in the text.
-pub fn scan_word<'a>(
+/// The word at the cursor, behind which the cursor then stands.
+fn word_at<'a>(
     alloc: Global,
     input: &mut StringInput<'a>,
     context: &Context,
@@ -141,4 +130,37 @@ pub fn scan_word<'a>(
         extent,
         line_break,
     })
+}
+
+/// Reads the word at the cursor (ECMA-262 IdentifierName, 12.7): part characters and escapes of code points, as many
+/// as there are.
+///
+/// The cursor stands at a start character or a backslash. The word is the row of the table of words for its unescaped
+/// text, which an other name borrows from the source where it holds no escape. A word that is written with an escape
+/// and is reserved in the context is refused (12.7.2). An escaped character that may not stand in a name, or not first,
+/// is a fault over its escape, and stays (our own choice). A refused escape refuses all from the word's start up to
+/// where reading goes on. A word without an escape takes no memory.
+///
+/// # Errors
+///
+/// `AllocError` where there is no memory for the text or an error; the cursor then stands where it stood.
+pub fn scan_word<'a>(
+    alloc: Global,
+    input: &mut StringInput<'a>,
+    context: &Context,
+) -> Result<Found<'a, Word<'a>>, AllocError>
+    requires { grammar.opens_word (rest input.old) ≡ true }
+    ensures found { IfOk result (λ f. found_view (λ w. w) f ≡
+        found_at placeless (place input.old) (grammar.word context.now (rest input.old))) }
+    ensures moved { OnOk result
+        (input.new ≡ passed (length (grammar.word context.now (rest input.old)).spelling) input.old) }
+    ensures free { (text : AtomView) → (grammar.identifier_name (rest input.old)).value ≡ Ok text → text.is_borrowed ≡ true → IsOk result }
+    ensures same { OnErr result (input.new ≡ input.old) }
+{
+    let before = input.clone()?;
+    let found = word_at(alloc, input, context);
+    if found.is_err() {
+        *input = before;
+    }
+    found
 }

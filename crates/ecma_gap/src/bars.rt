@@ -1,5 +1,5 @@
 //! Markers of bars. They are our own choice; ECMA-262 knows none.
-ghost use Rattle.std.specs.Prelude.{◌≡◌, true, false, length, option_map, if◌then◌else◌, IfOk, IsOk, OnOk};
+ghost use Rattle.std.specs.Prelude.{◌≡◌, true, false, length, option_map, if◌then◌else◌, IfOk, IsOk, OnErr, OnOk};
 ghost use Rattle.ecma_place.specs.Cursor.{rest, place, passed};
 ghost use Rattle.ecma_grammar.specs.Bars as grammar;
 ghost use Rattle.ecma_grammar.specs.Bars.{common_cutter};
@@ -62,17 +62,8 @@ fn read_bars<'a>(
     Ok(Bars { gap, error })
 }
 
-/// Reads the marker of bars at the cursor, if seven bars and a space stand there: with the line, and the white space, line
-/// and block comments behind it. Where none stands there the cursor stays, and nothing takes memory.
-///
-/// The caller has seen that no token came before, or that a line terminator stands before the bars. So each comment is for
-/// the token of the bars, but a block comment before a semicolon is not.
-///
-/// # Errors
-///
-/// `AllocError` where there is no memory for a fault, a comment or the error; the cursor then stands somewhere in the
-/// text.
-pub fn scan_bars<'a>(
+/// The marker of bars at the cursor, if one stands there, behind which the cursor then stands.
+fn bars_at<'a>(
     alloc: Global,
     input: &mut StringInput<'a>,
     mode: &GapMode,
@@ -88,4 +79,34 @@ pub fn scan_bars<'a>(
     } else {
         Ok(None)
     }
+}
+
+/// Reads the marker of bars at the cursor, if seven bars and a space stand there: with the line, and the white space, line
+/// and block comments behind it. Where none stands there the cursor stays, and nothing takes memory.
+///
+/// The caller has seen that no token came before, or that a line terminator stands before the bars. So each comment is for
+/// the token of the bars, but a block comment before a semicolon is not.
+///
+/// # Errors
+///
+/// `AllocError` where there is no memory for a fault, a comment or the error; the cursor then stands where it
+/// stood.
+pub fn scan_bars<'a>(
+    alloc: Global,
+    input: &mut StringInput<'a>,
+    mode: &GapMode,
+) -> Result<Option<Bars<'a>>, AllocError>
+    ensures found { IfOk result (λ bars. option_map bars_view bars ≡
+        option_map (bars_found_at (place input.old)) (grammar.bars_at (place input.old) mode.now (rest input.old))) }
+    ensures moved { OnOk result (input.new ≡
+        (if grammar.opens_bars (rest input.old) then passed (length (grammar.bars_spelling (rest input.old))) input.old else input.old)) }
+    ensures free { grammar.opens_bars (rest input.old) ≡ false → IsOk result }
+    ensures same { OnErr result (input.new ≡ input.old) }
+{
+    let before = input.clone()?;
+    let bars = bars_at(alloc, input, mode);
+    if bars.is_err() {
+        *input = before;
+    }
+    bars
 }

@@ -1,5 +1,5 @@
 //! Gaps: what stands before a token.
-ghost use Rattle.std.specs.Prelude.{◌≡◌, [], false, length, map, is_some, if◌then◌else◌, IfOk, IsOk, OnOk};
+ghost use Rattle.std.specs.Prelude.{◌≡◌, [], false, length, map, is_some, if◌then◌else◌, IfOk, IsOk, OnErr, OnOk};
 ghost use Rattle.ecma_place.specs.Cursor.{rest, place, passed};
 ghost use Rattle.ecma_grammar.specs.Comments.{comments_at};
 ghost use Rattle.ecma_grammar.specs.Found.{fault_view};
@@ -73,7 +73,7 @@ fn read_elements<'a>(
 ///
 /// # Errors
 ///
-/// `AllocError` where there is no memory for a fault or a comment; the cursor then stands somewhere in the text.
+/// `AllocError` where there is no memory for a fault or a comment; the cursor then stands where it stood.
 pub fn scan_gap<'a>(
     alloc: Global,
     input: &mut StringInput<'a>,
@@ -87,14 +87,19 @@ pub fn scan_gap<'a>(
         (input.new ≡ passed (length (grammar.gap_spelling mode.now (rest input.old))) input.old) }
     ensures free { comments_at (place input.old) mode.now (rest input.old) ≡ []
         → grammar.gap_faults_at (place input.old) mode.now (rest input.old) ≡ [] → IsOk result }
+    ensures same { OnErr result (input.new ≡ input.old) }
 {
-    if may_stand(input, mode) {
-        read_elements(alloc, input, mode)
-    } else {
-        Ok(Gap {
+    if !may_stand(input, mode) {
+        return Ok(Gap {
             line_break: mode.first,
             comments: Vec::new(alloc),
             faults: Vec::new(alloc),
-        })
+        });
     }
+    let before = input.clone()?;
+    let gap = read_elements(alloc, input, mode);
+    if gap.is_err() {
+        *input = before;
+    }
+    gap
 }

@@ -1,5 +1,5 @@
 //! Regular expressions.
-ghost use Rattle.std.specs.Prelude.{◌≡◌, ◌≤◌, ◌+◌, ◌∷◌, Some, Ok, true, false, length, drop, is_some, slice_get, encode_utf8_all, IfOk, IsOk, OnOk};
+ghost use Rattle.std.specs.Prelude.{◌≡◌, ◌≤◌, ◌+◌, ◌∷◌, Some, Ok, true, false, length, drop, is_some, slice_get, encode_utf8_all, IfOk, IsOk, OnErr, OnOk};
 ghost use Rattle.ecma_place.specs.Atom.{AtomView, borrowed_atom};
 ghost use Rattle.ecma_place.specs.Cursor.{rest, place, passed};
 ghost use Rattle.ecma_place.specs.Text.{Text, byte_len};
@@ -194,19 +194,8 @@ fn scan_closed<'a>(
     })
 }
 
-/// Reads the regular expression at the cursor (ECMA-262 RegularExpressionLiteral, 12.9.5), and moves behind it: the body
-/// between two slashes, and flags where a start character follows.
-///
-/// The cursor stands at a slash. The answer is a `Regex` with the body and the unescaped flags, or why it is refused:
-///
-/// - `UnterminatedRegExp` over the expression, which then reaches up to a line terminator or the end;
-/// - the refusal of an escape in the flags.
-///
-/// A character that an escape of the flags names and that may not stand there is a fault, `InvalidIdentChar` over the
-/// escape. That flags are checked no further, and the spans of errors, are our own choice.
-///
-/// An expression that is not refused and has no escape in its flags takes no memory.
-pub fn scan_regexp<'a>(
+/// The regular expression at the cursor, behind which the cursor then stands.
+fn expression_at<'a>(
     alloc: Global,
     input: &mut StringInput<'a>,
 ) -> Result<Found<'a, Token<'a>>, AllocError>
@@ -232,4 +221,40 @@ pub fn scan_regexp<'a>(
         extent,
         line_break: false,
     })
+}
+
+/// Reads the regular expression at the cursor (ECMA-262 RegularExpressionLiteral, 12.9.5), and moves behind it: the body
+/// between two slashes, and flags where a start character follows.
+///
+/// The cursor stands at a slash. The answer is a `Regex` with the body and the unescaped flags, or why it is refused:
+///
+/// - `UnterminatedRegExp` over the expression, which then reaches up to a line terminator or the end;
+/// - the refusal of an escape in the flags.
+///
+/// A character that an escape of the flags names and that may not stand there is a fault, `InvalidIdentChar` over the
+/// escape. That flags are checked no further, and the spans of errors, are our own choice.
+///
+/// An expression that is not refused and has no escape in its flags takes no memory.
+///
+/// # Errors
+///
+/// `AllocError` where there is no memory for the flags or an error; the cursor then stands where it stood.
+pub fn scan_regexp<'a>(
+    alloc: Global,
+    input: &mut StringInput<'a>,
+) -> Result<Found<'a, Token<'a>>, AllocError>
+    requires { grammar.opens_expression (rest input.old) ≡ true }
+    ensures found { IfOk result (λ f. found_view token_view f ≡
+        found_at token_behind (place input.old) (grammar.regular_expression (rest input.old))) }
+    ensures moved { OnOk result (input.new ≡ passed (length (grammar.regular_expression (rest input.old)).spelling) input.old) }
+    ensures free { (token : TokenView) → (grammar.regular_expression (rest input.old)).value ≡ Ok token
+        → owns_nothing token ≡ true → IsOk result }
+    ensures same { OnErr result (input.new ≡ input.old) }
+{
+    let before = input.clone()?;
+    let found = expression_at(alloc, input);
+    if found.is_err() {
+        *input = before;
+    }
+    found
 }

@@ -1,5 +1,5 @@
 //! Strings.
-ghost use Rattle.std.specs.Prelude.{◌≡◌, ◌≤◌, ◌++◌, true, Some, [], length, take, map, slice_get, encode_utf8_all, string_bytes, if◌then◌else◌, Ok, IfOk, IsOk, OnOk};
+ghost use Rattle.std.specs.Prelude.{◌≡◌, ◌≤◌, ◌++◌, true, Some, [], length, take, map, slice_get, encode_utf8_all, string_bytes, if◌then◌else◌, Ok, IfOk, IsOk, OnErr, OnOk};
 ghost use Rattle.std.specs.List.{prefix_len};
 ghost use Rattle.ecma_place.specs.Atom.{AtomView};
 ghost use Rattle.ecma_place.specs.Cursor.{rest, place, passed};
@@ -154,17 +154,8 @@ fn string_token<'a>(
     }
 }
 
-/// Reads the string at the cursor (ECMA-262 StringLiteral, 12.9.4, with the octal escapes of Annex B).
-///
-/// The cursor stands at a quote. The value borrows from the source where the string holds no escape, the raw text
-/// always does. CR, LF or the end of the text end a string that is not closed, which is a fault from its quote on (our
-/// own choice); U+2028 and U+2029 do not. Octal escapes are faults of strict code. A refused escape refuses all from
-/// the quote up to where reading goes on. A string without an escape and without a fault takes no memory.
-///
-/// # Errors
-///
-/// `AllocError` where there is no memory for the value or an error; the cursor then stands somewhere in the text.
-pub fn scan_string<'a>(
+/// The string at the cursor, behind which the cursor then stands.
+fn string_at<'a>(
     alloc: Global,
     input: &mut StringInput<'a>,
 ) -> Result<Found<'a, Token<'a>>, AllocError>
@@ -184,4 +175,34 @@ pub fn scan_string<'a>(
         extent: Span::new(start, input.cur_pos()),
         line_break: false,
     })
+}
+
+/// Reads the string at the cursor (ECMA-262 StringLiteral, 12.9.4, with the octal escapes of Annex B).
+///
+/// The cursor stands at a quote. The value borrows from the source where the string holds no escape, the raw text
+/// always does. CR, LF or the end of the text end a string that is not closed, which is a fault from its quote on (our
+/// own choice); U+2028 and U+2029 do not. Octal escapes are faults of strict code. A refused escape refuses all from
+/// the quote up to where reading goes on. A string without an escape and without a fault takes no memory.
+///
+/// # Errors
+///
+/// `AllocError` where there is no memory for the value or an error; the cursor then stands where it stood.
+pub fn scan_string<'a>(
+    alloc: Global,
+    input: &mut StringInput<'a>,
+) -> Result<Found<'a, Token<'a>>, AllocError>
+    requires { grammar.opens_string (rest input.old) ≡ true }
+    ensures found { IfOk result (λ f. found_view token_view f ≡
+        found_at token_behind (place input.old) (grammar.string_literal (rest input.old))) }
+    ensures moved { OnOk result (input.new ≡ passed (length (grammar.string_literal (rest input.old)).spelling) input.old) }
+    ensures free { (token : TokenView) → (grammar.string_literal (rest input.old)).value ≡ Ok token → owns_nothing token ≡ true
+        → (grammar.string_literal (rest input.old)).faults ≡ [] → IsOk result }
+    ensures same { OnErr result (input.new ≡ input.old) }
+{
+    let before = input.clone()?;
+    let found = string_at(alloc, input);
+    if found.is_err() {
+        *input = before;
+    }
+    found
 }

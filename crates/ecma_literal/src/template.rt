@@ -1,5 +1,5 @@
 //! Template text.
-ghost use Rattle.std.specs.Prelude.{◌≡◌, ◌≤◌, ◌<◌, Ok, true, false, length, IfOk, IsOk, OnOk};
+ghost use Rattle.std.specs.Prelude.{◌≡◌, ◌≤◌, ◌<◌, Ok, true, false, length, IfOk, IsOk, OnErr, OnOk};
 ghost use Rattle.std.specs.List.{list_all};
 ghost use Rattle.ecma_place.specs.Cursor.{rest, place, passed};
 ghost use Rattle.ecma_token.specs.View.{token_view};
@@ -104,6 +104,10 @@ fn scan_text<'a>(
 /// terminator stands in the text outside an escape.
 ///
 /// Text without escape, CR and refusal takes no memory.
+///
+/// # Errors
+///
+/// `AllocError` where there is no memory for what the text means or an error; the cursor then stands where it stood.
 pub fn scan_template<'a>(
     alloc: Global,
     input: &mut StringInput<'a>,
@@ -117,10 +121,15 @@ pub fn scan_template<'a>(
     ensures moved { OnOk result (input.new ≡ passed (length (grammar.template_text after_template (rest input.old)).spelling) input.old) }
     ensures free { list_all grammar.is_verbatim (pieces grammar.template_cutter tt (rest input.old)) ≡ true
         → is_accepted (grammar.template_text after_template (rest input.old)).value ≡ true → IsOk result }
+    ensures same { OnErr result (input.new ≡ input.old) }
 {
     if after_template && is_at_mark(input) {
-        Ok(scan_mark(alloc, input))
-    } else {
-        scan_text(alloc, input, opened)
+        return Ok(scan_mark(alloc, input));
     }
+    let before = input.clone()?;
+    let found = scan_text(alloc, input, opened);
+    if found.is_err() {
+        *input = before;
+    }
+    found
 }

@@ -1,5 +1,5 @@
 //! Numbers.
-ghost use Rattle.std.specs.Prelude.{◌≡◌, ◌<◌, ◌+◌, ◌^◌, true, false, [], None, length, IfOk, IsOk, OnOk};
+ghost use Rattle.std.specs.Prelude.{◌≡◌, ◌<◌, ◌+◌, ◌^◌, true, false, [], None, length, IfOk, IsOk, OnErr, OnOk};
 ghost use Rattle.std.specs.List.{list_any};
 ghost use Rattle.ecma_place.specs.Cursor.{rest, place, passed};
 ghost use Rattle.ecma_place.specs.Text.{byte_len};
@@ -63,21 +63,8 @@ fn found_number<'a>(
     })
 }
 
-/// Reads the number at the cursor (ECMA-262 NumericLiteral, 12.9.3, with the legacy forms), and moves behind it.
-///
-/// The cursor stands at a digit, or at a point and a digit. `ts1085` says that a legacy octal is told of as TypeScript
-/// does. The answer is a `Num` or a `BigInt`, or why the number is refused:
-///
-/// - `ExpectedDigit` over the run of a radix or an exponent that has no digit;
-/// - `NumLitTerminatedWithExp`, empty behind a mark of an exponent that ends the text;
-/// - `IdentAfterNum`, empty behind a number that is no big integer, where a name begins there.
-///
-/// The faults are `NumericSeparatorIsAllowedOnlyBetweenTwoDigits` from the start of a run to each separator in it that
-/// does not stand between two digits, and, of a number that is not refused, `LegacyDecimal` over the run, or `TS1085`
-/// and `LegacyOctal` over the number. Which errors there are, and their spans, is our own choice.
-///
-/// A number without separator, refusal and fault takes no memory.
-pub fn scan_number<'a>(
+/// The number at the cursor, behind which the cursor then stands.
+fn number_at<'a>(
     alloc: Global,
     input: &mut StringInput<'a>,
     ts1085: bool,
@@ -96,4 +83,45 @@ pub fn scan_number<'a>(
     let extent = Span::new(start, input.cur_pos());
     let raw = input.slice(extent.lo, extent.hi);
     found_number(alloc, number, raw, extent, input, ts1085)
+}
+
+/// Reads the number at the cursor (ECMA-262 NumericLiteral, 12.9.3, with the legacy forms), and moves behind it.
+///
+/// The cursor stands at a digit, or at a point and a digit. `ts1085` says that a legacy octal is told of as TypeScript
+/// does. The answer is a `Num` or a `BigInt`, or why the number is refused:
+///
+/// - `ExpectedDigit` over the run of a radix or an exponent that has no digit;
+/// - `NumLitTerminatedWithExp`, empty behind a mark of an exponent that ends the text;
+/// - `IdentAfterNum`, empty behind a number that is no big integer, where a name begins there.
+///
+/// The faults are `NumericSeparatorIsAllowedOnlyBetweenTwoDigits` from the start of a run to each separator in it that
+/// does not stand between two digits, and, of a number that is not refused, `LegacyDecimal` over the run, or `TS1085`
+/// and `LegacyOctal` over the number. Which errors there are, and their spans, is our own choice.
+///
+/// A number without separator, refusal and fault takes no memory.
+///
+/// # Errors
+///
+/// `AllocError` where there is no memory for digits or an error; the cursor then stands where it stood.
+pub fn scan_number<'a>(
+    alloc: Global,
+    input: &mut StringInput<'a>,
+    ts1085: bool,
+) -> Result<Found<'a, Token<'a>>, AllocError>
+    requires { grammar.opens_number (rest input.old) ≡ true }
+    ensures found { IfOk result (λ f. found_view token_view f ≡
+        found_at token_behind (place input.old) (grammar.number ts1085 (rest input.old))) }
+    ensures moved { OnOk result
+        (input.new ≡ passed (length (grammar.number ts1085 (rest input.old)).spelling) input.old) }
+    ensures free { list_any grammar.is_separator (grammar.number ts1085 (rest input.old)).spelling ≡ false
+        → is_accepted (grammar.number ts1085 (rest input.old)).value ≡ true
+        → (grammar.number ts1085 (rest input.old)).faults ≡ [] → IsOk result }
+    ensures same { OnErr result (input.new ≡ input.old) }
+{
+    let before = input.clone()?;
+    let found = number_at(alloc, input, ts1085);
+    if found.is_err() {
+        *input = before;
+    }
+    found
 }

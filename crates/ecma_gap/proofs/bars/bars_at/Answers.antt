@@ -1,7 +1,7 @@
 use Rattle.std.proofs.Common.{◌≡◌, true, false, sym, ◌∙◌}
 use Rattle.ecma_place.specs.Cursor.{rest, place}
 use Rattle.ecma_gap.proofs.BarsLemmas.{bars-stand, bars-there, bars-absent, bars-passed, bars-kept}
-use Rattle.ecma_gap.proofs.bars.scan_bars.Goals as goal
+use Rattle.ecma_gap.proofs.bars.bars_at.Goals as goal
 
 pub read_bars-requires : goal.read_bars-requires
 read_bars-requires c = bars-stand (rest c.args.input.now) _ _ c.is_str.ensures c.if-is_str.true

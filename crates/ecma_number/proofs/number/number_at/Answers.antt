@@ -13,7 +13,7 @@ use Rattle.ecma_grammar.proofs.NumberFound.{front-taken, on_any, free-number}
 use Rattle.ecma_number.proofs.NumberLaws.{number_sound, number_tiles}
 use Rattle.ecma_number.proofs.NumberLocal.{spelling_is}
 use Rattle.ecma_number.proofs.NumberReading.{rest-on}
-use Rattle.ecma_number.proofs.number.scan_number.Goals as goal
+use Rattle.ecma_number.proofs.number.number_at.Goals as goal
 
 pub new-extent-requires : goal.new-extent-requires
 new-extent-requires c = rw (c.cur_pos-start.ensures, c.cur_pos.ensures) (place-passed-le _ _ _ c.read_parts-number.ensures.moved)

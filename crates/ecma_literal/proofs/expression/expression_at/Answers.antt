@@ -10,7 +10,7 @@ use Rattle.ecma_grammar.specs.Found.{Scanned, found_view, found_at, token_behind
 use Rattle.ecma_grammar.specs.Pieces.{spelled}
 use Rattle.ecma_grammar.proofs.NumberRefusals.{seen_error}
 use Rattle.ecma_literal.proofs.ExpressionFound.{regex_closed, regex_open, body_taken, body_place, closed_moved, regex_flags, on_map, slash_there, open_place, open_moved, open_found}
-use Rattle.ecma_literal.proofs.expression.scan_regexp.Goals as goal
+use Rattle.ecma_literal.proofs.expression.expression_at.Goals as goal
 
 pub slice-body-requires-clause-in_order : goal.slice-body-requires-clause-in_order
 slice-body-requires-clause-in_order c =

@@ -7,8 +7,8 @@ use Rattle.ecma_grammar.specs.Found.{fault_behind, fault_view, value_view, value
 use Rattle.ecma_grammar.specs.Escapes.{escape, found_escape}
 use Rattle.ecma_escape.specs.EscapeParts.{use_in, escape_value, escape_faults}
 use Rattle.ecma_escape.proofs.EscapeSpans.{escape-take, found-nothing, found-spelling, accepted-value, refused-value, escape-found}
-use Rattle.ecma_escape.proofs.escape.scan_escape.Goals as goal
-use Rattle.ecma_escape.proofs.escape.scan_escape.Goals.{in-None, in-Some}
+use Rattle.ecma_escape.proofs.escape.scanned_escape_at.Goals as goal
+use Rattle.ecma_escape.proofs.escape.scanned_escape_at.Goals.{in-None, in-Some}
 
 pub returns-in_err-push_escape-clause-free : goal.returns-in_err-push_escape-clause-free
 returns-in_err-push_escape-clause-free c = λ h.

@@ -4,7 +4,7 @@ use Rattle.ecma_escape.specs.NameParts.{cow_atom}
 use Rattle.ecma_grammar.specs.Words.{identifier_name}
 use Rattle.ecma_escape.proofs.NameReading.{no-break}
 use Rattle.ecma_escape.proofs.WordReading.{word-found}
-use Rattle.ecma_escape.proofs.word.scan_word.Goals as goal
+use Rattle.ecma_escape.proofs.word.word_at.Goals as goal
 
 pub returns-clause-found : goal.returns-clause-found
 returns-clause-found c =

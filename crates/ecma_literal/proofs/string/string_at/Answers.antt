@@ -3,7 +3,7 @@ use Rattle.ecma_place.proofs.MoveLemmas.{place-passed-le}
 use Rattle.ecma_token.specs.View.{token_view}
 use Rattle.ecma_grammar.specs.Found.{fault_view, value_view}
 use Rattle.ecma_escape.proofs.StringFound.{literal-found}
-use Rattle.ecma_literal.proofs.string.scan_string.Goals as goal
+use Rattle.ecma_literal.proofs.string.string_at.Goals as goal
 
 pub new-requires : goal.new-requires
 new-requires c =
