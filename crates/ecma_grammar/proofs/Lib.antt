@@ -12,3 +12,4 @@ pub mod PieceLemmas
 pub mod PunctuatorLemmas
 pub mod RunReading
 pub mod SignLemmas
+pub mod TellingLaws

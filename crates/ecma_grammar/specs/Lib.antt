@@ -13,6 +13,7 @@ pub mod Pieces
 pub mod Punctuators
 pub mod Shebangs
 pub mod Strings
+pub mod Telling
 pub mod Templates
 pub mod Words
 pub use Rattle.ecma_place.specs.Atom

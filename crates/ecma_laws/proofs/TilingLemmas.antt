@@ -1,12 +1,10 @@
--- Kept tokens and the gaps between them tile the text.
-use Rattle.std.proofs.Common.{◌≡◌, ◌∙◌, ℕ, ◌+◌, ◌-◌, ◌≤◌, Bool, true, false, List, [], ◌∷◌, ◌++◌, Option, Some, None, take, drop, take-append-drop, length, length-drop, refl, sym, subst, ap, arith, encode_utf8_all}
+-- Where a run stands: the tokens that are kept lie in order in its text.
+use Rattle.std.proofs.Common.{◌≡◌, ◌∙◌, ℕ, ◌+◌, ◌≤◌, Bool, true, false, List, [], ◌∷◌, Option, Some, None, take, drop, length, refl, sym, subst, ap, arith}
 use Rattle.std.specs.Prelude.{fold, is_some}
-use Rattle.std.proofs.Math.Seq.{take-add, take-length}
-use Rattle.std.proofs.lemmas.List.{drop-drop}
 use Rattle.ecma_place.specs.Text.{byte_len}
 use Rattle.ecma_place.specs.Cursor.{Cursor, HasPlace, rest, place}
 use Rattle.ecma_place.specs.declared.place.BytePos.{BytePos}
-use Rattle.ecma_place.proofs.MoveLemmas.{byte_len-append, place-passed}
+use Rattle.ecma_place.proofs.MoveLemmas.{place-passed}
 use Rattle.ecma_token.specs.Kinds.{kind_of}
 use Rattle.ecma_token.specs.View.{SpannedView}
 use Rattle.ecma_scan.specs.Expressions.{opens_expression, regular_expression}
@@ -21,7 +19,6 @@ use Rattle.ecma_state.specs.Session.{Again, AtEnd, Past, Plain, Session, has_end
 use Rattle.ecma_state.specs.State.{is_slash, last_slash, slash_in}
 use Rattle.ecma_state.specs.Run.{act_on, acted_on, at_place, given_in, mode_of, popped_from, reading_from, reread_from, session, start_of}
 use Rattle.ecma_laws.specs.Order.{InOrder, TokensAreInOrder}
-use Rattle.ecma_laws.specs.Tiling.{Tiles, bytes_between, joined}
 use Rattle.ecma_stream.proofs.EndLemmas.{ReadsOn, reading-on}
 use Rattle.ecma_dispatch.proofs.FrontLemmas.{expression-front}
 use Rattle.ecma_stream.proofs.SlashLemmas.{again-kind, begins-reading, expression-no-slash, moved-begins, place-there, slash-is}
@@ -117,6 +114,13 @@ read_standing input s plain k = go r.found refl (is_some s.reread) (ap is_some p
       reread = never (AtEnd r.end_flag ∷ s.past);
     }
 
+-- what is read again ends where the read ends
+pub again-ends : (flag : Bool) (here : Cursor) → opens_expression (rest here) ≡ true → place here + byte_len (regular_expression (rest here)).spelling ≡ place (reading_again flag here).input
+again-ends flag here opens =
+    let spelling = (regular_expression (rest here)).spelling in
+    let front : take (length spelling) (rest here) ≡ spelling = expression-front (rest here) opens in
+    sym (place-passed here _ (length spelling) refl ∙ ap (λ l. place here + byte_len l) front)
+
 -- a read from the slash that was read last
 again_standing : (input : Cursor) (s : Session) (p : BytePos) → s.reread ≡ Some p → Standing input s → Standing input (acted_on s (reading_again (last_flag s.past) (at_place p s.input))).after
 again_standing input s p plain k = go (is_some s.reread) (ap is_some plain)
@@ -137,9 +141,7 @@ again_standing input s p plain k = go (is_some s.reread) (ap is_some plain)
     there = place-there s.input p slash.has_place
 
     ends : t.span.hi.0 ≡ place r.input
-    ends =
-        let front : take (length (regular_expression (rest here)).spelling) (rest here) ≡ (regular_expression (rest here)).spelling = expression-front (rest here) slash.opens in
-        sym (place-passed here _ (length (regular_expression (rest here)).spelling) refl ∙ ap (λ l. place here + byte_len l) front)
+    ends = again-ends (last_flag s.past) here slash.opens
 
     below : InOrder (place input) slash.before p.0
     below = let order = subst (λ ts. InOrder (place input) ts (place s.input)) slash.kept k.order in subst (λ q. InOrder (place input) slash.before q.0) slash.begins order.2
@@ -212,60 +214,13 @@ pub fold_standing : (input : Cursor) (s : Session) (steps : List Step) → Stand
 fold_standing input s [] k = k
 fold_standing input s (step ∷ steps) k = fold_standing input (act_on s step) steps (act_standing input s step k)
 
+pub begins_standing : (settings : Settings) (input : Cursor) → Standing input (start_of settings input)
+begins_standing settings input =
+    record { start = refl; text = refl; order = omega arith; ended = λ h. cc; answered = λ p h. cc; reread = λ p h. cc }
+
 pub session_standing : (settings : Settings) (input : Cursor) (steps : List Step) → Standing input (session settings input steps)
 session_standing settings input steps =
-    fold_standing input (start_of settings input) (counting steps)
-    record { start = refl; text = refl; order = omega arith; ended = λ h. cc; answered = λ p h. cc; reread = λ p h. cc }
+    fold_standing input (start_of settings input) (counting steps) (begins_standing settings input)
 
 pub tokens_are_in_order : TokensAreInOrder
 tokens_are_in_order settings input steps = (session_standing settings input steps).order
-
--- two slices that meet are one
-between-parts : (input : Cursor) (low middle high : ℕ) → input.start ≤ low → low ≤ middle → middle ≤ high
-    → bytes_between input low middle ++ bytes_between input middle high ≡ bytes_between input low high
-between-parts input low middle high s l m =
-    let bytes = encode_utf8_all input.text in
-    let a : ℕ = low - input.start in
-    let b : ℕ = middle - input.start in
-    let c : ℕ = high - input.start in
-    let sum : (b - a) + (c - b) ≡ c - a = omega arith in
-    let step : a + (b - a) ≡ b = omega arith in
-    let cut = take-add (b - a) (c - b) (drop a bytes) in
-    let moved : drop (b - a) (drop a bytes) ≡ drop b bytes = drop-drop (b - a) a bytes ∙ ap (λ n. drop n bytes) step in
-    sym (ap (λ n. take n (drop a bytes)) (sym sum) ∙ cut ∙ ap (λ tail. take (b - a) (drop a bytes) ++ take (c - b) tail) moved)
-
-pub joined-in_order : (input : Cursor) (begin end : ℕ) (ts : List SpannedView) → input.start ≤ begin → InOrder begin ts end → joined input begin ts end ≡ bytes_between input begin end
-joined-in_order input begin end [] s order = refl
-joined-in_order input begin end (t ∷ ts) s order =
-    let before = behind_begin begin t.span.lo.0 ts order.2 in
-    let own = order.0 in
-    let within = order.1 in
-    let first : input.start ≤ t.span.lo.0 = omega (arith, before) in
-    let low : begin ≤ t.span.hi.0 = omega (arith, before, own) in
-    ap (λ front. front ++ (bytes_between input t.span.lo.0 t.span.hi.0 ++ bytes_between input t.span.hi.0 end)) (joined-in_order input begin t.span.lo.0 ts s order.2)
-    ∙ ap (λ tail. bytes_between input begin t.span.lo.0 ++ tail) (between-parts input t.span.lo.0 t.span.hi.0 end first own within)
-    ∙ between-parts input begin t.span.lo.0 end s before (omega (arith, own, within))
-
--- where nothing is left, all bytes stand before the cursor
-byte_len-all : (c : Cursor) → rest c ≡ [] → byte_len (take c.at c.text) ≡ byte_len c.text
-byte_len-all c e =
-    let whole = sym (byte_len-append (take c.at c.text) (drop c.at c.text)) ∙ ap byte_len (take-append-drop c.at c.text) in
-    let none : byte_len (drop c.at c.text) ≡ 0 = ap byte_len e in
-    omega (arith, whole, none)
-
-between-all : (input now : Cursor) → now.start ≡ input.start → now.text ≡ input.text → rest now ≡ []
-    → bytes_between input (place input) (place now) ≡ drop (place input - input.start) (encode_utf8_all input.text)
-between-all input now start text e =
-    let bytes = encode_utf8_all input.text in
-    let a : ℕ = place input - input.start in
-    let all : place now ≡ input.start + byte_len input.text = ap (λ n. n + byte_len (take now.at now.text)) start ∙ ap (λ n. input.start + n) (byte_len-all now e ∙ ap byte_len text) in
-    let count : (place now - input.start) - a ≡ length (drop a bytes) = omega (arith, all, length-drop a bytes) in
-    ap (λ n. take n (drop a bytes)) count ∙ take-length (drop a bytes)
-
-pub tiles : Tiles
-tiles settings input steps =
-    let s = session settings input steps in
-    let k = session_standing settings input steps in
-    let begins : input.start ≤ place input = omega arith in
-    let so_far = joined-in_order input (place input) (place s.input) (kept_back s.past) begins k.order in
-    record { so_far = so_far; whole = λ h. so_far ∙ between-all input s.input k.start k.text (k.ended h) }

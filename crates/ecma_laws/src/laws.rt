@@ -6,7 +6,7 @@ ghost use Rattle.ecma_stream.specs.Ending.{ReadsOut, TokensRunOut};
 ghost use Rattle.ecma_laws.specs.FewTokens.{TokensAreFew};
 ghost use Rattle.ecma_laws.specs.Order.{AnswersAreInOrder, TokensAreInOrder};
 ghost use Rattle.ecma_state.specs.Reading.{ReadingIsDetermined};
-ghost use Rattle.ecma_laws.specs.Tiling.{Tiles};
+ghost use Rattle.ecma_laws.specs.Tiling.{NoGapInTemplates, Tiles};
 
 pub mod expressions;
 pub mod gaps;
@@ -16,10 +16,16 @@ pub mod strings;
 pub mod templates;
 pub mod words;
 
-/// Gap, own bytes, gap, own bytes and so on, joined, are the text up to where a run stands; once the end was answered,
-/// all of the text.
+/// From where a run began each piece begins where the one before it ends: the gap that a read reads in its mode, own
+/// bytes, the next read's gap, own bytes and so on, the last a gap once the end was answered. Joined they are the text up
+/// to where the run stands; once the end was answered, all of the text.
 pub fn kept_and_gaps_tile()
     ensures { Tiles }
+{}
+
+/// No gap is read inside a template.
+pub fn no_gap_in_templates()
+    ensures { NoGapInTemplates }
 {}
 
 /// Enough reads answer the end, from any session, and more of them keep the same tokens and errors.

@@ -1,14 +1,18 @@
 -- What a replay keeps, and how it stands to the run of its steps.
 use Rattle.std.specs.Prelude.{◌≡◌, ◌++◌, ⊤, List, [], ◌∷◌, map, reverse}
+use Rattle.ecma_place.specs.Cursor.{Cursor, place}
+use Rattle.ecma_place.specs.declared.place.Span.{Span}
 use Rattle.ecma_token.specs.View.{error_view, spanned_view}
 use Rattle.ecma_state.specs.Counting.{count_all, counting, none_yet}
 use Rattle.ecma_state.specs.Run as run
-use Rattle.ecma_state.specs.Run.{Acted, act_all, answers_behind}
+use Rattle.ecma_state.specs.Run.{Acted, act_all, answers_behind, session}
 use Rattle.ecma_state.specs.Session.{LexerKept, Session, has_ended, kept_back, kept_of, lexer_state, state_of}
+use Rattle.ecma_laws.specs.Tiling.{IsTiled, pieces_read}
 use Rattle.ecma_replay.specs.declared.answer.Answer.{Answer}
 use Rattle.ecma_replay.specs.declared.answer.Answer.TheVariants.{Token, End, Done, Errors, NoSlash, NoSave, NoContext}
 use Rattle.ecma_state.specs.declared.kept.Kept.{Kept}
 use Rattle.ecma_replay.specs.declared.replayed.Replay.{Replay}
+use Rattle.ecma_state.specs.declared.settings.Settings.{Settings}
 use Rattle.ecma_state.specs.declared.step.Step.{Step}
 
 -- how an answer is seen
@@ -70,3 +74,12 @@ pub record Replays (begin : Session) (steps : List Step) (r : Replay) : Type 0 w
   pub waiting : map error_view r.waiting ≡ (act_all begin (counting steps)).errors.waiting
   pub comments : r.comments.items ≡ (act_all begin (counting steps)).comments
   pub ended : r.ended ≡ has_ended (act_all begin (counting steps)).past
+
+-- the spans of the tokens that it keeps, the newest first
+abbrev pub spans_kept : Replay → List Span
+spans_kept r = map (λ k. k.span) (reverse r.kept.items)
+
+-- the tokens that it keeps, and the gap that each read read before them, tile the text of these steps
+abbrev pub TilesText : Settings → Cursor → List Step → Replay → Type 0
+TilesText settings input steps r =
+    IsTiled input (spans_kept r) r.ended (place (session settings input steps).input) (pieces_read settings input steps)

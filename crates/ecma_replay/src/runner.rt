@@ -3,7 +3,7 @@ ghost use Rattle.std.specs.Prelude.{◌≡◌, ◌+◌, ◌<◌, ◌^◌, ◌++�
 ghost use Rattle.std.specs.Str.{chars};
 ghost use Rattle.ecma_state.specs.Session.{Session};
 ghost use Rattle.ecma_state.specs.Run.{start_of};
-ghost use Rattle.ecma_replay.specs.Replay.{Follows, Replays, with_answer};
+ghost use Rattle.ecma_replay.specs.Replay.{Follows, Replays, TilesText, with_answer};
 ghost use Rattle.ecma_state.specs.declared.step.Step.{Step};
 
 use crate::answer::Answer;
@@ -145,7 +145,9 @@ pub fn replay<'a>(
     steps: &[Step],
 ) -> Result<Replay<'a>, AllocError>
     requires { start.0 + length source.now < 2 ^ 32 }
-    ensures { IfOk result (λ r. Replays (start_of settings.now record { start = start.0; text = chars source.now; at = 0 }) steps.now r) }
+    ensures replays { IfOk result (λ r. Replays (start_of settings.now record { start = start.0; text = chars source.now; at = 0 }) steps.now r) }
+    // Each token that is kept stands right behind the gap that was read before it, and that behind the token before.
+    ensures tiled { IfOk result (λ r. TilesText settings.now record { start = start.0; text = chars source.now; at = 0 } steps.now r) }
 {
     let mut runner = Runner::new(alloc, settings, StringInput::new(source, start));
     'steps: for step in steps {

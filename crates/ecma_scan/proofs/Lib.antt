@@ -60,6 +60,7 @@ pub use Rattle.ecma_grammar.proofs.SignLemmas
 pub use Rattle.ecma_escape.proofs.StringFound
 pub use Rattle.ecma_escape.proofs.StringLaws
 pub use Rattle.ecma_escape.proofs.StringReading
+pub use Rattle.ecma_grammar.proofs.TellingLaws
 pub use Rattle.ecma_literal.proofs.TemplateFound
 pub use Rattle.ecma_literal.proofs.TemplateLaws
 pub use Rattle.ecma_literal.proofs.TemplatePieces

@@ -14,6 +14,7 @@ pub use Rattle.ecma_grammar.specs.Pieces
 pub use Rattle.ecma_grammar.specs.Punctuators
 pub use Rattle.ecma_grammar.specs.Shebangs
 pub use Rattle.ecma_grammar.specs.Strings
+pub use Rattle.ecma_grammar.specs.Telling
 pub use Rattle.ecma_grammar.specs.Templates
 pub use Rattle.ecma_grammar.specs.Words
 pub use Rattle.ecma_gap.specs.BlankGaps

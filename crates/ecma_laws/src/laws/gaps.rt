@@ -3,6 +3,7 @@ ghost use Rattle.ecma_scan.specs.Bars.{BarsTile};
 ghost use Rattle.ecma_scan.specs.Comments.{SemicolonFollows, CommentsLieInOrder};
 ghost use Rattle.ecma_scan.specs.Gaps.{ElementsAreRuled, GapTiles, GapIsFront, FlagIsBehind, CommentBodyIsFirst, NoElement, NothingIsTheGap, SpaceIsTheGap, LineFeedIsTheGap, GapFaultsMove};
 ghost use Rattle.ecma_scan.specs.Shebangs.{ShebangIsLocal, ShebangBeginsNoGap};
+ghost use Rattle.ecma_scan.specs.Telling.{ElementsTell, OpeningFaultIsNext};
 
 /// The elements of a text are as the rules of gaps say, and are the only ones that are so.
 pub fn elements_are_ruled()
@@ -53,6 +54,18 @@ pub fn line_feed_is_the_gap()
 /// The faults of a gap are the same wherever it stands.
 pub fn gap_faults_move()
     ensures { GapFaultsMove }
+{}
+
+/// The fault of a `<!--` comes right behind the faults of the white space, line and block comments that stand directly
+/// behind it, and before those of all that follows.
+pub fn opening_fault_is_next()
+    ensures { OpeningFaultIsNext }
+{}
+
+/// The comments of elements in a row are told by the elements alone: one of each that has one, in order, with its kind,
+/// span and text.
+pub fn elements_tell()
+    ensures { ElementsTell }
 {}
 
 /// A semicolon follows a comment where the elements behind it are white space alone and the semicolon stands behind

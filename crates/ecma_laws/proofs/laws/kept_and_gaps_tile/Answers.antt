@@ -1,4 +1,4 @@
-use Rattle.ecma_laws.proofs.TilingLemmas.{tiles}
+use Rattle.ecma_laws.proofs.GapTiling.{tiles}
 use Rattle.ecma_laws.proofs.laws.kept_and_gaps_tile.Goals as goal
 
 pub returns : goal.returns
