@@ -2,28 +2,17 @@
 #![tactic(auto)]
 
 use ecma_lines::run;
-use std::env::Env;
+use ecma_stdio::{arguments, exit_code, exit_without_words, words};
 use std::process::ExitCode;
-use std::{env, io};
-
-/// The status where the words themselves can't be had.
-const NO_WORDS: u8 = 5;
-
-/// The words behind the program's name.
-fn words<R: Env + AllocGlobal>(rt: &R) -> io::Result<Vec<String>> {
-    let words = env::args(rt)?.skip(1).collect(rt.alloc())?;
-    Ok(words)
-}
 
 fn main(rt: HostRuntime) -> ExitCode {
-    let status = match words(&rt) {
-        Ok(words) => run(
+    match arguments(&rt) {
+        Ok(arguments) => exit_code(run(
             rt.alloc(),
-            words.as_slice(),
+            words(arguments.as_slice()),
             &mut rt.stdin(),
             &mut rt.stdout(),
-        ),
-        Err(_) => NO_WORDS,
-    };
-    ExitCode::from(status)
+        )),
+        Err(_) => exit_without_words(),
+    }
 }

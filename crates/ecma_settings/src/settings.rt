@@ -218,16 +218,27 @@ impl Syntax {
 /// The versions of ECMAScript, oldest first. The list is our own choice.
 #[derive(Debug, Clone, Copy, PartialEq, Eq, PartialOrd, Ord, Hash)]
 pub enum EsVersion {
+    /// The third edition, of 1999.
     Es3,
+    /// The fifth edition, of 2009; the default.
     Es5,
+    /// The sixth edition, of 2015.
     Es2015,
+    /// The seventh edition, of 2016.
     Es2016,
+    /// The eighth edition, of 2017.
     Es2017,
+    /// The ninth edition, of 2018.
     Es2018,
+    /// The tenth edition, of 2019.
     Es2019,
+    /// The eleventh edition, of 2020.
     Es2020,
+    /// The twelfth edition, of 2021.
     Es2021,
+    /// The thirteenth edition, of 2022.
     Es2022,
+    /// What comes behind the thirteenth edition.
     EsNext,
 }
 

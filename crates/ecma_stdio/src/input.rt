@@ -15,6 +15,9 @@ pub const MOST_TURNS: u64 = 4_294_967_296;
 /// The longest text whose places all have a number.
 const LONGEST: usize = 4_294_967_295;
 
+// A reader that gives the longest text byte by byte, and then ends, is read to its end.
+const _: () = prove!(MOST_TURNS > LONGEST as u64);
+
 /// Reads to the end, which has to come within so many reads. A read that a signal interrupts has failed.
 ///
 /// # Errors

@@ -19,37 +19,53 @@ pub struct Error<'a> {
 #[cycle(token)]
 #[derive(Debug, PartialEq, Drop)]
 pub enum SyntaxError<'a> {
+    /// A decimal that begins with 0, in strict mode code (ECMA-262, 12.9.3).
     LegacyDecimal,
+    /// A legacy octal in strict mode code (ECMA-262, 12.9.3, 12.9.4), or as an escape in a template (12.9.6).
     LegacyOctal,
+    /// An escape in a name, of what cannot stand there (ECMA-262, 12.7).
     InvalidIdentChar,
     /// A number that lacks its digits, of this radix.
     ExpectedDigit {
         radix: Radix,
     },
+    /// A block comment that nothing closes (ECMA-262, 12.4).
     UnterminatedBlockComment,
+    /// A string that nothing closes on its line (ECMA-262, 12.9.4).
     UnterminatedStrLit,
+    /// A backslash in a name, with no `u` behind it (ECMA-262, 12.7).
     ExpectedUnicodeEscape,
     /// A reserved word that is written with an escape.
     EscapeInReservedWord {
         word: Atom<'a>,
     },
+    /// A regular expression that nothing closes on its line (ECMA-262, 12.9.5).
     UnterminatedRegExp,
+    /// A template that nothing closes (ECMA-262, 12.9.6).
     UnterminatedTpl,
+    /// A name right behind a number (ECMA-262, 12.9.3).
     IdentAfterNum,
     /// A character that begins no token.
     UnexpectedChar {
         c: char,
     },
+    /// A backslash in a string or template that ends the text (ECMA-262, 12.9.4).
     InvalidStrEscape,
+    /// An escape whose brace nothing closes (ECMA-262, 12.9.4).
     InvalidUnicodeEscape,
     /// An escape that has not the form that is wanted.
     BadCharacterEscapeSequence {
         expected: &'static str,
     },
+    /// A number whose exponent ends the text right behind its `e` (ECMA-262, 12.9.3).
     NumLitTerminatedWithExp,
+    /// An HTML-like comment in module code (ECMA-262, B.1.1).
     LegacyCommentInModule,
+    /// A `_` in a number with no digit before it, or none right behind it (ECMA-262, 12.9.3).
     NumericSeparatorIsAllowedOnlyBetweenTwoDigits,
+    /// A legacy octal number in TypeScript, for the fifth edition or a later one.
     TS1085,
+    /// A conflict marker of a merge.
     TS1185,
     /// One of the parser's errors that hold nothing.
     Plain(PlainError),

@@ -5,28 +5,51 @@ ghost use Rattle.ecma_word.specs.Operators.{bin_op_text, binary_op_of, binary_op
 /// An operator between two operands, as a token: the punctuators among them (ECMA-262, 12.8).
 #[derive(Debug, Clone, Copy, PartialEq, Eq, Hash)]
 pub enum BinOpToken {
+    /// `==`: equal, loosely (ECMA-262, 13.11).
     EqEq,
+    /// `!=`: not equal, loosely (ECMA-262, 13.11).
     NotEq,
+    /// `===`: equal, strictly (ECMA-262, 13.11).
     EqEqEq,
+    /// `!==`: not equal, strictly (ECMA-262, 13.11).
     NotEqEq,
+    /// `<`: less (ECMA-262, 13.10).
     Lt,
+    /// `<=`: less or equal (ECMA-262, 13.10).
     LtEq,
+    /// `>`: greater (ECMA-262, 13.10).
     Gt,
+    /// `>=`: greater or equal (ECMA-262, 13.10).
     GtEq,
+    /// `<<`: shift to the left (ECMA-262, 13.9).
     LShift,
+    /// `>>`: shift to the right that keeps the sign (ECMA-262, 13.9).
     RShift,
+    /// `>>>`: shift to the right that fills with zeros (ECMA-262, 13.9).
     ZeroFillRShift,
+    /// `+`: sum, or texts joined (ECMA-262, 13.8).
     Add,
+    /// `-`: difference (ECMA-262, 13.8).
     Sub,
+    /// `*`: product (ECMA-262, 13.7).
     Mul,
+    /// `/`: quotient (ECMA-262, 13.7).
     Div,
+    /// `%`: remainder (ECMA-262, 13.7).
     Mod,
+    /// `|`: or, bit by bit (ECMA-262, 13.12).
     BitOr,
+    /// `^`: exclusive or, bit by bit (ECMA-262, 13.12).
     BitXor,
+    /// `&`: and, bit by bit (ECMA-262, 13.12).
     BitAnd,
+    /// `**`: power (ECMA-262, 13.6).
     Exp,
+    /// `||`: or, of conditions (ECMA-262, 13.13).
     LogicalOr,
+    /// `&&`: and, of conditions (ECMA-262, 13.13).
     LogicalAnd,
+    /// `??`: the second in place of null or undefined (ECMA-262, 13.13).
     NullishCoalescing,
 }
 

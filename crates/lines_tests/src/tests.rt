@@ -2,8 +2,9 @@
 use ecma_lines::command::Options;
 use ecma_lines::comments::comments_text;
 use ecma_lines::run;
-use ecma_stdio::{Halt, read_all};
+use ecma_stdio::{Halt, arguments, read_all, words};
 use std::alloc::Global;
+use std::env::{Env, FillError};
 use std::io;
 use std::io::{Read, Write};
 use std::process::Abort;
@@ -45,6 +46,34 @@ impl Read for Scripted<'_> {
                 Ok(1)
             }
         }
+    }
+}
+
+/// A process that was started with these arguments.
+#[derive(Clone, Copy)]
+struct Started<'a> {
+    arguments: &'a [&'a str],
+}
+
+impl Env for Started<'_> {
+    fn arg(&self, i: usize, buf: &mut [u8]) -> Result<usize, FillError> {
+        let Some(argument) = self.arguments.get(i) else {
+            return Err(FillError::NotPresent);
+        };
+        let bytes = argument.as_bytes();
+        if bytes.len() > buf.len() {
+            return Err(FillError::TooLong);
+        }
+        buf[..bytes.len()].copy_from_slice(bytes);
+        Ok(bytes.len())
+    }
+
+    fn var(&self, _name: &str, _buf: &mut [u8]) -> Result<usize, FillError> {
+        Err(FillError::NotPresent)
+    }
+
+    fn var_at(&self, _i: usize, _buf: &mut [u8]) -> Result<usize, FillError> {
+        Err(FillError::NotPresent)
     }
 }
 
@@ -434,6 +463,56 @@ fn counts_the_turns_of_reading(rt: HostRuntime) {
     assert!(rt; within.is_ok());
     let beyond = read_all(rt.alloc(), &mut Scripted::new(&script), 2);
     assert!(rt; matches!(beyond, Err(Halt::ReadFailed)));
+}
+
+#[test]
+fn reads_to_the_end(rt: HostRuntime) -> Result<(), Fail> {
+    let mut script = [Call::Gives(b' '); 300];
+    script[299] = Call::Gives(b'a');
+    let mut writer = Page::new(PAGE, PAGE, WhenFull::Fails);
+    assert_eq!(rt;
+        run(rt.alloc(), &[], &mut Scripted::new(&script), &mut writer),
+        0
+    );
+    assert_eq!(rt; writer.held(), b"299 300 lf Ident a\n".as_slice());
+    let mut long = vec![in rt.alloc(); b' '; 200_000]?;
+    long.push(b'a')?;
+    assert_run(
+        &rt,
+        rt.alloc(),
+        &[],
+        long.as_slice(),
+        0,
+        b"200000 200001 lf Ident a\n",
+    );
+    Ok(())
+}
+
+/// Asserts which words a process takes from its arguments.
+fn assert_taken(
+    rt: &impl Abort,
+    alloc: Global,
+    started: &[&str],
+    taken: &[&str],
+) -> Result<(), Fail> {
+    let arguments = arguments(&(Started { arguments: started }, alloc))?;
+    let words = words(arguments.as_slice());
+    assert_eq!(rt; words.len(), taken.len());
+    for (word, wanted) in words.iter().zip(taken) {
+        assert_eq!(rt; word.as_str(), *wanted);
+    }
+    Ok(())
+}
+
+#[test]
+fn takes_all_arguments_but_the_first(rt: HostRuntime) -> Result<(), Fail> {
+    let alloc = rt.alloc();
+    assert_taken(&rt, alloc, &[], &[])?;
+    assert_taken(&rt, alloc, &["ecma_lex"], &[])?;
+    assert_taken(&rt, alloc, &["ecma_lex", "errors"], &["errors"])?;
+    let started = ["ecma_lex", "tokens", "ts", "reread", "3"].as_slice();
+    let taken = ["tokens", "ts", "reread", "3"].as_slice();
+    assert_taken(&rt, alloc, started, taken)
 }
 
 #[test]
