@@ -2,6 +2,7 @@ pub mod CollectingLemmas
 pub mod DeterminedLemmas
 pub mod EmptyLemmas
 pub mod FewLemmas
+pub mod FreeLemmas
 pub mod GapTiling
 pub mod GoingBack
 pub mod OrderLemmas

@@ -2,6 +2,7 @@ pub mod Collecting
 pub mod EmptyTokens
 pub mod Excursion
 pub mod FewTokens
+pub mod FreeReads
 pub mod Order
 pub mod Tiling
 pub use Rattle.ecma_state.specs.Attachment

@@ -4,6 +4,7 @@ ghost use Rattle.ecma_laws.specs.EmptyTokens.{EmptyTokensStandAlone};
 ghost use Rattle.ecma_laws.specs.Excursion.{GoingBackUndoes};
 ghost use Rattle.ecma_stream.specs.Ending.{ReadsOut, TokensRunOut};
 ghost use Rattle.ecma_laws.specs.FewTokens.{TokensAreFew};
+ghost use Rattle.ecma_laws.specs.FreeReads.{ReadsAreFree};
 ghost use Rattle.ecma_laws.specs.Order.{AnswersAreInOrder, TokensAreInOrder};
 ghost use Rattle.ecma_state.specs.Reading.{ReadingIsDetermined};
 ghost use Rattle.ecma_laws.specs.Tiling.{NoGapInTemplates, Tiles};
@@ -76,4 +77,11 @@ pub fn collecting_changes_nothing()
 /// Each comment that the reads of a run find is kept once, with its kind, span and text.
 pub fn comments_are_kept()
     ensures { CommentsAreKept }
+{}
+
+/// A read takes no memory, where fewer than 128 contexts stand, that finds no fault and no comment that is collected, and a
+/// token that means what is written of it: no error, with no backslash in its spelling, a number with no `_`, a template's
+/// text with no CR.
+pub fn reads_are_free()
+    ensures { ReadsAreFree }
 {}
