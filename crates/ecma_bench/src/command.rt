@@ -2,7 +2,7 @@
 ghost use Rattle.std.specs.Prelude.{◌≡◌, map, string_bytes};
 ghost use Rattle.ecma_bench.specs.Command.{count_asked};
 
-use ecma_stdio::Fault;
+use ecma_stdio::{Fault, number};
 use std::alloc::Global;
 
 /// Whether the words ask for the number of tokens, and then whether of TypeScript.
@@ -46,14 +46,6 @@ impl Measure {
             typescript,
             rereads: rereads(alloc, behind)?,
         })
-    }
-}
-
-/// A number from 1 on, without a leading zero.
-fn number(word: &str) -> Option<u64> {
-    match word.as_bytes() {
-        [b'1'..=b'9', ..] => word.parse::<u64>().ok(),
-        _ => None,
     }
 }
 

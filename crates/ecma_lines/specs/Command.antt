@@ -1,7 +1,7 @@
 -- What the words of the command line ask for. The words are our own choice.
-use Rattle.std.specs.Prelude.{ℕ, ◌^◌, Bool, true, false, ◌&&◌, List, [], ◌∷◌, ◌++◌, Option, Some, None, if◌then◌else◌, codes, nat_eq, nat_le, nat_lt}
+use Rattle.std.specs.Prelude.{ℕ, Bool, true, false, List, [], ◌∷◌, ◌++◌, Option, Some, None, if◌then◌else◌, codes, nat_eq, nat_lt}
 use Rattle.std.specs.Cmp.Lexicographic.{pointwise}
-use Rattle.std.specs.Str.Parse.{digits_value}
+use Rattle.ecma_stdio.specs.Numbers.{number_of}
 use Rattle.ecma_lines.specs.declared.command.Command.{Command}
 use Rattle.ecma_lines.specs.declared.command.Command.TheVariants.{Tokens, Errors, Comments}
 use Rattle.ecma_lines.specs.declared.command.Options.{Options}
@@ -30,17 +30,6 @@ with_option o word =
 
 abbrev pub no_options : Options
 no_options = record { typescript = false; «module» = false; strict = false }
-
--- a number of a token: from 1 to 18,446,744,073,709,551,615, without a leading zero
-
-abbrev pub are_digits : List ℕ → Bool
-are_digits [] = true
-are_digits (c ∷ cs) = (nat_le 48 c && nat_le c 57) && are_digits cs
-
-abbrev pub number_of : List ℕ → Option ℕ
-number_of [] = None
-number_of (c ∷ cs) =
-    if (nat_le 49 c && are_digits (c ∷ cs)) && nat_lt (digits_value 10 (c ∷ cs)) (2 ^ 64) then Some (digits_value 10 (c ∷ cs)) else None
 
 -- what the words behind the command ask for so far: options, the numbers of the tokens that are read again, in order, the
 -- last of them, or 0 where there is none, and whether the next word has to be one

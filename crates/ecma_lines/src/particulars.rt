@@ -1,22 +1,12 @@
 //! The words behind a command, and what they ask for.
 ghost use Rattle.std.specs.Prelude.{◌≡◌, false, None, Some, MatchOption, MatchResult, map, string_bytes};
 ghost use Rattle.ecma_lines.specs.Command as grammar;
-ghost use Rattle.ecma_lines.specs.Command.{behind, no_particulars, number_of, request_view, with_number, with_word};
+ghost use Rattle.ecma_lines.specs.Command.{behind, no_particulars, request_view, with_number, with_word};
 ghost use Rattle.ecma_lines.specs.Gathered.{Follows, Holds};
 
 use crate::command::{Command, Options, Request};
+use ecma_stdio::number;
 use std::alloc::{AllocError, Global};
-
-/// The number that a word writes, from 1 to 18,446,744,073,709,551,615, without a leading zero.
-#[tactic(auto, using(crate::proofs::Numbers::number_parsed, crate::proofs::Numbers::number_none))]
-fn number(word: &str) -> Option<u64>
-    ensures { result ≡ number_of word.now }
-{
-    match word.as_bytes().first() {
-        Some(first) if b'1' <= *first && *first <= b'9' => word.parse().ok(),
-        _ => None,
-    }
-}
 
 /// What the words behind the command ask for.
 #[derive(Drop)]

@@ -1,3 +1,4 @@
 pub mod Halting
+pub mod Numbers
 pub mod TextReplies
 pub mod Writing

@@ -1,6 +1,7 @@
-//! What a program's `main` does besides its work: it takes the words of its command line, and tells how the work ended.
+//! The edge of a program: the words of its command line, the numbers among them, and the status that it ends with.
 ghost use Rattle.std.specs.Prelude.{◌≡◌, drop};
 ghost use Rattle.std.specs.Process.{exit_status};
+ghost use Rattle.ecma_stdio.specs.Numbers.{number_of};
 
 use std::env::Env;
 use std::process::ExitCode;
@@ -26,6 +27,17 @@ pub fn words(arguments: &[String]) -> &[String]
     match arguments {
         [_, words @ ..] => words,
         [] => arguments,
+    }
+}
+
+/// The number that a word writes, from 1 to 18,446,744,073,709,551,615, without a leading zero.
+#[tactic(auto, using(crate::proofs::Numbers::number_parsed, crate::proofs::Numbers::number_none))]
+pub fn number(word: &str) -> Option<u64>
+    ensures { result ≡ number_of word.now }
+{
+    match word.as_bytes().first() {
+        Some(first) if b'1' <= *first && *first <= b'9' => word.parse().ok(),
+        _ => None,
     }
 }
 

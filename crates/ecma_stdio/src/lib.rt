@@ -7,7 +7,7 @@ pub mod fault;
 pub mod input;
 pub mod output;
 
-pub use command_line::{arguments, exit_code, exit_without_words, words};
+pub use command_line::{arguments, exit_code, exit_without_words, number, words};
 pub use fault::{Fault, Halt};
 pub use input::{MOST_TURNS, read_all, text_of};
 pub use output::{FAILED, send, send_fault};

@@ -1,4 +1,4 @@
-//! What the tests of messages, debug texts and copies share.
+//! What the tests of messages, debug texts and copies share; the questions of kinds need nothing of it.
 ghost use Rattle.std.specs.Prelude.{◌≤◌};
 
 mod copies;
@@ -6,6 +6,7 @@ mod debug_texts;
 mod fixed_messages;
 mod messages;
 mod names;
+mod questions;
 
 use ecma_place::{Atom, BytePos, Span};
 use ecma_token::{SyntaxError, Token};

@@ -1,7 +1,7 @@
 use Rattle.std.proofs.Common.{arith, ap, ◌∙◌}
 use Rattle.std.specs.Prelude.{slice_get}
-use Rattle.ecma_lines.proofs.Numbers.{number_parsed}
-use Rattle.ecma_lines.proofs.particulars.number.Goals as goal
+use Rattle.ecma_stdio.proofs.Numbers.{number_parsed}
+use Rattle.ecma_stdio.proofs.command_line.number.Goals as goal
 
 pub returns-in-Some : goal.returns-in-Some
 returns-in-Some c =

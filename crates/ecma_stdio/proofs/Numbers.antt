@@ -6,7 +6,7 @@ use Rattle.std.proofs.lemmas.Result.{Ok-from_Ok_iff}
 use Rattle.std.specs.Str.Parse.{AllDigits, IsNumeral, ParsesUnsigned, digits_value}
 use Rattle.std.proofs.lemmas.Str.{digit_value_digit}
 use Rattle.std.proofs.lemmas.Str.Parse.{digit_from_value}
-use Rattle.ecma_lines.specs.Command.{are_digits, number_of}
+use Rattle.ecma_stdio.specs.Numbers.{are_digits, number_of}
 
 both : (a b : Bool) → (a && b) ≡ true → (a ≡ true) × (b ≡ true)
 both true true h = (refl, refl)
