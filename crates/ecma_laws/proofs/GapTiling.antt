@@ -58,9 +58,9 @@ stands-gap : (input c : Cursor) (gap more : Text) → c.start ≡ input.start �
 stands-gap input c gap more start text e high reach = (
   reach,
   ap (bytes_between input (place c)) reach
-  ∙ ap (λ s. take ((((place c + byte_len gap)) - s) - (place c - s)) (drop (place c - s) (encode_utf8_all input.text))) (sym start)
-  ∙ ap (λ l. take ((((place c + byte_len gap)) - c.start) - (place c - c.start)) (drop (place c - c.start) (encode_utf8_all l))) (sym text)
-  ∙ gap-bytes c gap more e,
+      ∙ ap (λ s. take ((((place c + byte_len gap)) - s) - (place c - s)) (drop (place c - s) (encode_utf8_all input.text))) (sym start)
+      ∙ ap (λ l. take ((((place c + byte_len gap)) - c.start) - (place c - c.start)) (drop (place c - c.start) (encode_utf8_all l))) (sym text)
+      ∙ gap-bytes c gap more e,
 )
 
 -- Where a read finds what stands behind its gap

@@ -4,6 +4,9 @@ pub mod EmptyLemmas
 pub mod FewLemmas
 pub mod GapTiling
 pub mod GoingBack
+pub mod NestedLemmas
+pub mod NothingLemmas
 pub mod OrderLemmas
 pub mod StepLemmas
 pub mod TilingLemmas
+pub mod ToldLemmas

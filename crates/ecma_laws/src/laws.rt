@@ -1,12 +1,14 @@
 //! Laws over the definitions alone.
 ghost use Rattle.ecma_laws.specs.Collecting.{CollectingChangesNothing, CommentsAreKept};
 ghost use Rattle.ecma_laws.specs.EmptyTokens.{EmptyTokensStandAlone};
-ghost use Rattle.ecma_laws.specs.Excursion.{GoingBackUndoes};
+ghost use Rattle.ecma_laws.specs.Excursion.{GoingBackUndoes, NestedExcursionsAreUndone};
 ghost use Rattle.ecma_stream.specs.Ending.{ReadsOut, TokensRunOut};
 ghost use Rattle.ecma_laws.specs.FewTokens.{TokensAreFew};
+ghost use Rattle.ecma_laws.specs.NothingBehind.{NothingBehindTheEnd};
 ghost use Rattle.ecma_laws.specs.Order.{AnswersAreInOrder, TokensAreInOrder};
 ghost use Rattle.ecma_state.specs.Reading.{ReadingIsDetermined};
 ghost use Rattle.ecma_laws.specs.Tiling.{NoGapInTemplates, Tiles};
+ghost use Rattle.ecma_laws.specs.ToldComments.{CommentsAreTold};
 
 pub mod expressions;
 pub mod gaps;
@@ -36,6 +38,11 @@ pub fn reads_end()
 /// What a read finds depends on the mode, on what is left, and on the place of that alone.
 pub fn reading_is_determined()
     ensures { ReadingIsDetermined }
+{}
+
+/// The iterator gives nothing behind its end, where no slash is read again: no token, and nothing but a refusal of memory.
+pub fn nothing_behind_the_end()
+    ensures { NothingBehindTheEnd }
 {}
 
 /// Each token that is read leaves fewer that may come: at most two for a character, and one.
@@ -68,6 +75,11 @@ pub fn going_back_undoes()
     ensures { GoingBackUndoes }
 {}
 
+/// It undoes also what an excursion saved and went back on inside itself.
+pub fn nested_excursions_are_undone()
+    ensures { NestedExcursionsAreUndone }
+{}
+
 /// Collecting comments changes no token, flag or error, nor anything else but the comments.
 pub fn collecting_changes_nothing()
     ensures { CollectingChangesNothing }
@@ -76,4 +88,10 @@ pub fn collecting_changes_nothing()
 /// Each comment that the reads of a run find is kept once, with its kind, span and text.
 pub fn comments_are_kept()
     ensures { CommentsAreKept }
+{}
+
+/// The elements of the gaps that a run reads, and of its markers of bars, tell which comments it keeps: the line comments,
+/// closed block comments, `<!--`, `-->` and markers, each once, with its kind, span and text.
+pub fn comments_are_told()
+    ensures { CommentsAreTold }
 {}

@@ -10,14 +10,14 @@ use Rattle.ecma_state.specs.Run.{reading_of, state_behind}
 use Rattle.ecma_state.specs.Session.{LexerKept, LexerState, lexer_state}
 
 -- where memory was not refused before: the token or the end that a read answers, or that memory is refused
-abbrev ReadItem : LexerKept → Option (Result TokenAndSpan AllocError) → LexerKept → Type 0
+abbrev pub ReadItem : LexerKept → Option (Result TokenAndSpan AllocError) → LexerKept → Type 0
 ReadItem old None new = ((reading_of (lexer_state old)).found ≡ None) × (lexer_state new ≡ state_behind (lexer_state old) (reading_of (lexer_state old)))
 ReadItem old (Some (Ok token)) new =
     ((reading_of (lexer_state old)).found ≡ Some (spanned_view token)) × (lexer_state new ≡ state_behind (lexer_state old) (reading_of (lexer_state old)))
 ReadItem old (Some (Err error)) new = (new.refused ≡ true) × (new.errors ≡ old.errors)
 
 -- a refusal comes once: behind it there is nothing
-abbrev ItemIf : Bool → LexerKept → Option (Result TokenAndSpan AllocError) → LexerKept → Type 0
+abbrev pub ItemIf : Bool → LexerKept → Option (Result TokenAndSpan AllocError) → LexerKept → Type 0
 ItemIf true old item new = (item ≡ None) × (new ≡ old)
 ItemIf false old item new = ReadItem old item new
 
