@@ -6,7 +6,7 @@ use Rattle.std.proofs.lemmas.List.{drop-drop}
 use Rattle.std.proofs.lemmas.Option.{none-some}
 use Rattle.std.proofs.lemmas.Str.{encodes-append}
 use Rattle.ecma_place.specs.Text.{Text, byte_len}
-use Rattle.ecma_place.specs.Cursor.{Cursor, passed, place, rest}
+use Rattle.ecma_place.specs.Cursor.{Cursor, place, rest}
 use Rattle.ecma_place.specs.declared.place.BytePos.{BytePos}
 use Rattle.ecma_place.specs.declared.place.Span.{Span}
 use Rattle.ecma_place.proofs.MoveLemmas.{byte_len-append, place-passed}
@@ -20,10 +20,10 @@ use Rattle.ecma_scan.specs.Pieces.{spelled}
 use Rattle.ecma_scan.proofs.GapLaws.{gap_is_front}
 use Rattle.ecma_state.specs.Contexts.{Contexts}
 use Rattle.ecma_state.specs.Counting.{counting}
-use Rattle.ecma_state.specs.Mode.{gap_mode, is_template}
+use Rattle.ecma_state.specs.Mode.{gap_mode}
 use Rattle.ecma_state.specs.Reading.{Reading, behind_gap, gap_in, reading, reading_again, reading_behind, reading_code, reading_if, spanned, stands_shebang}
 use Rattle.ecma_state.specs.Run.{act_on, acted_on, at_place, given_in, mode_of, popped_from, reading_from, reread_from, session, start_of}
-use Rattle.ecma_state.specs.Session.{Again, AtEnd, Past, Plain, Session, kept_back, kept_of, last_flag, seen_of, state_of}
+use Rattle.ecma_state.specs.Session.{Session, kept_back, kept_of, last_flag, seen_of, state_of}
 use Rattle.ecma_state.specs.State.{is_slash, last_slash, slash_in}
 use Rattle.ecma_state.specs.declared.mode.Mode.{Mode}
 use Rattle.ecma_state.specs.declared.settings.Settings.{Settings}
@@ -32,7 +32,7 @@ use Rattle.ecma_state.specs.declared.step.Step.TheVariants.{Read, SetCtx, SetExp
 use Rattle.ecma_token.specs.Kinds.{kind_of}
 use Rattle.ecma_stream.proofs.EndLemmas.{ReadsOn, reading-on, token-extent}
 use Rattle.ecma_stream.proofs.SlashLemmas.{again-kind, expression-no-slash, place-there, slash-is}
-use Rattle.ecma_laws.specs.Tiling.{EndBehind, IsTiled, NoGapInTemplates, Piece, Stand, StandsGap, Tiles, TokenBehind, bytes_between, gap_if, gap_read, joined, kept_spans, last_is_gap, piece_in, pieces_behind, pieces_by, pieces_from, pieces_read, spans_in, with_again}
+use Rattle.ecma_laws.specs.Tiling.{EndBehind, NoGapInTemplates, Piece, Stand, StandsGap, Tiles, TokenBehind, bytes_between, gap_if, gap_read, joined, kept_spans, last_is_gap, piece_in, pieces_behind, pieces_by, pieces_from, pieces_read, spans_in, with_again}
 use Rattle.ecma_laws.proofs.TilingLemmas.{LastBegins, Standing, act_standing, again-ends, begins_standing, session_standing}
 
 -- The bytes of a gap
