@@ -1,13 +1,12 @@
 -- Going back leaves nothing of an excursion inside another.
-use Rattle.std.proofs.Common.{◌≡◌, ◌∙◌, ℕ, ◌+◌, ◌<◌, ◌≤◌, Bool, true, false, ◌&&◌, List, [], ◌∷◌, ◌++◌, length, nat_lt, refl, sym, ap, arith}
+use Rattle.std.proofs.Common.{◌≡◌, ◌∙◌, ℕ, ◌+◌, ◌<◌, ◌≤◌, Bool, true, ◌&&◌, List, [], ◌∷◌, ◌++◌, length, nat_lt, refl, ap, arith}
 use Rattle.std.specs.List.{list_all}
 use Rattle.std.proofs.lemmas.List.{length-append}
 use Rattle.std.proofs.lemmas.List.Folds.{list_all-append}
 use Rattle.ecma_state.specs.declared.step.Step.{Step}
 use Rattle.ecma_state.specs.declared.step.Step.TheVariants.{Read, SetCtx, SetExprAllowed, SetContexts, PopContext, Reread, Withdraw, Save, Back, TakeErrors}
 use Rattle.ecma_state.specs.Counting.{Counted, count_all, none_yet}
-use Rattle.ecma_state.specs.Session.{Session}
-use Rattle.ecma_laws.specs.Excursion.{BothLeaveNothing, NestedExcursionsAreUndone, nested, saves_of, stays_within}
+use Rattle.ecma_laws.specs.Excursion.{NestedExcursionsAreUndone, nested, saves_of, stays_within}
 use Rattle.ecma_laws.proofs.GoingBack.{all_longer, and_left, and_right, behind_save, going_back_undoes, saved}
 
 both-hold : (a b : Bool) → a ≡ true → b ≡ true → (a && b) ≡ true

@@ -1,10 +1,8 @@
 -- An iterator gives nothing behind its end, where no slash is read again.
-use Rattle.std.proofs.Common.{◌≡◌, ◌∙◌, ◌⊎◌, inl, inr, Bool, true, false, List, [], ◌∷◌, Option, Some, None, Result, Ok, Err, refl, sym, subst, ap}
+use Rattle.std.proofs.Common.{◌≡◌, ◌∙◌, ◌⊎◌, inl, inr, Bool, true, false, List, [], ◌∷◌, Some, None, Ok, Err, refl, sym, subst, ap}
 use Rattle.std.proofs.lemmas.Option.{none-some}
 use Rattle.ecma_place.specs.Cursor.{rest}
-use Rattle.ecma_place.specs.declared.place.BytePos.{BytePos}
-use Rattle.ecma_token.specs.View.{SpannedView}
-use Rattle.ecma_state.specs.Run.{mode_of, reading_from, reading_of, state_behind}
+use Rattle.ecma_state.specs.Run.{mode_of, reading_from, reading_of}
 use Rattle.ecma_state.specs.Reading.{reading}
 use Rattle.ecma_state.specs.Session.{LexerKept, lexer_state}
 use Rattle.ecma_stream.specs.Items.{GivesItem, ItemIf, ReadItem}

@@ -8,7 +8,7 @@ use Rattle.ecma_place.specs.declared.place.BytePos.{BytePos}
 use Rattle.ecma_scan.specs.Bars.{bars_elements}
 use Rattle.ecma_scan.specs.Comments.{collected, comments_of}
 use Rattle.ecma_scan.specs.GapViews.{GapView}
-use Rattle.ecma_scan.specs.Gaps.{Element, gap, has_line_break}
+use Rattle.ecma_scan.specs.Gaps.{Element, gap}
 use Rattle.ecma_scan.specs.Telling.{AreOf, placed}
 use Rattle.ecma_scan.proofs.TellingLaws.{elements_tell}
 use Rattle.ecma_token.specs.declared.kind.TokenKind.{TokenKind}
@@ -16,18 +16,17 @@ use Rattle.ecma_state.specs.Contexts.{Contexts}
 use Rattle.ecma_state.specs.Counting.{counting}
 use Rattle.ecma_state.specs.Mode.{gap_mode}
 use Rattle.ecma_state.specs.Reading.{behind_gap, gap_in, reading, reading_behind, reading_code, reading_if, stands_shebang}
-use Rattle.ecma_state.specs.Run.{act_on, mode_of, popped_from, reading_from, reread_from, session, start_of}
+use Rattle.ecma_state.specs.Run.{act_on, mode_of, popped_from, reading_from, reread_from, start_of}
 use Rattle.ecma_state.specs.Session.{Session, seen_of, state_of}
 use Rattle.ecma_state.specs.State.{last_slash}
 use Rattle.ecma_state.specs.TokenAt.{comments_in, opening}
 use Rattle.ecma_state.specs.declared.mode.Mode.{Mode}
 use Rattle.ecma_state.specs.declared.opening.Opening.{Opening}
 use Rattle.ecma_state.specs.declared.opening.Opening.TheVariants as opens
-use Rattle.ecma_state.specs.declared.settings.Settings.{Settings}
 use Rattle.ecma_state.specs.declared.step.Step.{Step}
 use Rattle.ecma_state.specs.declared.step.Step.TheVariants.{Read, SetCtx, SetExprAllowed, SetContexts, PopContext, Reread, Withdraw, Save, Back, TakeErrors}
 use Rattle.ecma_laws.specs.Collecting.{comments_found, found_by}
-use Rattle.ecma_laws.specs.ToldComments.{AreTold, CommentsAreTold, elements_behind, elements_by, elements_from, elements_if, elements_in, elements_read}
+use Rattle.ecma_laws.specs.ToldComments.{CommentsAreTold, elements_behind, elements_by, elements_from, elements_if, elements_in, elements_read}
 use Rattle.ecma_laws.proofs.CollectingLemmas.{comments_are_kept}
 
 -- comments of elements, and of those behind them
