@@ -473,34 +473,6 @@ fn use_in(in_template: bool) -> Use
     }
 }
 
-/// The escape at the cursor, behind which the cursor then stands.
-fn scanned_escape_at<'a>(
-    alloc: Global,
-    input: &mut StringInput<'a>,
-    in_template: bool,
-) -> Result<Found<'a, Option<Atom<'a>>>, AllocError>
-    requires { opens_escape (rest input.old) ≡ true }
-    ensures found { IfOk result (λ f. found_view (λ value. value) f ≡
-        found_at placeless (place input.old) (grammar.scanned_escape (use_in in_template) (rest input.old))) }
-    ensures moved { OnOk result (input.new
-        ≡ passed (length (grammar.scanned_escape (use_in in_template) (rest input.old)).spelling) input.old) }
-    ensures free { (grammar.scanned_escape (use_in in_template) (rest input.old)).value ≡ Ok None → IsOk result }
-{
-    let start = input.cur_pos();
-    let mut text = String::new(alloc);
-    let mut faults = Vec::new(alloc);
-    let value = match push_escape(alloc, input, use_in(in_template), &mut text, &mut faults)? {
-        None => Ok(value_atom(text)),
-        Some(error) => Err(error),
-    };
-    Ok(Found {
-        value,
-        faults,
-        extent: Span::new(start, input.cur_pos()),
-        line_break: false,
-    })
-}
-
 /// Reads the escape at the cursor (ECMA-262 EscapeSequence, 12.9.4, with LegacyOctalEscapeSequence of Annex B), in a
 /// string or in a template.
 ///
@@ -528,9 +500,21 @@ pub fn scan_escape<'a>(
     ensures same { OnErr result (input.new ≡ input.old) }
 {
     let before = input.clone()?;
-    let found = scanned_escape_at(alloc, input, in_template);
-    if found.is_err() {
+    let start = input.cur_pos();
+    let mut text = String::new(alloc);
+    let mut faults = Vec::new(alloc);
+    let Ok(refusal) = push_escape(alloc, input, use_in(in_template), &mut text, &mut faults) else {
         *input = before;
-    }
-    found
+        return Err(AllocError);
+    };
+    let value = match refusal {
+        None => Ok(value_atom(text)),
+        Some(error) => Err(error),
+    };
+    Ok(Found {
+        value,
+        faults,
+        extent: Span::new(start, input.cur_pos()),
+        line_break: false,
+    })
 }
