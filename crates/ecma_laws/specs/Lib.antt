@@ -2,11 +2,8 @@ pub mod Collecting
 pub mod EmptyTokens
 pub mod Excursion
 pub mod FewTokens
-<<<<<<< HEAD
 pub mod FreeReads
-=======
 pub mod NothingBehind
->>>>>>> part2
 pub mod Order
 pub mod Tiling
 pub mod ToldComments
