@@ -16,9 +16,8 @@ use Rattle.ecma_escape.specs.declared.escape.Answer.TheVariants as answer
 use Rattle.ecma_grammar.specs.declared.found.Blame.TheVariants.{Always}
 use Rattle.ecma_grammar.specs.Found.{Fault, FoundView, error_behind, fault_behind, value_behind, placeless, found_at, span_of}
 use Rattle.ecma_grammar.specs.Pieces.{pieces, spelled}
-use Rattle.ecma_grammar.specs.Escapes.{Escape, Accepted, Refused, InWord, escape, escape_spelling}
+use Rattle.ecma_grammar.specs.Escapes.{Escape, Accepted, Refused, InWord, escape, escape_spelling, escape_value, escape_refusal}
 use Rattle.ecma_escape.specs.EscapeAnswers.{opens_escape, answered}
-use Rattle.ecma_escape.specs.EscapeParts.{escape_value, escape_refusal}
 use Rattle.ecma_grammar.specs.Strings.{Piece, Plain, Escaped, is_escaped, value_of, atom_of, faults_of}
 use Rattle.ecma_grammar.specs.Words.{Part, Backslash, Stop, word_role, may_stand, named_piece, word_piece_of, word_piece, word_cutter, WordEnding, Ended, BadEscape, bad_escape_ending, word_ending_of, word_ending, found_name, identifier_name}
 use Rattle.ecma_escape.specs.PieceParts.{values_from, faults_from, end_from}
