@@ -177,7 +177,7 @@ on-run quote old one run was moved r =
     on-plain {S = Unit {0}} (λ _ text. string_piece (quote_byte quote) text) (λ s _. s) (is_in_class (class.Plain quote)) (tt {0}) (string_is_cutter (quote_byte quote)) (is-plain quote) (tt {0}) (tt {0}) old old one [] [] run was was
     (on-start (quoted quote) tt old [] was) moved r
 
-borrowed-atom : (ps : List Piece) (b : Bool) → list_any is_escaped ps ≡ b → atom_of ps ≡ cond b (owned_atom (encode_utf8_all (value_of ps))) (borrowed_atom (encode_utf8_all (value_of ps)))
+pub borrowed-atom : (ps : List Piece) (b : Bool) → list_any is_escaped ps ≡ b → atom_of ps ≡ cond b (owned_atom (encode_utf8_all (value_of ps))) (borrowed_atom (encode_utf8_all (value_of ps)))
 borrowed-atom ps b e = rw e refl
 
 -- a string without an escape
@@ -232,7 +232,7 @@ whole-text quote old one run was moved r =
       ap (λ end. behind_refused (ending (quote_byte quote) (rest end)) end) on.end,
     )
 
-owned-value : (e : Ending) (end : Cursor) (ps : List Piece) (text : List ℕ) → (list_any is_escaped ps ≡ true) ⊎ (is_bad e ≡ true)
+pub owned-value : (e : Ending) (end : Cursor) (ps : List Piece) (text : List ℕ) → (list_any is_escaped ps ≡ true) ⊎ (is_bad e ≡ true)
     → Ok text ≡ unless_refused e end (encode_utf8_all (value_of ps)) → Ok (owned_atom text) ≡ unless_refused e end (atom_of ps)
 owned-value Closed end ps text (inl some) h = let same : text ≡ encode_utf8_all (value_of ps) = cc in ap (λ a. Ok a) (ap owned_atom same ∙ sym (borrowed-atom ps true some))
 owned-value Unclosed end ps text (inl some) h = let same : text ≡ encode_utf8_all (value_of ps) = cc in ap (λ a. Ok a) (ap owned_atom same ∙ sym (borrowed-atom ps true some))
@@ -240,7 +240,7 @@ owned-value Closed end ps text (inr bad) h = cc
 owned-value Unclosed end ps text (inr bad) h = cc
 owned-value (BadEscape spelling error) end ps text some h = cc
 
-refused-value : {A B : Type 0} (e : Ending) (end : Cursor) (a : A) (b : B) (v : ErrorView) → Err v ≡ unless_refused e end a → Err v ≡ unless_refused e end b
+pub refused-value : {A B : Type 0} (e : Ending) (end : Cursor) (a : A) (b : B) (v : ErrorView) → Err v ≡ unless_refused e end a → Err v ≡ unless_refused e end b
 refused-value Closed end a b v h = cc
 refused-value Unclosed end a b v h = cc
 refused-value (BadEscape spelling error) end a b v h = let same : v ≡ error_behind (place end) error = cc in ap (λ x. Err x) same
