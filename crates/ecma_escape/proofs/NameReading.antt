@@ -28,7 +28,7 @@ use Rattle.ecma_grammar.proofs.EscapeLaws.{begins_is, escape_some}
 use Rattle.ecma_escape.proofs.EscapeSpans.{IsRead, escape-place}
 use Rattle.ecma_grammar.proofs.PieceLemmas.{pieces_none, pieces_more, tiling}
 use Rattle.ecma_escape.proofs.PieceReading.{IsOnPieces, IsPlain, on-start, on-stop, on-step, on-plain, plain-from, plain-escaped, later, rest-less, no-run, run-stops}
-use Rattle.ecma_escape.proofs.StringReading.{borrowed-atom, is_bad, owned-value, refused-value}
+use Rattle.ecma_escape.proofs.StringReading.{borrowed-atom, is_bad, never-borrowed, owned-value, refused-value}
 use Rattle.ecma_escape.proofs.WordLaws.{word_is_cutter, name_front}
 use Rattle.ecma_escape.proofs.StringFound.{error-shifted, faults-shifted}
 use Rattle.ecma_place.proofs.MoveLemmas.{place-passed}
@@ -286,20 +286,7 @@ bad-text old one now is_first run was said error moved r f v s m =
 -- a borrowed text comes only where no escape stands behind the run
 pub not-borrowed : (old one : Cursor) (atom : AtomView) → one ≡ passed (prefix_len is_ident_part (rest old)) old → opens_escape (rest one) ≡ true
     → name_from old ≡ Ok atom → atom.is_borrowed ≡ true → ⊥
-not-borrowed old one atom moved opens h b = go (ending_from true old) (escaped-some old one moved opens) h
-  where
-    ps : List Piece
-    ps = pieces word_cutter true (rest old)
-
-    owned : list_any is_escaped ps ≡ true → atom_of ps ≡ atom → ⊥
-    owned some h =
-        let same : false ≡ true = ap (λ a. a.is_borrowed) (sym (borrowed-atom ps true some) ∙ h) ∙ b in
-        cc
-
-    go : (e : WordEnding) → (list_any is_escaped ps ≡ true) ⊎ (is_bad (as_ending e) ≡ true) → unless_refused (as_ending e) (end_from word_cutter true old) (atom_of ps) ≡ Ok atom → ⊥
-    go Ended (inl some) h = owned some (let same : atom_of ps ≡ atom = cc in same)
-    go Ended (inr bad) h = cc
-    go (BadEscape spelling error) some h = cc
+not-borrowed old one atom moved opens h b = never-borrowed (as_ending (ending_from true old)) (end_from word_cutter true old) (pieces word_cutter true (rest old)) atom (escaped-some old one moved opens) h b
 
 -- What is found of the name
 

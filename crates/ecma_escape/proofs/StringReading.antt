@@ -269,22 +269,24 @@ bad-value quote old one now run was said error moved r v s m =
       moved = m ∙ whole.2;
     }
 
--- a borrowed value comes only where no escape stands behind the run
-pub not-borrowed : (quote : Mark) (old one : Cursor) (atom : AtomView) → one ≡ passed (prefix_len (is_in_class (class.Plain quote)) (rest old)) old → opens_escape (rest one) ≡ true
-    → atom_from quote old ≡ Ok atom → atom.is_borrowed ≡ true → ⊥
-not-borrowed quote old one atom moved opens h b = go (ending_from quote old) (escaped-some quote old one moved opens) h
+-- a borrowed value comes only where no escape stands among the pieces or at their end
+pub never-borrowed : (e : Ending) (end : Cursor) (ps : List Piece) (atom : AtomView) → (list_any is_escaped ps ≡ true) ⊎ (is_bad e ≡ true)
+    → unless_refused e end (atom_of ps) ≡ Ok atom → atom.is_borrowed ≡ true → ⊥
+never-borrowed e end ps atom some h b = go e some h
   where
-    ps : List Piece
-    ps = pieces (quoted quote) tt (rest old)
-
     owned : list_any is_escaped ps ≡ true → atom_of ps ≡ atom → ⊥
     owned some h =
         let same : false ≡ true = ap (λ a. a.is_borrowed) (sym (borrowed-atom ps true some) ∙ h) ∙ b in
         cc
 
-    go : (e : Ending) → (list_any is_escaped ps ≡ true) ⊎ (is_bad e ≡ true) → unless_refused e (end_from (quoted quote) tt old) (atom_of ps) ≡ Ok atom → ⊥
+    go : (e : Ending) → (list_any is_escaped ps ≡ true) ⊎ (is_bad e ≡ true) → unless_refused e end (atom_of ps) ≡ Ok atom → ⊥
     go Closed (inl some) h = owned some (let same : atom_of ps ≡ atom = cc in same)
     go Unclosed (inl some) h = owned some (let same : atom_of ps ≡ atom = cc in same)
     go Closed (inr bad) h = cc
     go Unclosed (inr bad) h = cc
     go (BadEscape spelling error) some h = cc
+
+-- so none where one stands behind the run
+pub not-borrowed : (quote : Mark) (old one : Cursor) (atom : AtomView) → one ≡ passed (prefix_len (is_in_class (class.Plain quote)) (rest old)) old → opens_escape (rest one) ≡ true
+    → atom_from quote old ≡ Ok atom → atom.is_borrowed ≡ true → ⊥
+not-borrowed quote old one atom moved opens h b = never-borrowed (ending_from quote old) (end_from (quoted quote) tt old) (pieces (quoted quote) tt (rest old)) atom (escaped-some quote old one moved opens) h b
