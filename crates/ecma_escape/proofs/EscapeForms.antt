@@ -1,5 +1,5 @@
 -- What is answered of the parts of an escape, and how long each is.
-use Rattle.std.proofs.Common.{◌≡◌, ℕ, ◌+◌, ◌-◌, ◌<◌, ◌≤◌, Bool, true, false, cond, not, ◌&&◌, ◌==◌, ◌^◌, ◌*◌, [], ◌∷◌, ◌++◌, length, length-append, take, drop, drop-drop, Some, None, slice_get, refl, sym, ap, ◌∙◌, arith, suc, nat_lt, ◌≢◌, eq-eqb, eqb-true, Result, Ok, Err}
+use Rattle.std.proofs.Common.{◌≡◌, ℕ, ◌+◌, ◌-◌, ◌<◌, ◌≤◌, Bool, true, false, cond, not, ◌&&◌, ◌==◌, ◌^◌, ◌*◌, [], ◌∷◌, ◌++◌, length, length-append, take, drop, Some, None, slice_get, refl, sym, ap, ◌∙◌, arith, suc, nat_lt, ◌≢◌, eq-eqb, eqb-true, Result, Ok, Err}
 use Rattle.std.proofs.lemmas.Bool.{ne_eqb}
 use Rattle.std.proofs.lemmas.Bool.Decides.{nat_tests}
 use Rattle.std.proofs.lemmas.Int.Digits.{digits_value-lt}
@@ -24,6 +24,7 @@ use Rattle.ecma_grammar.specs.Found.{error_at}
 use Rattle.ecma_escape.specs.EscapeAnswers.{answered, refusal_error, use_of, is_word, digit_front}
 use Rattle.ecma_escape.proofs.EscapeReading.{parsed-ok, parsed-err}
 use Rattle.ecma_grammar.proofs.Fronts.{after_drop, first-cons}
+use Rattle.ecma_grammar.proofs.SignLemmas.{rest-behind}
 
 -- an escape that is answered so, and n characters long
 abbrev pub Answers : Use → Answer → ℕ → Escape → Type 0
@@ -142,9 +143,6 @@ eaten-is true x (c ∷ cs) h =
     let same : c ≡ x = cc in
     sym (eq-eqb c x same)
 eaten-is false x (c ∷ cs) h = sym (ne_eqb c x (λ same. let e : false ≡ true = h.1 (ap (λ y. Some y) same) in cc))
-
-pub rest-behind : (old now : Cursor) (n : ℕ) → now ≡ passed n old → rest now ≡ drop n (rest old)
-rest-behind old now n e = rw e (sym (drop-drop n old.at old.text))
 
 pub hex-rest : (old now : Cursor) → now ≡ passed (length (hex_front (rest old))) old → rest now ≡ after is_hex_digit (rest old)
 hex-rest old now e = rest-behind old now _ e ∙ sym (after_drop is_hex_digit (rest old))

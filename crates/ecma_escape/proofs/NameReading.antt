@@ -23,7 +23,7 @@ use Rattle.ecma_grammar.specs.Words.{Part, Backslash, Stop, word_role, may_stand
 use Rattle.ecma_escape.specs.PieceParts.{values_from, faults_from, end_from, unless_refused, behind_refused}
 use Rattle.ecma_escape.specs.NameParts.{faults_in, is_named, named_faults, as_ending, ending_from, text_from, name_from, behind_pieces}
 use Rattle.ecma_escape.proofs.EscapeBytes.{IsNamed, word_named}
-use Rattle.ecma_escape.proofs.EscapeForms.{rest-behind}
+use Rattle.ecma_grammar.proofs.SignLemmas.{rest-behind}
 use Rattle.ecma_grammar.proofs.EscapeLaws.{begins_is, escape_some}
 use Rattle.ecma_escape.proofs.EscapeSpans.{IsRead, escape-place}
 use Rattle.ecma_grammar.proofs.PieceLemmas.{pieces_none, pieces_more, tiling}
