@@ -4,8 +4,8 @@ use Rattle.ecma_token.specs.View.{error_view}
 use Rattle.ecma_place.specs.Cursor.{rest, place, passed}
 use Rattle.ecma_place.proofs.MoveLemmas.{place-passed-le, span-passed}
 use Rattle.ecma_grammar.specs.Found.{fault_behind, fault_view, value_view, value_behind, placeless}
-use Rattle.ecma_grammar.specs.Escapes.{escape, found_escape}
-use Rattle.ecma_escape.specs.EscapeParts.{use_in, escape_value, escape_faults}
+use Rattle.ecma_grammar.specs.Escapes.{escape, escape_value, escape_faults, found_escape}
+use Rattle.ecma_escape.specs.EscapeParts.{use_in}
 use Rattle.ecma_escape.proofs.EscapeSpans.{escape-take, found-nothing, found-spelling, accepted-value, refused-value, escape-found}
 use Rattle.ecma_escape.proofs.escape.scan_escape.Goals as goal
 use Rattle.ecma_escape.proofs.escape.scan_escape.Goals.{in-None, in-Some}
