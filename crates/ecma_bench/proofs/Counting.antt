@@ -2,10 +2,9 @@
 use Rattle.std.proofs.Common.{◌≡◌, ℕ, suc, ◌+◌, ◌*◌, ◌<◌, ◌≤◌, Bool, true, false, List, [], ◌∷◌, Option, Some, None, IsUtf8, length, refl, sym, ap, ◌∙◌, arith}
 use Rattle.std.specs.Prelude.{is_some}
 use Rattle.std.specs.Str.{chars}
-use Rattle.std.proofs.lemmas.Str.{encodes-chars, len_utf8_bounds}
+use Rattle.std.proofs.lemmas.Str.{encodes-chars, length-le-encodes}
 use Rattle.std.proofs.lemmas.List.{length-append}
 use Rattle.ecma_place.specs.Text.{Text, byte_len}
-use Rattle.ecma_place.proofs.CursorLemmas.{byte_len-cons}
 use Rattle.ecma_token.specs.View.{SpannedView}
 use Rattle.ecma_lexer.specs.Session.{LexerState, state_of}
 use Rattle.ecma_lexer.specs.Ending.{most_tokens, tokens_of}
@@ -53,16 +52,10 @@ counted-end ts bytes count l next so none moved = go (reading_of l).found refl
 
 -- How many there may be
 
-length-le-byte_len : (text : Text) → length text ≤ byte_len text
-length-le-byte_len [] = omega arith
-length-le-byte_len (c ∷ cs) =
-    let more = length-le-byte_len cs in
-    omega (arith, more, byte_len-cons c cs, len_utf8_bounds c)
-
 -- the count fits where the text is not too long
 pub counted-fits : (ts : Bool) (bytes : List ℕ) (count : ℕ) (l : LexerState) → IsUtf8 bytes → CountedSoFar ts bytes count l → count ≤ 2 * length bytes + 1
 counted-fits ts bytes count l utf8 so =
-    let bound = length-le-byte_len (chars bytes) in
+    let bound : length (chars bytes) ≤ byte_len (chars bytes) = length-le-encodes (chars bytes) in
     let all : byte_len (chars bytes) ≡ length bytes = ap length (encodes-chars bytes utf8) in
     let most : most_tokens (state_of (begin ts bytes)) ≡ 2 * length (chars bytes) + 1 = refl in
     omega (arith, so.state.left, bound, all, most)

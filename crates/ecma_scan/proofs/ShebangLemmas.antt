@@ -9,14 +9,14 @@ use Rattle.ecma_token.specs.View.{TokenView, ErrorView, token_view}
 use Rattle.ecma_token.specs.declared.token.Token.{Token, Shebang}
 use Rattle.ecma_grammar.specs.Found.{FoundView, found_at, token_behind, span_of}
 use Rattle.ecma_grammar.specs.Fronts.{line, behind_line, in_line}
-use Rattle.ecma_grammar.specs.Shebangs.{opens_shebang, shebang}
+use Rattle.ecma_grammar.specs.Shebangs.{opens_shebang, shebang, shebang_of}
 use Rattle.ecma_grammar.proofs.Fronts.{begins_with-front, front_after}
 use Rattle.ecma_grammar.proofs.NumberFound.{front-taken}
 use Rattle.ecma_grammar.proofs.SignLemmas.{rest-behind}
 
 -- the token of the shebang with which a text begins
-abbrev pub shebang_token : Text → Option Token
-shebang_token text = if opens_shebang text then Some (Shebang (borrowed_atom (encode_utf8_all (line (drop 2 text))))) else None
+abbrev pub token_read : Text → Option Token
+token_read text = if opens_shebang text then Some (shebang_of (line (drop 2 text))) else None
 
 pub shebang-front : (text : Text) → take (length (shebang text).spelling) text ≡ (shebang text).spelling
 shebang-front text = go (opens_shebang text) refl
@@ -30,7 +30,7 @@ shebang-front text = go (opens_shebang text) refl
 -- it holds no error, so that it is seen the same at every place
 abbrev seen : ℕ → Text → FoundView (Option TokenView)
 seen n text =
-    let value : Result (Option TokenView) ErrorView = Ok (option_map token_view (shebang_token text)) in
+    let value : Result (Option TokenView) ErrorView = Ok (option_map token_view (token_read text)) in
     record { value = value; faults = []; extent = span_of n (n + byte_len (shebang text).spelling); line_break = false }
 
 pub shebang-seen : (n : ℕ) (text : Text) → seen n text ≡ found_at (λ n. option_map (token_behind n)) n (shebang text)
@@ -41,7 +41,7 @@ shebang-seen n text = go (opens_shebang text) refl
     go true e = rw e refl
 
 pub shebang-opened : (old one : Cursor) → opens_shebang (rest old) ≡ true → one ≡ passed 2 old
-    → Some (Shebang (borrowed_atom (encode_utf8_all (line (rest one))))) ≡ shebang_token (rest old)
+    → Some (Shebang (borrowed_atom (encode_utf8_all (line (rest one))))) ≡ token_read (rest old)
 shebang-opened old one opens e = rw (opens, rest-behind old one 2 e) refl
 
 pub shebang-passed : (old one two : Cursor) → opens_shebang (rest old) ≡ true → one ≡ passed 2 old → two ≡ passed (length (line (rest one))) one

@@ -1,18 +1,16 @@
 -- One read: the gap, and then the end or the token at its place.
-use Rattle.std.specs.Prelude.{◌≡◌, ℕ, Bool, true, false, ◌||◌, ◌&&◌, List, [], ◌∷◌, ◌++◌, Option, Some, None, codes, drop, encode_utf8_all, length}
+use Rattle.std.specs.Prelude.{◌≡◌, ℕ, Bool, true, false, ◌||◌, ◌&&◌, List, [], ◌∷◌, ◌++◌, Option, Some, None, drop, length}
 use Rattle.ecma_place.specs.Text.{Text}
 use Rattle.ecma_place.specs.Cursor.{Cursor, rest, place, passed}
 use Rattle.ecma_place.specs.declared.comment.Comment.{Comment}
-use Rattle.ecma_place.specs.Atom.{borrowed_atom}
 use Rattle.ecma_token.specs.View.{TokenView, SpannedView, plain_token}
-use Rattle.ecma_token.specs.declared.token.Token.{Shebang}
 use Rattle.ecma_grammar.specs.Found.{Fault, FoundView, Scanned, found_at, scanned, token_behind}
 use Rattle.ecma_grammar.specs.Expressions.{regular_expression}
 use Rattle.ecma_grammar.specs.Fronts.{line}
 use Rattle.ecma_grammar.specs.Comments.{comments_at}
 use Rattle.ecma_grammar.specs.Gaps.{gap_spelling, has_line_break, gap_faults_at}
 use Rattle.ecma_grammar.specs.GapViews.{GapView}
-use Rattle.ecma_grammar.specs.Shebangs.{opens_shebang}
+use Rattle.ecma_grammar.specs.Shebangs.{opens_shebang, shebang_of, shebang_spelling}
 use Rattle.ecma_state.specs.Mode.{gap_mode}
 use Rattle.ecma_state.specs.TokenAt.{token_at, token_comments, token_found, token_of, is_borrowed, is_empty, is_free_at}
 use Rattle.ecma_state.specs.declared.mode.Mode.{Mode}
@@ -78,7 +76,7 @@ stands_shebang mode text = mode.none_given && opens_shebang text
 
 abbrev pub shebang_token : Text → Scanned TokenView
 shebang_token text =
-    scanned (plain_token (Shebang (borrowed_atom (encode_utf8_all (line (drop 2 text)))))) (codes "#!" ++ line (drop 2 text))
+    scanned (plain_token (shebang_of (line (drop 2 text)))) (shebang_spelling (line (drop 2 text)))
 
 abbrev pub shebang_reading : Cursor → Reading
 shebang_reading here =

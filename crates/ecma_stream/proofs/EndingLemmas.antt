@@ -4,8 +4,7 @@ use Rattle.std.specs.Prelude.{fold, is_some, option_map, Result, Ok, Err, IfOk, 
 use Rattle.std.proofs.lemmas.Grind.{reverse_onto}
 use Rattle.ecma_place.specs.Text.{Text, byte_len}
 use Rattle.ecma_place.specs.Cursor.{Cursor, place, rest}
-use Rattle.ecma_place.proofs.CursorLemmas.{byte_len-cons}
-use Rattle.std.proofs.lemmas.Str.{len_utf8_bounds}
+use Rattle.std.proofs.lemmas.Str.{length-le-encodes}
 use Rattle.ecma_token.specs.Kinds.{kind_of}
 use Rattle.ecma_token.specs.View.{SpannedView}
 use Rattle.ecma_scan.specs.Gaps.{has_line_break}
@@ -130,12 +129,6 @@ ends (suc n) s plain h = go (reading_of (state_of s)).found refl (ends n (act_on
 
 -- Counting
 
-length-le-byte_len : (text : Text) → length text ≤ byte_len text
-length-le-byte_len [] = omega arith
-length-le-byte_len (c ∷ cs) =
-    let more = length-le-byte_len cs in
-    omega (arith, more, byte_len-cons c cs, len_utf8_bounds c)
-
 fold-reads : (m n : ℕ) (s : Session) → fold act_on s (reads (m + n)) ≡ fold act_on (fold act_on s (reads m)) (reads n)
 fold-reads zero n s = ap (λ k. fold act_on s (reads k)) (let same : 0 + n ≡ n = omega arith in same)
 fold-reads (suc m) n s =
@@ -149,7 +142,7 @@ reads-plain (suc n) s plain = reads-plain n (act_on s Read) plain
 -- enough reads are more than all tokens
 most-enough : (s : Session) → most_tokens (state_of s) < enough s.input
 most-enough s =
-    let bound = length-le-byte_len (rest s.input) in
+    let bound : length (rest s.input) ≤ byte_len (rest s.input) = length-le-encodes (rest s.input) in
     omega (arith, bound, room-le (previous (seen_of s.past)))
 
 -- more reads than enough keep what enough keep
