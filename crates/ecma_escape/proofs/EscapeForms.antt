@@ -1,5 +1,5 @@
 -- What is answered of the parts of an escape, and how long each is.
-use Rattle.std.proofs.Common.{◌≡◌, ℕ, ◌+◌, ◌-◌, ◌<◌, ◌≤◌, Bool, true, false, cond, not, ◌&&◌, ◌==◌, ◌^◌, ◌*◌, [], ◌∷◌, ◌++◌, length, length-append, take, drop, drop-drop, Some, None, slice_get, refl, sym, ap, ◌∙◌, arith, suc, nat_lt, ◌≢◌, eq-eqb, eqb-true, Result, Ok, Err}
+use Rattle.std.proofs.Common.{◌≡◌, ℕ, ◌+◌, ◌-◌, ◌<◌, ◌≤◌, Bool, true, false, cond, not, ◌&&◌, ◌==◌, ◌^◌, ◌*◌, [], ◌∷◌, ◌++◌, length, length-append, take, drop, Some, None, slice_get, refl, sym, ap, ◌∙◌, arith, suc, nat_lt, ◌≢◌, eq-eqb, eqb-true, Result, Ok, Err}
 use Rattle.std.proofs.lemmas.Bool.{ne_eqb}
 use Rattle.std.proofs.lemmas.Bool.Decides.{nat_tests}
 use Rattle.std.proofs.lemmas.Int.Digits.{digits_value-lt}
@@ -10,13 +10,12 @@ use Rattle.ecma_place.specs.Character.{is_line_terminator}
 use Rattle.ecma_place.specs.Text.{Text}
 use Rattle.ecma_place.specs.Cursor.{Cursor, rest, passed}
 use Rattle.ecma_place.proofs.RunLemmas.{passed-later-by}
-use Rattle.ecma_token.specs.View.{bad_escape}
 use Rattle.ecma_escape.specs.declared.escape.Answer.{Answer}
 use Rattle.ecma_escape.specs.declared.escape.Answer.TheVariants as answer
 use Rattle.ecma_escape.specs.declared.escape.Refusal.TheVariants as because
 use Rattle.ecma_grammar.specs.Found.{error_over}
 use Rattle.ecma_grammar.specs.Fronts.{next_is, after}
-use Rattle.ecma_grammar.specs.Escapes.{Use, Escape, Refused, escape_spelling, is_surrogate, hex_escape, code_escape, four_escape, braced_escape, unicode_refusal, unicode_escape, out_of_range, no_brace, escape_of, escape_behind, opening, HexLetter, OctalDigit, LineEnd, Single, InWord, hex_front, is_hex_digit, is_octal_digit, octal_digits, octal_front, line_end}
+use Rattle.ecma_grammar.specs.Escapes.{Use, Escape, Refused, two_digits_wanted, four_digits_wanted, code_point_wanted, escape_spelling, is_surrogate, hex_escape, code_escape, four_escape, braced_escape, unicode_refusal, unicode_escape, out_of_range, no_brace, escape_of, escape_behind, opening, HexLetter, OctalDigit, LineEnd, Single, InWord, hex_front, is_hex_digit, is_octal_digit, octal_digits, octal_front, line_end}
 use Rattle.ecma_token.specs.View.{plain}
 use Rattle.ecma_token.specs.declared.error.SyntaxError.{ExpectedUnicodeEscape, InvalidStrEscape}
 use Rattle.ecma_escape.specs.declared.escape.Use.{Use as Place}
@@ -25,6 +24,7 @@ use Rattle.ecma_grammar.specs.Found.{error_at}
 use Rattle.ecma_escape.specs.EscapeAnswers.{answered, refusal_error, use_of, is_word, digit_front}
 use Rattle.ecma_escape.proofs.EscapeReading.{parsed-ok, parsed-err}
 use Rattle.ecma_grammar.proofs.Fronts.{after_drop, first-cons}
+use Rattle.ecma_grammar.proofs.SignLemmas.{rest-behind}
 
 -- an escape that is answered so, and n characters long
 abbrev pub Answers : Use → Answer → ℕ → Escape → Type 0
@@ -70,7 +70,7 @@ pub hex_refuses : (within : Use) (ds : Text) → length ds ≢ 2 → Answers wit
 hex_refuses within ds not =
     let two : (length ds == 2) ≡ false = ne_eqb (length ds) 2 not in
     let s : Text = codes "\\x" ++ ds in
-    rw two (ap (λ n. Refused s (error_over (bad_escape (codes "2 hex characters")) n)) (two_more (length ds)), two_more (length ds))
+    rw two (ap (λ n. Refused s (error_over two_digits_wanted n)) (two_more (length ds)), two_more (length ds))
 
 -- Four digits
 
@@ -84,7 +84,7 @@ pub four_refuses : (within : Use) (ds : Text) → length ds ≢ 4 → Answers wi
 four_refuses within ds not =
     let four : (length ds == 4) ≡ false = ne_eqb (length ds) 4 not in
     let s : Text = codes "\\u" ++ ds in
-    rw four (ap (λ n. Refused s (unicode_refusal within (bad_escape (codes "4 hex characters")) n n)) (two_more (length ds)), two_more (length ds))
+    rw four (ap (λ n. Refused s (unicode_refusal within four_digits_wanted n n)) (two_more (length ds)), two_more (length ds))
 
 -- so many digits have a value that fits
 pub short_value : (k n : ℕ) (ds : Text) → AllDigits 16 ds → length ds ≡ n → 16 ^ n ≤ 2 ^ k → digits_value 16 ds < 2 ^ k
@@ -102,7 +102,7 @@ pub braced_out : (within : Use) (ds cs : Text) → 0 < length ds → nat_lt 0x10
 braced_out within [] cs some e = absurd (omega arith)
 braced_out within (d ∷ ds) cs some e =
     let s : Text = codes "\\u{" ++ (d ∷ ds) in
-    rw e (ap (λ n. Refused s (unicode_refusal within (bad_escape (codes "1-6 hex characters in the range 0 to 10FFFF.")) n n)) (three_more (length (d ∷ ds))), three_more (length (d ∷ ds)))
+    rw e (ap (λ n. Refused s (unicode_refusal within code_point_wanted n n)) (three_more (length (d ∷ ds))), three_more (length (d ∷ ds)))
 
 pub braced_open : (within : Use) (ds cs : Text) → 0 < length ds → nat_lt 0x10_FFFF (digits_value 16 ds) ≡ false → next_is 125 cs ≡ false
     → Answers within (answer.Refused because.NoBrace) (3 + length ds) (braced_escape within ds cs)
@@ -143,9 +143,6 @@ eaten-is true x (c ∷ cs) h =
     let same : c ≡ x = cc in
     sym (eq-eqb c x same)
 eaten-is false x (c ∷ cs) h = sym (ne_eqb c x (λ same. let e : false ≡ true = h.1 (ap (λ y. Some y) same) in cc))
-
-pub rest-behind : (old now : Cursor) (n : ℕ) → now ≡ passed n old → rest now ≡ drop n (rest old)
-rest-behind old now n e = rw e (sym (drop-drop n old.at old.text))
 
 pub hex-rest : (old now : Cursor) → now ≡ passed (length (hex_front (rest old))) old → rest now ≡ after is_hex_digit (rest old)
 hex-rest old now e = rest-behind old now _ e ∙ sym (after_drop is_hex_digit (rest old))

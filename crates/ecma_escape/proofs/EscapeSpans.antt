@@ -19,9 +19,9 @@ use Rattle.ecma_escape.specs.declared.escape.Answer.{Answer}
 use Rattle.ecma_escape.specs.declared.escape.Answer.TheVariants as answer
 use Rattle.ecma_grammar.specs.Found.{Fault, FoundView, error_behind, fault_behind, value_behind, found_at, placeless, span_of}
 use Rattle.ecma_grammar.specs.Fronts.{after, next_is, next_passes}
-use Rattle.ecma_grammar.specs.Escapes.{Use, InString, InTemplate, InWord, Escape, Accepted, Refused, escape_spelling, escape, is_hex_digit, is_octal_digit, is_surrogate, hex_front, hex_escape, code_escape, four_escape, braced_escape, out_of_range, no_brace, unicode_escape, octal_front, octal_digits, octal_escape, legacy_escape, line_end, escape_of, escape_behind, UnicodeLetter, HexLetter, OctalDigit, LineEnd, Single, value_atom, found_escape}
+use Rattle.ecma_grammar.specs.Escapes.{Use, InString, InTemplate, InWord, Escape, Accepted, Refused, escape_spelling, escape_value, escape_faults, escape_refusal, escape, is_hex_digit, is_octal_digit, is_surrogate, hex_front, hex_escape, code_escape, four_escape, braced_escape, out_of_range, no_brace, unicode_escape, octal_front, octal_digits, octal_escape, legacy_escape, line_end, escape_of, escape_behind, UnicodeLetter, HexLetter, OctalDigit, LineEnd, Single, value_atom, found_escape}
 use Rattle.ecma_escape.specs.EscapeAnswers.{use_of, is_word, answered, refusal_error, opens_escape}
-use Rattle.ecma_escape.specs.EscapeParts.{escape_value, escape_faults, escape_refusal, answer_value, answer_faults}
+use Rattle.ecma_escape.specs.EscapeParts.{answer_value, answer_faults}
 use Rattle.ecma_escape.proofs.EscapeBytes.{IsAsciiIfRefused, refused_ascii}
 use Rattle.ecma_grammar.proofs.EscapeLaws.{begins_is, line_length, octal_length, escape_front, escape_some}
 

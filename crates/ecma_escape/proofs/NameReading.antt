@@ -1,5 +1,5 @@
 -- A name, as its reader finds it piece by piece.
-use Rattle.std.proofs.Common.{◌≡◌, ℕ, ◌+◌, ◌<◌, Bool, true, false, cond, ◌==◌, List, [], ◌∷◌, ◌++◌, length, length-append, map, take, take_at, drop, refl, sym, ap, subst, ◌∙◌, arith, zero, suc, append-nil, inl, inr, ◌⊎◌, ◌≢◌, encode_utf8_all, Some, None, Result, Ok, Err}
+use Rattle.std.proofs.Common.{◌≡◌, ℕ, ◌+◌, ◌<◌, Bool, true, false, ◌==◌, List, [], ◌∷◌, ◌++◌, length, length-append, map, take, take_at, drop, refl, sym, ap, subst, ◌∙◌, arith, zero, suc, append-nil, inl, inr, ◌⊎◌, ◌≢◌, encode_utf8_all, Some, None, Result, Ok, Err}
 use Rattle.std.specs.Prelude.{option_map}
 use Rattle.std.specs.List.{prefix_len, list_any}
 use Rattle.std.proofs.lemmas.List.Folds.{length-prefix_len}
@@ -16,19 +16,19 @@ use Rattle.ecma_escape.specs.declared.escape.Answer.TheVariants as answer
 use Rattle.ecma_grammar.specs.declared.found.Blame.TheVariants.{Always}
 use Rattle.ecma_grammar.specs.Found.{Fault, FoundView, error_behind, fault_behind, value_behind, placeless, found_at, span_of}
 use Rattle.ecma_grammar.specs.Pieces.{pieces, spelled}
-use Rattle.ecma_grammar.specs.Escapes.{Escape, Accepted, Refused, InWord, escape, escape_spelling}
+use Rattle.ecma_grammar.specs.Escapes.{Escape, Accepted, Refused, InWord, escape, escape_spelling, escape_value, escape_refusal}
 use Rattle.ecma_escape.specs.EscapeAnswers.{opens_escape, answered}
-use Rattle.ecma_escape.specs.EscapeParts.{escape_value, escape_refusal}
-use Rattle.ecma_grammar.specs.Strings.{Piece, Plain, Escaped, is_escaped, value_of, atom_of, faults_of}
+use Rattle.ecma_grammar.specs.Strings.{Piece, Plain, Escaped, is_escaped, atom_of, faults_of}
 use Rattle.ecma_grammar.specs.Words.{Part, Backslash, Stop, word_role, may_stand, named_piece, word_piece_of, word_piece, word_cutter, WordEnding, Ended, BadEscape, bad_escape_ending, word_ending_of, word_ending, found_name, identifier_name}
-use Rattle.ecma_escape.specs.PieceParts.{values_from, faults_from, end_from}
-use Rattle.ecma_escape.specs.NameParts.{faults_in, is_named, named_faults, unless_refused, behind_refused, ending_from, text_from, name_from, behind_pieces}
+use Rattle.ecma_escape.specs.PieceParts.{values_from, faults_from, end_from, unless_refused, behind_refused}
+use Rattle.ecma_escape.specs.NameParts.{faults_in, is_named, named_faults, as_ending, ending_from, text_from, name_from, behind_pieces}
 use Rattle.ecma_escape.proofs.EscapeBytes.{IsNamed, word_named}
-use Rattle.ecma_escape.proofs.EscapeForms.{rest-behind}
+use Rattle.ecma_grammar.proofs.SignLemmas.{rest-behind}
 use Rattle.ecma_grammar.proofs.EscapeLaws.{begins_is, escape_some}
 use Rattle.ecma_escape.proofs.EscapeSpans.{IsRead, escape-place}
 use Rattle.ecma_grammar.proofs.PieceLemmas.{pieces_none, pieces_more, tiling}
 use Rattle.ecma_escape.proofs.PieceReading.{IsOnPieces, IsPlain, on-start, on-stop, on-step, on-plain, plain-from, plain-escaped, later, rest-less, no-run, run-stops}
+use Rattle.ecma_escape.proofs.StringReading.{borrowed-atom, is_bad, never-borrowed, owned-value, refused-value}
 use Rattle.ecma_escape.proofs.WordLaws.{word_is_cutter, name_front}
 use Rattle.ecma_escape.proofs.StringFound.{error-shifted, faults-shifted}
 use Rattle.ecma_place.proofs.MoveLemmas.{place-passed}
@@ -149,9 +149,9 @@ text-ended s t old now before text was said on run not =
     let all = on-stop word_cutter s t old now before text was said on stop.0 in
     let whole : List ℕ = before ++ values_from word_cutter s old in
     record {
-      value = ap (λ l. Ok l) all.0 ∙ ap (λ e. unless_refused e now whole) (sym stop.1) ∙ ap (λ end. unless_refused (word_ending (rest end)) end whole) all.2;
+      value = ap (λ l. Ok l) all.0 ∙ ap (λ e. unless_refused (as_ending e) now whole) (sym stop.1) ∙ ap (λ end. unless_refused (as_ending (word_ending (rest end))) end whole) all.2;
       faults = all.1;
-      moved = ap (λ e. behind_refused e now) (sym stop.1) ∙ ap (λ end. behind_refused (word_ending (rest end)) end) all.2;
+      moved = ap (λ e. behind_refused (as_ending e) now) (sym stop.1) ∙ ap (λ end. behind_refused (as_ending (word_ending (rest end))) end) all.2;
     }
 
 pub text-refused : (s t : Bool) (old now far : Cursor) (before text : List ℕ) (was said new : List Fault) (v : ErrorView) → IsOnName s t old now before text was said
@@ -169,9 +169,9 @@ text-refused s t old now far before text was said new v on opens refusal moved n
         let whole : List ℕ = before ++ values_from word_cutter s old in
         let same : v ≡ error_behind (place now) error = cc in
         record {
-          value = ap (λ x. Err x) same ∙ ap (λ e. unless_refused e now whole) (sym at.1) ∙ ap (λ end. unless_refused (word_ending (rest end)) end whole) all.2;
+          value = ap (λ x. Err x) same ∙ ap (λ e. unless_refused (as_ending e) now whole) (sym at.1) ∙ ap (λ end. unless_refused (as_ending (word_ending (rest end))) end whole) all.2;
           faults = n ∙ append-nil said ∙ all.1;
-          moved = moved ∙ ap (λ e. behind_refused e now) (sym at.1) ∙ ap (λ end. behind_refused (word_ending (rest end)) end) all.2;
+          moved = moved ∙ ap (λ e. behind_refused (as_ending e) now) (sym at.1) ∙ ap (λ end. behind_refused (as_ending (word_ending (rest end))) end) all.2;
         }
 
 -- The text of the name, by the run with which it begins
@@ -204,9 +204,6 @@ on-run : (old one : Cursor) (run : List ℕ) (was : List Fault) → one ≡ pass
 on-run old one run was moved r =
     on-plain word_piece (λ _ _. false) is_ident_part false word_is_cutter is-plain true true old old one [] [] run was was (on-start word_cutter true old [] was) moved r
 
-atom-is : (ps : List Piece) (b : Bool) → list_any is_escaped ps ≡ b → atom_of ps ≡ cond b (owned_atom (encode_utf8_all (value_of ps))) (borrowed_atom (encode_utf8_all (value_of ps)))
-atom-is ps b e = rw e refl
-
 -- a name without an escape
 pub plain-name : (old one : Cursor) (run : List ℕ) (was : List Fault) → one ≡ passed (prefix_len is_ident_part (rest old)) old
     → run ≡ encode_utf8_all (take (prefix_len is_ident_part (rest old)) (rest old)) → opens_escape (rest one) ≡ false
@@ -220,22 +217,18 @@ plain-name old one run was moved r not =
     let all = on-stop word_cutter true s old one [] run was was on stop.0 in
     let none : pieces word_cutter true (rest old) ≡ map Plain xs ++ [] = run-pieces old one moved ∙ ap (λ l. map Plain xs ++ l) (pieces_none word_cutter s (rest one) stop.0) in
     let unescaped : list_any is_escaped (pieces word_cutter true (rest old)) ≡ false = ap (list_any is_escaped) none ∙ plain-escaped xs [] in
-    let atom : borrowed_atom run ≡ atom_of (pieces word_cutter true (rest old)) = ap borrowed_atom all.0 ∙ sym (atom-is (pieces word_cutter true (rest old)) false unescaped) in
+    let atom : borrowed_atom run ≡ atom_of (pieces word_cutter true (rest old)) = ap borrowed_atom all.0 ∙ sym (borrowed-atom (pieces word_cutter true (rest old)) false unescaped) in
     record {
       value =
-          ap (λ a. Ok a) atom ∙ ap (λ e. unless_refused e one (atom_of (pieces word_cutter true (rest old)))) (sym stop.1)
-          ∙ ap (λ end. unless_refused (word_ending (rest end)) end (atom_of (pieces word_cutter true (rest old)))) all.2;
+          ap (λ a. Ok a) atom ∙ ap (λ e. unless_refused (as_ending e) one (atom_of (pieces word_cutter true (rest old)))) (sym stop.1)
+          ∙ ap (λ end. unless_refused (as_ending (word_ending (rest end))) end (atom_of (pieces word_cutter true (rest old)))) all.2;
       faults = ended.faults;
       moved = ended.moved;
     }
 
-abbrev is_bad : WordEnding → Bool
-is_bad Ended = false
-is_bad (BadEscape spelling error) = true
-
 -- an escape that is accepted behind the run owns the text, and one that is refused refuses it
 escaped-some : (old one : Cursor) → one ≡ passed (prefix_len is_ident_part (rest old)) old → opens_escape (rest one) ≡ true
-    → (list_any is_escaped (pieces word_cutter true (rest old)) ≡ true) ⊎ (is_bad (ending_from true old) ≡ true)
+    → (list_any is_escaped (pieces word_cutter true (rest old)) ≡ true) ⊎ (is_bad (as_ending (ending_from true old)) ≡ true)
 escaped-some old one moved opens = go (escape InWord (rest one)) (at-escape (is_first_behind old) (rest one) opens)
   where
     s : Bool
@@ -245,13 +238,13 @@ escaped-some old one moved opens = go (escape InWord (rest one)) (at-escape (is_
     xs = take (prefix_len is_ident_part (rest old)) (rest old)
 
     go : (e : Escape) → (word_piece s (rest one) ≡ named_piece s e) × (word_ending (rest one) ≡ bad_escape_ending e)
-        → (list_any is_escaped (pieces word_cutter true (rest old)) ≡ true) ⊎ (is_bad (ending_from true old) ≡ true)
+        → (list_any is_escaped (pieces word_cutter true (rest old)) ≡ true) ⊎ (is_bad (as_ending (ending_from true old)) ≡ true)
     go (Accepted spelling value faults) at =
         inl (ap (list_any is_escaped) (run-pieces old one moved) ∙ plain-escaped xs (pieces word_cutter s (rest one))
         ∙ ap (list_any is_escaped) (pieces_more word_cutter word_is_cutter s (rest one) (Escaped spelling value (faults_in (named_piece s (Accepted spelling value faults)))) (at.0 ∙ named-some s spelling value faults)))
     go (Refused spelling error) at =
         let all = on-stop word_cutter true s old one [] _ [] [] (on-run old one _ [] moved refl) at.0 in
-        inr (sym (ap (λ end. is_bad (word_ending (rest end))) all.2) ∙ ap is_bad at.1)
+        inr (sym (ap (λ end. is_bad (as_ending (word_ending (rest end)))) all.2) ∙ ap (λ e. is_bad (as_ending e)) at.1)
 
 -- what is answered of the rest is what is answered of all
 whole-text : (old one : Cursor) (run : List ℕ) (was : List Fault) → one ≡ passed (prefix_len is_ident_part (rest old)) old
@@ -260,21 +253,11 @@ whole-text : (old one : Cursor) (run : List ℕ) (was : List Fault) → one ≡ 
     × (behind_pieces (is_first_behind old) one ≡ behind_pieces true old)
 whole-text old one run was moved r =
     let on = on-run old one run was moved r in (
-      ap (λ end. unless_refused (word_ending (rest end)) end (run ++ values_from word_cutter (is_first_behind old) one)) on.end
-          ∙ ap (λ l. unless_refused (ending_from true old) (end_from word_cutter true old) l) on.values,
+      ap (λ end. unless_refused (as_ending (word_ending (rest end))) end (run ++ values_from word_cutter (is_first_behind old) one)) on.end
+          ∙ ap (λ l. unless_refused (as_ending (ending_from true old)) (end_from word_cutter true old) l) on.values,
       on.faults,
-      ap (λ end. behind_refused (word_ending (rest end)) end) on.end,
+      ap (λ end. behind_refused (as_ending (word_ending (rest end))) end) on.end,
     )
-
-owned-value : (e : WordEnding) (end : Cursor) (ps : List Piece) (text : List ℕ) → (list_any is_escaped ps ≡ true) ⊎ (is_bad e ≡ true)
-    → Ok text ≡ unless_refused e end (encode_utf8_all (value_of ps)) → Ok (owned_atom text) ≡ unless_refused e end (atom_of ps)
-owned-value Ended end ps text (inl some) h = let same : text ≡ encode_utf8_all (value_of ps) = cc in ap (λ a. Ok a) (ap owned_atom same ∙ sym (atom-is ps true some))
-owned-value Ended end ps text (inr bad) h = cc
-owned-value (BadEscape spelling error) end ps text some h = cc
-
-refused-value : {A B : Type 0} (e : WordEnding) (end : Cursor) (a : A) (b : B) (v : ErrorView) → Err v ≡ unless_refused e end a → Err v ≡ unless_refused e end b
-refused-value Ended end a b v h = cc
-refused-value (BadEscape spelling error) end a b v h = let same : v ≡ error_behind (place end) error = cc in ap (λ x. Err x) same
 
 pub escaped-text : (old one now : Cursor) (is_first : Bool) (run text : List ℕ) (was said : List Fault) → one ≡ passed (prefix_len is_ident_part (rest old)) old
     → run ≡ encode_utf8_all (take (prefix_len is_ident_part (rest old)) (rest old)) → opens_escape (rest one) ≡ true → is_first ≡ is_first_behind old
@@ -283,7 +266,7 @@ pub escaped-text : (old one now : Cursor) (is_first : Bool) (run text : List ℕ
 escaped-text old one now is_first run text was said moved r opens f v s m =
     let whole = whole-text old one run was moved r in
     record {
-      value = owned-value (ending_from true old) (end_from word_cutter true old) (pieces word_cutter true (rest old)) text (escaped-some old one moved opens) (v ∙ ap (λ b. text_from b run one) f ∙ whole.0);
+      value = owned-value (as_ending (ending_from true old)) (end_from word_cutter true old) (pieces word_cutter true (rest old)) text (escaped-some old one moved opens) (v ∙ ap (λ b. text_from b run one) f ∙ whole.0);
       faults = s ∙ ap (λ b. was ++ faults_from word_cutter b one) f ∙ whole.1;
       moved = m ∙ ap (λ b. behind_pieces b one) f ∙ whole.2;
     }
@@ -295,7 +278,7 @@ pub bad-text : (old one now : Cursor) (is_first : Bool) (run : List ℕ) (was sa
 bad-text old one now is_first run was said error moved r f v s m =
     let whole = whole-text old one run was moved r in
     record {
-      value = refused-value (ending_from true old) (end_from word_cutter true old) _ _ error (v ∙ ap (λ b. text_from b run one) f ∙ whole.0);
+      value = refused-value (as_ending (ending_from true old)) (end_from word_cutter true old) _ _ error (v ∙ ap (λ b. text_from b run one) f ∙ whole.0);
       faults = s ∙ ap (λ b. was ++ faults_from word_cutter b one) f ∙ whole.1;
       moved = m ∙ ap (λ b. behind_pieces b one) f ∙ whole.2;
     }
@@ -303,20 +286,7 @@ bad-text old one now is_first run was said error moved r f v s m =
 -- a borrowed text comes only where no escape stands behind the run
 pub not-borrowed : (old one : Cursor) (atom : AtomView) → one ≡ passed (prefix_len is_ident_part (rest old)) old → opens_escape (rest one) ≡ true
     → name_from old ≡ Ok atom → atom.is_borrowed ≡ true → ⊥
-not-borrowed old one atom moved opens h b = go (ending_from true old) (escaped-some old one moved opens) h
-  where
-    ps : List Piece
-    ps = pieces word_cutter true (rest old)
-
-    owned : list_any is_escaped ps ≡ true → atom_of ps ≡ atom → ⊥
-    owned some h =
-        let same : false ≡ true = ap (λ a. a.is_borrowed) (sym (atom-is ps true some) ∙ h) ∙ b in
-        cc
-
-    go : (e : WordEnding) → (list_any is_escaped ps ≡ true) ⊎ (is_bad e ≡ true) → unless_refused e (end_from word_cutter true old) (atom_of ps) ≡ Ok atom → ⊥
-    go Ended (inl some) h = owned some (let same : atom_of ps ≡ atom = cc in same)
-    go Ended (inr bad) h = cc
-    go (BadEscape spelling error) some h = cc
+not-borrowed old one atom moved opens h b = never-borrowed (as_ending (ending_from true old)) (end_from word_cutter true old) (pieces word_cutter true (rest old)) atom (escaped-some old one moved opens) h b
 
 -- What is found of the name
 
@@ -352,7 +322,7 @@ name-scanned old now v was said is = record {
     shifted : faults_of (place old) ps ≡ map (fault_behind (place old)) (faults_of 0 ps)
     shifted = ap (λ n. faults_of n ps) (let same : place old ≡ place old + 0 = omega arith in same) ∙ sym (faults-shifted (place old) 0 ps)
 
-    value : (e : WordEnding) → unless_refused e end (atom_of ps) ≡ value_behind placeless (place old) (found_name ps e).value
+    value : (e : WordEnding) → unless_refused (as_ending e) end (atom_of ps) ≡ value_behind placeless (place old) (found_name ps e).value
     value Ended = refl
     value (BadEscape spelling error) = ap (λ x. Err x) (sym (error-shifted (place old) (byte_len (spelled word_cutter ps)) (place end) error (sym (end-place old))))
 
@@ -360,14 +330,14 @@ name-scanned old now v was said is = record {
     faults Ended = refl
     faults (BadEscape spelling error) = refl
 
-    moved : (e : WordEnding) → behind_refused e end ≡ passed (length (found_name ps e).spelling) old
+    moved : (e : WordEnding) → behind_refused (as_ending e) end ≡ passed (length (found_name ps e).spelling) old
     moved Ended = refl
     moved (BadEscape spelling error) = sym (passed-later-by old _ (length spelling) (length (spelled word_cutter ps)) (length-append (spelled word_cutter ps) spelling))
 
 pub name-free : (old : Cursor) (text : AtomView) → (identifier_name (rest old)).value ≡ Ok text → name_from old ≡ Ok text
 name-free old text h = go (ending_from true old) (sym (ap (λ x. x.value) (name-is old)) ∙ h)
   where
-    go : (e : WordEnding) → (found_name (pieces word_cutter true (rest old)) e).value ≡ Ok text → unless_refused e (end_from word_cutter true old) (atom_of (pieces word_cutter true (rest old))) ≡ Ok text
+    go : (e : WordEnding) → (found_name (pieces word_cutter true (rest old)) e).value ≡ Ok text → unless_refused (as_ending e) (end_from word_cutter true old) (atom_of (pieces word_cutter true (rest old))) ≡ Ok text
     go Ended h = h
     go (BadEscape spelling error) h = cc
 

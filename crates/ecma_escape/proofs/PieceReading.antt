@@ -14,7 +14,7 @@ use Rattle.ecma_grammar.specs.Cutters.{IsCutter}
 use Rattle.ecma_grammar.specs.Strings.{Piece, Plain, piece_text, piece_value, piece_faults, value_of, faults_of, is_escaped}
 use Rattle.ecma_escape.specs.PieceParts.{values_from, faults_from, end_from}
 use Rattle.ecma_grammar.proofs.PieceLemmas.{pieces_none, pieces_more}
-use Rattle.ecma_escape.proofs.EscapeForms.{rest-behind}
+use Rattle.ecma_grammar.proofs.SignLemmas.{rest-behind}
 
 -- a cutter of pieces that have values
 abbrev pub cut_by : {S : Type 0} → (S → Text → Option Piece) → (S → Piece → S) → Cutter S Piece

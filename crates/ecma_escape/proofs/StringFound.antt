@@ -25,7 +25,7 @@ use Rattle.ecma_grammar.specs.Strings.{Piece, piece_text, piece_faults, faults_o
 use Rattle.ecma_escape.specs.PieceParts.{faults_from, end_from, quoted, unless_refused, behind_refused, ending_from, atom_from, behind_pieces, closing_faults}
 use Rattle.ecma_grammar.proofs.PartFaults.{all_shifted}
 use Rattle.ecma_grammar.proofs.PieceLemmas.{tiling}
-use Rattle.ecma_escape.proofs.EscapeForms.{rest-behind}
+use Rattle.ecma_grammar.proofs.SignLemmas.{rest-behind}
 use Rattle.ecma_grammar.proofs.Fronts.{first-cons}
 use Rattle.ecma_escape.proofs.StringLaws.{string_is_cutter, string_front}
 use Rattle.ecma_escape.proofs.StringReading.{is_bad, stays}

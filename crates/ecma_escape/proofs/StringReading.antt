@@ -13,9 +13,8 @@ use Rattle.ecma_place.specs.declared.run.ByteClass.TheVariants as class
 use Rattle.ecma_token.specs.View.{ErrorView}
 use Rattle.ecma_grammar.specs.Found.{Fault, error_behind, fault_behind}
 use Rattle.ecma_grammar.specs.Pieces.{pieces}
-use Rattle.ecma_grammar.specs.Escapes.{Escape, Accepted, Refused, InString, escape, escape_spelling}
+use Rattle.ecma_grammar.specs.Escapes.{Escape, Accepted, Refused, InString, escape, escape_spelling, escape_value, escape_faults, escape_refusal}
 use Rattle.ecma_escape.specs.EscapeAnswers.{opens_escape}
-use Rattle.ecma_escape.specs.EscapeParts.{escape_value, escape_faults, escape_refusal}
 use Rattle.ecma_grammar.specs.Strings.{Piece, Plain, Escaped, is_escaped, value_of, atom_of, escaped_piece, Role, Quote, Backslash, Break, Itself, role, piece_of, string_piece, Ending, Closed, Unclosed, BadEscape, bad_escape_ending, ending_of, ending}
 use Rattle.ecma_escape.specs.PieceParts.{values_from, faults_from, end_from, quoted, unless_refused, behind_refused, ending_from, text_from, atom_from, behind_pieces}
 use Rattle.ecma_grammar.proofs.EscapeLaws.{begins_is, escape_some}
@@ -178,7 +177,7 @@ on-run quote old one run was moved r =
     on-plain {S = Unit {0}} (λ _ text. string_piece (quote_byte quote) text) (λ s _. s) (is_in_class (class.Plain quote)) (tt {0}) (string_is_cutter (quote_byte quote)) (is-plain quote) (tt {0}) (tt {0}) old old one [] [] run was was
     (on-start (quoted quote) tt old [] was) moved r
 
-borrowed-atom : (ps : List Piece) (b : Bool) → list_any is_escaped ps ≡ b → atom_of ps ≡ cond b (owned_atom (encode_utf8_all (value_of ps))) (borrowed_atom (encode_utf8_all (value_of ps)))
+pub borrowed-atom : (ps : List Piece) (b : Bool) → list_any is_escaped ps ≡ b → atom_of ps ≡ cond b (owned_atom (encode_utf8_all (value_of ps))) (borrowed_atom (encode_utf8_all (value_of ps)))
 borrowed-atom ps b e = rw e refl
 
 -- a string without an escape
@@ -233,7 +232,7 @@ whole-text quote old one run was moved r =
       ap (λ end. behind_refused (ending (quote_byte quote) (rest end)) end) on.end,
     )
 
-owned-value : (e : Ending) (end : Cursor) (ps : List Piece) (text : List ℕ) → (list_any is_escaped ps ≡ true) ⊎ (is_bad e ≡ true)
+pub owned-value : (e : Ending) (end : Cursor) (ps : List Piece) (text : List ℕ) → (list_any is_escaped ps ≡ true) ⊎ (is_bad e ≡ true)
     → Ok text ≡ unless_refused e end (encode_utf8_all (value_of ps)) → Ok (owned_atom text) ≡ unless_refused e end (atom_of ps)
 owned-value Closed end ps text (inl some) h = let same : text ≡ encode_utf8_all (value_of ps) = cc in ap (λ a. Ok a) (ap owned_atom same ∙ sym (borrowed-atom ps true some))
 owned-value Unclosed end ps text (inl some) h = let same : text ≡ encode_utf8_all (value_of ps) = cc in ap (λ a. Ok a) (ap owned_atom same ∙ sym (borrowed-atom ps true some))
@@ -241,7 +240,7 @@ owned-value Closed end ps text (inr bad) h = cc
 owned-value Unclosed end ps text (inr bad) h = cc
 owned-value (BadEscape spelling error) end ps text some h = cc
 
-refused-value : {A B : Type 0} (e : Ending) (end : Cursor) (a : A) (b : B) (v : ErrorView) → Err v ≡ unless_refused e end a → Err v ≡ unless_refused e end b
+pub refused-value : {A B : Type 0} (e : Ending) (end : Cursor) (a : A) (b : B) (v : ErrorView) → Err v ≡ unless_refused e end a → Err v ≡ unless_refused e end b
 refused-value Closed end a b v h = cc
 refused-value Unclosed end a b v h = cc
 refused-value (BadEscape spelling error) end a b v h = let same : v ≡ error_behind (place end) error = cc in ap (λ x. Err x) same
@@ -270,22 +269,24 @@ bad-value quote old one now run was said error moved r v s m =
       moved = m ∙ whole.2;
     }
 
--- a borrowed value comes only where no escape stands behind the run
-pub not-borrowed : (quote : Mark) (old one : Cursor) (atom : AtomView) → one ≡ passed (prefix_len (is_in_class (class.Plain quote)) (rest old)) old → opens_escape (rest one) ≡ true
-    → atom_from quote old ≡ Ok atom → atom.is_borrowed ≡ true → ⊥
-not-borrowed quote old one atom moved opens h b = go (ending_from quote old) (escaped-some quote old one moved opens) h
+-- a borrowed value comes only where no escape stands among the pieces or at their end
+pub never-borrowed : (e : Ending) (end : Cursor) (ps : List Piece) (atom : AtomView) → (list_any is_escaped ps ≡ true) ⊎ (is_bad e ≡ true)
+    → unless_refused e end (atom_of ps) ≡ Ok atom → atom.is_borrowed ≡ true → ⊥
+never-borrowed e end ps atom some h b = go e some h
   where
-    ps : List Piece
-    ps = pieces (quoted quote) tt (rest old)
-
     owned : list_any is_escaped ps ≡ true → atom_of ps ≡ atom → ⊥
     owned some h =
         let same : false ≡ true = ap (λ a. a.is_borrowed) (sym (borrowed-atom ps true some) ∙ h) ∙ b in
         cc
 
-    go : (e : Ending) → (list_any is_escaped ps ≡ true) ⊎ (is_bad e ≡ true) → unless_refused e (end_from (quoted quote) tt old) (atom_of ps) ≡ Ok atom → ⊥
+    go : (e : Ending) → (list_any is_escaped ps ≡ true) ⊎ (is_bad e ≡ true) → unless_refused e end (atom_of ps) ≡ Ok atom → ⊥
     go Closed (inl some) h = owned some (let same : atom_of ps ≡ atom = cc in same)
     go Unclosed (inl some) h = owned some (let same : atom_of ps ≡ atom = cc in same)
     go Closed (inr bad) h = cc
     go Unclosed (inr bad) h = cc
     go (BadEscape spelling error) some h = cc
+
+-- so none where one stands behind the run
+pub not-borrowed : (quote : Mark) (old one : Cursor) (atom : AtomView) → one ≡ passed (prefix_len (is_in_class (class.Plain quote)) (rest old)) old → opens_escape (rest one) ≡ true
+    → atom_from quote old ≡ Ok atom → atom.is_borrowed ≡ true → ⊥
+not-borrowed quote old one atom moved opens h b = never-borrowed (ending_from quote old) (end_from (quoted quote) tt old) (pieces (quoted quote) tt (rest old)) atom (escaped-some quote old one moved opens) h b

@@ -1,8 +1,8 @@
 -- What the reader of escapes answers, and the escape that it stands for.
-use Rattle.std.specs.Prelude.{ℕ, Bool, true, false, [], ◌∷◌, codes, length, take}
+use Rattle.std.specs.Prelude.{ℕ, Bool, true, false, [], ◌∷◌, length, take}
 use Rattle.std.specs.Char.{is_digit}
 use Rattle.ecma_place.specs.Text.{Text}
-use Rattle.ecma_token.specs.View.{KindView, ErrorView, plain, bad_escape}
+use Rattle.ecma_token.specs.View.{KindView, ErrorView, plain}
 use Rattle.ecma_token.specs.declared.error.SyntaxError.{LegacyOctal, InvalidUnicodeEscape, InvalidStrEscape, ExpectedUnicodeEscape}
 use Rattle.ecma_escape.specs.declared.escape.Use.{Use}
 use Rattle.ecma_escape.specs.declared.escape.Use.TheVariants as place
@@ -37,10 +37,10 @@ digit_front radix n text = take n (front (is_digit_in radix) text)
 
 -- what is wrong
 abbrev pub refusal_kind : Refusal → KindView
-refusal_kind because.TwoDigits = bad_escape (codes "2 hex characters")
-refusal_kind because.FourDigits = bad_escape (codes "4 hex characters")
-refusal_kind because.NoDigits = bad_escape (codes "1-6 hex characters")
-refusal_kind because.OutOfRange = bad_escape (codes "1-6 hex characters in the range 0 to 10FFFF.")
+refusal_kind because.TwoDigits = grammar.two_digits_wanted
+refusal_kind because.FourDigits = grammar.four_digits_wanted
+refusal_kind because.NoDigits = grammar.some_digits_wanted
+refusal_kind because.OutOfRange = grammar.code_point_wanted
 refusal_kind because.NoBrace = plain InvalidUnicodeEscape
 refusal_kind because.NoCodePoint = plain ExpectedUnicodeEscape
 refusal_kind because.AtEnd = plain InvalidStrEscape
@@ -48,10 +48,10 @@ refusal_kind because.Octal = plain LegacyOctal
 
 -- the error of an escape that is refused behind n characters
 abbrev pub refusal_error : grammar.Use → Refusal → ℕ → ErrorView
-refusal_error within because.TwoDigits n = error_over (bad_escape (codes "2 hex characters")) n
-refusal_error within because.FourDigits n = grammar.unicode_refusal within (bad_escape (codes "4 hex characters")) n n
-refusal_error within because.NoDigits n = grammar.unicode_refusal within (bad_escape (codes "1-6 hex characters")) n n
-refusal_error within because.OutOfRange n = grammar.unicode_refusal within (bad_escape (codes "1-6 hex characters in the range 0 to 10FFFF.")) n n
+refusal_error within because.TwoDigits n = error_over grammar.two_digits_wanted n
+refusal_error within because.FourDigits n = grammar.unicode_refusal within grammar.four_digits_wanted n n
+refusal_error within because.NoDigits n = grammar.unicode_refusal within grammar.some_digits_wanted n n
+refusal_error within because.OutOfRange n = grammar.unicode_refusal within grammar.code_point_wanted n n
 refusal_error within because.NoBrace n = grammar.unicode_refusal within (plain InvalidUnicodeEscape) 3 n
 refusal_error within because.NoCodePoint n = error_at (plain ExpectedUnicodeEscape) 0
 refusal_error within because.AtEnd n = error_at (plain InvalidStrEscape) 0

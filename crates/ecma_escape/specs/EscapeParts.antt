@@ -1,30 +1,14 @@
--- The parts of an escape that its readers answer.
-use Rattle.std.specs.Prelude.{ℕ, Bool, true, false, List, [], ◌∷◌, Option, Some, None, encode_utf8_all}
-use Rattle.ecma_place.specs.Text.{Text}
-use Rattle.ecma_token.specs.View.{ErrorView, plain}
+-- The parts of what is answered of an escape.
+use Rattle.std.specs.Prelude.{ℕ, Bool, true, false, List, [], ◌∷◌, encode_utf8_all}
+use Rattle.ecma_token.specs.View.{plain}
 use Rattle.ecma_token.specs.declared.error.SyntaxError.{LegacyOctal}
 use Rattle.ecma_escape.specs.declared.escape.Answer.{Answer}
 use Rattle.ecma_escape.specs.declared.escape.Answer.TheVariants as answer
 use Rattle.ecma_grammar.specs.declared.found.Blame.TheVariants.{Strict}
 use Rattle.ecma_grammar.specs.Found.{Fault, error_over}
-use Rattle.ecma_grammar.specs.Escapes.{Use, InString, InTemplate, Escape, Accepted, Refused}
+use Rattle.ecma_grammar.specs.Escapes.{Use, InString, InTemplate}
 
--- what it stands for
-abbrev pub escape_value : Escape → Text
-escape_value (Accepted spelling value faults) = value
-escape_value (Refused spelling error) = []
-
--- what is said of it
-abbrev pub escape_faults : Escape → List Fault
-escape_faults (Accepted spelling value faults) = faults
-escape_faults (Refused spelling error) = []
-
--- why it is refused, if it is
-abbrev pub escape_refusal : Escape → Option ErrorView
-escape_refusal (Accepted spelling value faults) = None
-escape_refusal (Refused spelling error) = Some error
-
--- the same of what is answered of an escape in a string or a template that is not refused, and is written with these bytes
+-- what an escape in a string or a template stands for that is answered so and written with these bytes
 abbrev pub answer_value : List ℕ → Answer → List ℕ
 answer_value spelling answer.Nothing = []
 answer_value spelling (answer.Character c) = encode_utf8_all (c ∷ [])
@@ -32,6 +16,7 @@ answer_value spelling (answer.Octal c) = encode_utf8_all (c ∷ [])
 answer_value spelling answer.Spelling = spelling
 answer_value spelling (answer.Refused refusal) = []
 
+-- what is said of it
 abbrev pub answer_faults : Answer → List Fault
 answer_faults answer.Nothing = []
 answer_faults (answer.Character c) = []

@@ -1,9 +1,9 @@
 -- What the pieces of a word from a cursor on stand for, and where reading goes on behind them.
-use Rattle.std.specs.Prelude.{ℕ, Bool, true, false, List, [], ◌∷◌, ◌++◌, length, Option, Some, None, Result, Ok, Err, if◌then◌else◌}
+use Rattle.std.specs.Prelude.{ℕ, Bool, true, false, List, [], ◌∷◌, ◌++◌, Option, Some, None, Result, Ok, Err, if◌then◌else◌}
 use Rattle.std.specs.Cow.{cow_str_bytes}
 use Rattle.std.specs.declared.borrow.CowStr.{CowStr}
 use Rattle.ecma_place.specs.Atom.{AtomView, is_borrowed_of}
-use Rattle.ecma_place.specs.Cursor.{Cursor, rest, place, passed}
+use Rattle.ecma_place.specs.Cursor.{Cursor, rest}
 use Rattle.ecma_place.specs.declared.place.Span.{Span}
 use Rattle.ecma_syntax.specs.Reserved.{is_reserved}
 use Rattle.ecma_syntax.specs.Word.{word_of}
@@ -14,11 +14,12 @@ use Rattle.ecma_token.specs.declared.error.SyntaxError.{InvalidIdentChar, Escape
 use Rattle.ecma_escape.specs.declared.escape.Answer.{Answer}
 use Rattle.ecma_escape.specs.declared.escape.Answer.TheVariants as answer
 use Rattle.ecma_grammar.specs.declared.found.Blame.TheVariants.{Always}
-use Rattle.ecma_grammar.specs.Found.{Fault, error_behind, span_of}
+use Rattle.ecma_grammar.specs.Found.{Fault, span_of}
 use Rattle.ecma_grammar.specs.Pieces.{pieces}
-use Rattle.ecma_grammar.specs.Strings.{Piece, piece_faults, atom_of}
+use Rattle.ecma_grammar.specs.Strings as strings
+use Rattle.ecma_grammar.specs.Strings.{Piece, piece_faults, atom_of, Ending, Closed}
 use Rattle.ecma_grammar.specs.Words.{word_cutter, may_stand, owned_word, WordEnding, Ended, BadEscape, word_ending}
-use Rattle.ecma_escape.specs.PieceParts.{values_from, end_from}
+use Rattle.ecma_escape.specs.PieceParts.{values_from, end_from, unless_refused, behind_refused}
 
 -- what is said of a piece, if there is one
 abbrev pub faults_in : Option Piece → List Fault
@@ -38,15 +39,10 @@ abbrev pub named_faults : Bool → ℕ → ℕ → List Fault
 named_faults true start end = []
 named_faults false start end = record { blame = Always; error = record { kind = plain InvalidIdentChar; span = span_of start end } } ∷ []
 
--- a value that stands where no escape is refused, at the end of the pieces
-abbrev pub unless_refused : {A : Type 0} → WordEnding → Cursor → A → Result A ErrorView
-unless_refused Ended end value = Ok value
-unless_refused (BadEscape spelling error) end value = Err (error_behind (place end) error)
-
--- the cursor behind the refused escape at the end of the pieces, if there is one
-abbrev pub behind_refused : WordEnding → Cursor → Cursor
-behind_refused Ended end = end
-behind_refused (BadEscape spelling error) end = passed (length spelling) end
+-- the end of a word, as that of a string that is closed or ends at a refused escape
+abbrev pub as_ending : WordEnding → Ending
+as_ending Ended = Closed
+as_ending (BadEscape spelling error) = strings.BadEscape spelling error
 
 -- how the pieces from the cursor on end; `is_first` says that none came before it
 abbrev pub ending_from : Bool → Cursor → WordEnding
@@ -54,15 +50,15 @@ ending_from is_first c = word_ending (rest (end_from word_cutter is_first c))
 
 -- the text behind these bytes of the pieces from the cursor on
 abbrev pub text_from : Bool → List ℕ → Cursor → Result (List ℕ) ErrorView
-text_from is_first before c = unless_refused (ending_from is_first c) (end_from word_cutter is_first c) (before ++ values_from word_cutter is_first c)
+text_from is_first before c = unless_refused (as_ending (ending_from is_first c)) (end_from word_cutter is_first c) (before ++ values_from word_cutter is_first c)
 
 -- the text of the name at the cursor
 abbrev pub name_from : Cursor → Result AtomView ErrorView
-name_from c = unless_refused (ending_from true c) (end_from word_cutter true c) (atom_of (pieces word_cutter true (rest c)))
+name_from c = unless_refused (as_ending (ending_from true c)) (end_from word_cutter true c) (atom_of (pieces word_cutter true (rest c)))
 
 -- where reading goes on behind them
 abbrev pub behind_pieces : Bool → Cursor → Cursor
-behind_pieces is_first c = behind_refused (ending_from is_first c) (end_from word_cutter is_first c)
+behind_pieces is_first c = behind_refused (as_ending (ending_from is_first c)) (end_from word_cutter is_first c)
 
 -- a text that is borrowed or owned, as an atom
 abbrev pub cow_atom : {Z : Type 0} → CowStr Z → AtomView

@@ -10,7 +10,7 @@ ghost use Rattle.ecma_place.specs.Cursor.{place};
 ghost use Rattle.ecma_token.specs.View.{kind_view, error_view};
 ghost use Rattle.ecma_grammar.specs.Found.{found_view, found_at, placeless, fault_view, fault_behind, error_behind, span_behind};
 ghost use Rattle.ecma_escape.specs.EscapeAnswers.{refusal_kind, refusal_error, use_of, answered, is_digit_in, digit_front, is_word, opens_escape};
-ghost use Rattle.ecma_escape.specs.EscapeParts.{escape_value, escape_faults, escape_refusal, answer_value, answer_faults, use_in};
+ghost use Rattle.ecma_escape.specs.EscapeParts.{answer_value, answer_faults, use_in};
 ghost use Rattle.ecma_escape.specs.declared.escape.Refusal.TheVariants.{NoBrace};
 ghost use Rattle.ecma_escape.specs.declared.escape.Answer.TheVariants.{Nothing, Octal};
 
@@ -354,7 +354,7 @@ pub fn at_escape(input: &StringInput) -> bool
 }
 
 /// Where the error of a refused escape lies; the escape reaches from `start` to `end`.
-fn refusal_span(refusal: Refusal, within: Use, start: BytePos, end: BytePos) -> Span
+pub fn refusal_span(refusal: Refusal, within: Use, start: BytePos, end: BytePos) -> Span
     requires order { start.0 ≤ end.0 }
     requires brace { is_word within ≡ true → refusal ≡ NoBrace → start.0 + 3 ≤ end.0 }
     ensures { result ≡ span_behind start.0 (refusal_error (use_of within) refusal (end.0 - start.0)).span }
@@ -429,15 +429,15 @@ pub fn push_escape<'a>(
     requires opens { opens_escape (rest input.old) ≡ true }
     requires within { is_word within ≡ false }
     ensures refusal { IfOk result (λ r. option_map error_view r
-        ≡ option_map (error_behind (place input.old)) (escape_refusal (grammar.escape (use_of within) (rest input.old)))) }
+        ≡ option_map (error_behind (place input.old)) (grammar.escape_refusal (grammar.escape (use_of within) (rest input.old)))) }
     ensures text { OnOk result (string_bytes text.new
-        ≡ string_bytes text.old ++ encode_utf8_all (escape_value (grammar.escape (use_of within) (rest input.old)))) }
+        ≡ string_bytes text.old ++ encode_utf8_all (grammar.escape_value (grammar.escape (use_of within) (rest input.old)))) }
     ensures faults { OnOk result (map fault_view faults.new.items ≡ map fault_view faults.old.items
-        ++ map (fault_behind (place input.old)) (escape_faults (grammar.escape (use_of within) (rest input.old)))) }
+        ++ map (fault_behind (place input.old)) (grammar.escape_faults (grammar.escape (use_of within) (rest input.old)))) }
     ensures moved { OnOk result (input.new
         ≡ passed (length (grammar.escape_spelling (grammar.escape (use_of within) (rest input.old)))) input.old) }
-    ensures free { escape_value (grammar.escape (use_of within) (rest input.old)) ≡ []
-        → escape_refusal (grammar.escape (use_of within) (rest input.old)) ≡ None → IsOk result }
+    ensures free { grammar.escape_value (grammar.escape (use_of within) (rest input.old)) ≡ []
+        → grammar.escape_refusal (grammar.escape (use_of within) (rest input.old)) ≡ None → IsOk result }
 {
     let start = input.cur_pos();
     let answer = read_escape(input, within);
@@ -473,34 +473,6 @@ fn use_in(in_template: bool) -> Use
     }
 }
 
-/// The escape at the cursor, behind which the cursor then stands.
-fn scanned_escape_at<'a>(
-    alloc: Global,
-    input: &mut StringInput<'a>,
-    in_template: bool,
-) -> Result<Found<'a, Option<Atom<'a>>>, AllocError>
-    requires { opens_escape (rest input.old) ≡ true }
-    ensures found { IfOk result (λ f. found_view (λ value. value) f ≡
-        found_at placeless (place input.old) (grammar.scanned_escape (use_in in_template) (rest input.old))) }
-    ensures moved { OnOk result (input.new
-        ≡ passed (length (grammar.scanned_escape (use_in in_template) (rest input.old)).spelling) input.old) }
-    ensures free { (grammar.scanned_escape (use_in in_template) (rest input.old)).value ≡ Ok None → IsOk result }
-{
-    let start = input.cur_pos();
-    let mut text = String::new(alloc);
-    let mut faults = Vec::new(alloc);
-    let value = match push_escape(alloc, input, use_in(in_template), &mut text, &mut faults)? {
-        None => Ok(value_atom(text)),
-        Some(error) => Err(error),
-    };
-    Ok(Found {
-        value,
-        faults,
-        extent: Span::new(start, input.cur_pos()),
-        line_break: false,
-    })
-}
-
 /// Reads the escape at the cursor (ECMA-262 EscapeSequence, 12.9.4, with LegacyOctalEscapeSequence of Annex B), in a
 /// string or in a template.
 ///
@@ -528,9 +500,21 @@ pub fn scan_escape<'a>(
     ensures same { OnErr result (input.new ≡ input.old) }
 {
     let before = input.clone()?;
-    let found = scanned_escape_at(alloc, input, in_template);
-    if found.is_err() {
+    let start = input.cur_pos();
+    let mut text = String::new(alloc);
+    let mut faults = Vec::new(alloc);
+    let Ok(refusal) = push_escape(alloc, input, use_in(in_template), &mut text, &mut faults) else {
         *input = before;
-    }
-    found
+        return Err(AllocError);
+    };
+    let value = match refusal {
+        None => Ok(value_atom(text)),
+        Some(error) => Err(error),
+    };
+    Ok(Found {
+        value,
+        faults,
+        extent: Span::new(start, input.cur_pos()),
+        line_break: false,
+    })
 }

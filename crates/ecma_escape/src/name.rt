@@ -8,9 +8,8 @@ ghost use Rattle.ecma_place.specs.Run.{is_in_class};
 ghost use Rattle.ecma_place.specs.declared.run.ByteClass.TheVariants.{Part};
 ghost use Rattle.ecma_token.specs.View.{error_view};
 ghost use Rattle.ecma_grammar.specs.Found.{found_view, found_at, placeless, fault_view, fault_behind, error_behind, value_view};
-ghost use Rattle.ecma_grammar.specs.Escapes.{InWord, escape, escape_spelling};
+ghost use Rattle.ecma_grammar.specs.Escapes.{InWord, escape, escape_spelling, escape_value, escape_refusal};
 ghost use Rattle.ecma_escape.specs.EscapeAnswers.{opens_escape};
-ghost use Rattle.ecma_escape.specs.EscapeParts.{escape_value, escape_refusal};
 ghost use Rattle.ecma_escape.specs.PieceParts.{faults_from};
 ghost use Rattle.ecma_escape.specs.NameParts.{faults_in, is_named, named_faults, text_from, name_from, behind_pieces, cow_atom};
 ghost use Rattle.ecma_grammar.specs.Fronts.{next_passes};
@@ -29,7 +28,8 @@ fn run_onward(input: &mut StringInput)
     ensures { input.new ≡ passed (prefix_len (is_in_class Part) (rest input.old)) input.old }
 {
     if input.cur_as_ascii().is_some() {
-        input.bump_bytes(input.run_bytes(ByteClass::Part) as usize);
+        let run = input.run_bytes(ByteClass::Part);
+        input.bump_bytes(run as usize);
     }
 }
 

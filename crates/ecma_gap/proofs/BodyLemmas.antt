@@ -12,6 +12,7 @@ use Rattle.ecma_place.proofs.MoveLemmas.{place-passed-le}
 use Rattle.ecma_grammar.specs.Fronts.{begins_with}
 use Rattle.ecma_grammar.specs.Gaps.{comment_body, body_before}
 use Rattle.ecma_grammar.proofs.LineLemmas.{Stops, within-run}
+use Rattle.std.proofs.Math.Bool.{or-false, or_assoc}
 
 body-cons : (c : ℕ) (cs : Text) → begins_with (codes "*/") (c ∷ cs) ≡ false → body_before (c ∷ cs) ≡ c ∷ body_before cs
 body-cons c cs e = rw e (go (comment_body cs))
@@ -82,14 +83,6 @@ body-start c = record { same_end = refl; same_flag = refl }
 behind : (c : Cursor) (k : ℕ) → rest (passed k c) ≡ drop k (rest c)
 behind c k = sym (drop-drop k c.at c.text)
 
-or-assoc : (x y z : Bool) → ((x || y) || z) ≡ (x || (y || z))
-or-assoc true y z = refl
-or-assoc false y z = refl
-
-or-false : (x : Bool) → (x || false) ≡ x
-or-false true = refl
-or-false false = refl
-
 pub body-step : (flag is : Bool) (old now next : Cursor) (c : ℕ) → IsInBody flag old now → slice_get (rest now) 0 ≡ Some c → begins_with (42 ∷ 47 ∷ []) (rest now) ≡ false
     → is ≡ is_line_terminator c → next ≡ passed 1 now → IsInBody (flag || is) old next
 body-step flag is old now next c on e stop test moved =
@@ -99,7 +92,7 @@ body-step flag is old now next c on e stop test moved =
     rw (behind now 1) (ap (list_any is_line_terminator) body) in
     rw (moved, test) record {
       same_end = sym (passed-later-by now _ _ 1 sum) ∙ on.same_end;
-      same_flag = or-assoc flag (is_line_terminator c) _ ∙ ap (λ b. flag || b) (sym any) ∙ on.same_flag;
+      same_flag = or_assoc flag (is_line_terminator c) _ ∙ ap (λ b. flag || b) (sym any) ∙ on.same_flag;
     }
 
 pub body-jump : (flag : Bool) (old now next : Cursor) (n : ℕ) → IsInBody flag old now → n ≡ prefix_len (is_in_class Block) (encode_utf8_all (rest now)) → next ≡ passed (count_within n (rest now)) now

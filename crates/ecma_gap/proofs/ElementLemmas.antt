@@ -21,6 +21,7 @@ use Rattle.ecma_grammar.specs.Gaps.{Element, LineComment, BlockComment, OpenComm
 use Rattle.ecma_gap.specs.Readings.{ReadingView, with_element, with_comment, with_fault, with_flag, with_opening, element_comments, AddsNothing}
 use Rattle.ecma_grammar.proofs.GapForms.{spelled_line, block_ruled}
 use Rattle.ecma_grammar.proofs.SignLemmas.{rest-behind, place-behind, place-within, signs-within, ascii}
+use Rattle.std.proofs.Math.Bool.{or-false}
 
 pub always-ok : {T E : Type 0} (r : Result T E) (P : Type 0) → P → OnOk r P
 always-ok (Ok x) P p = p
@@ -46,10 +47,6 @@ no-end-in-line (c ∷ cs) = go (is_line_terminator c) refl (no-end-in-line cs)
     go : (x : Bool) → is_line_terminator c ≡ x → list_any is_line_terminator (line cs) ≡ false → list_any is_line_terminator (line (c ∷ cs)) ≡ false
     go true e more = rw (e, front) refl
     go false e more = rw (e, front) (rw e more)
-
-or-false : (x : Bool) → (x || false) ≡ x
-or-false true = refl
-or-false false = refl
 
 -- signs and a line hold no line terminator
 pub flag-stays : (flag : Bool) (signs text : Text) → list_any is_line_terminator signs ≡ false → flag ≡ (flag || list_any is_line_terminator (signs ++ line text))

@@ -25,6 +25,7 @@ use Rattle.ecma_grammar.proofs.Fronts.{length-take_while, take_while-front}
 use Rattle.ecma_grammar.proofs.GapForms.{cond_true, gap_is_cutter, never_empty}
 use Rattle.ecma_grammar.proofs.PieceLemmas.{pieces_more, pieces_none}
 use Rattle.ecma_grammar.proofs.SignLemmas.{rest-behind, place-behind}
+use Rattle.std.proofs.Math.Bool.{or-false, or_assoc}
 
 -- what a cutter of elements has to keep: its states are those of the flag, and it reads white space as such
 pub record ReadsElements {S : Type 0} (cutter : Cutter S Element) (state : Bool → S) : Type 0 where
@@ -46,14 +47,6 @@ whole cutter state mode now r = whole_of mode now r (pieces cutter (state r.flag
 
 -- One element
 
-or-assoc : (x y z : Bool) → ((x || y) || z) ≡ (x || (y || z))
-or-assoc true y z = refl
-or-assoc false y z = refl
-
-or-false : (x : Bool) → (x || false) ≡ x
-or-false true = refl
-or-false false = refl
-
 collected-append : {A : Type 0} (b : Bool) (xs ys : List A) → collected b (xs ++ ys) ≡ collected b xs ++ collected b ys
 collected-append true xs ys = refl
 collected-append false xs ys = refl
@@ -68,7 +61,7 @@ found-step mode n text e es r =
     let more = comments_of mode.prev (flag_behind r.flag e) (end_of n e) es (behind_element e text) in
     let left = faults_of (pending_behind r.pending n e) (end_of n e) es in
     let flag : (flag_behind r.flag e || list_any is_line_terminator (spelled (gap_cutter mode) es)) ≡ (r.flag || list_any is_line_terminator (element_text e ++ spelled (gap_cutter mode) es)) =
-    or-assoc r.flag (list_any is_line_terminator (element_text e)) (list_any is_line_terminator (spelled (gap_cutter mode) es))
+    or_assoc r.flag (list_any is_line_terminator (element_text e)) (list_any is_line_terminator (spelled (gap_cutter mode) es))
     ∙ ap (λ b. r.flag || b) (sym (list_any-append is_line_terminator (element_text e) (spelled (gap_cutter mode) es))) in
     let comments : (r.comments ++ element_comments mode r.flag n text e) ++ collected mode.collect more
     ≡ r.comments ++ collected mode.collect (paired mode.prev r.flag (behind_element e text) (comment_of n e) ++ more) =
@@ -198,7 +191,7 @@ white-run {S} cutter state reads mode (suc k) now next r flag l moved e =
             let sum : 1 + k ≡ suc k = omega arith in
             let on : next ≡ passed k mid = moved ∙ passed-later-by now (suc k) k 1 (sym sum) in
             let said : flag ≡ (after.flag || list_any is_line_terminator (take k (rest mid))) =
-            e ∙ sym (or-assoc r.flag (is_line_terminator c) (list_any is_line_terminator (take k cs))) ∙ ap (λ t. (r.flag || is_line_terminator c) || list_any is_line_terminator (take k t)) (sym left) in
+            e ∙ sym (or_assoc r.flag (is_line_terminator c) (list_any is_line_terminator (take k cs))) ∙ ap (λ t. (r.flag || is_line_terminator c) || list_any is_line_terminator (take k t)) (sym left) in
             more mid after less on said
             ∙ whole-step cutter state reads mode now mid r after (Blank c) (ap (cutter.read (state r.flag)) is ∙ reads.blank r.flag c cs w) refl (blank-said mode (place now) (rest now) c r)
 

@@ -13,6 +13,7 @@ use Rattle.ecma_place.proofs.RunLemmas.{IsOnRun, FlagsRun, passed-later-by}
 use Rattle.ecma_grammar.specs.Fronts.{next_passes}
 use Rattle.ecma_grammar.proofs.LineLemmas.{Stops, within-run}
 use Rattle.ecma_grammar.proofs.PunctuatorLemmas.{rest-bumped}
+use Rattle.std.proofs.Math.Bool.{or-false}
 
 -- bytes of a class of ASCII begin no other character
 pub ascii-stops : (p : ℕ → Bool) → ((b : ℕ) → p b ≡ true → b < 128) → Stops p p
@@ -96,10 +97,6 @@ none-passes p (c ∷ cs) e = rw e refl
 none-taken : (p : ℕ → Bool) (text : Text) → next_passes p text ≡ false → take_while p text ≡ []
 none-taken p [] e = refl
 none-taken p (c ∷ cs) e = rw (take_while-cons p c cs, e) refl
-
-or-false : (x : Bool) → (x || false) ≡ x
-or-false true = refl
-or-false false = refl
 
 pub white-ends : (old now : Cursor) → IsOnRun is_white_space old now → next_passes is_white_space (rest now) ≡ false → now ≡ passed (prefix_len is_white_space (rest old)) old
 white-ends old now on e =

@@ -62,25 +62,6 @@ fn read_bars<'a>(
     Ok(Bars { gap, error })
 }
 
-/// The marker of bars at the cursor, if one stands there, behind which the cursor then stands.
-fn bars_at<'a>(
-    alloc: Global,
-    input: &mut StringInput<'a>,
-    mode: &GapMode,
-) -> Result<Option<Bars<'a>>, AllocError>
-    ensures found { IfOk result (λ bars. option_map bars_view bars ≡
-        option_map (bars_found_at (place input.old)) (grammar.bars_at (place input.old) mode.now (rest input.old))) }
-    ensures moved { OnOk result (input.new ≡
-        (if grammar.opens_bars (rest input.old) then passed (length (grammar.bars_spelling (rest input.old))) input.old else input.old)) }
-    ensures free { grammar.opens_bars (rest input.old) ≡ false → IsOk result }
-{
-    if input.is_str("||||||| ") {
-        Ok(Some(read_bars(alloc, input, mode)?))
-    } else {
-        Ok(None)
-    }
-}
-
 /// Reads the marker of bars at the cursor, if seven bars and a space stand there: with the line, and the white space, line
 /// and block comments behind it. Where none stands there the cursor stays, and nothing takes memory.
 ///
@@ -103,10 +84,13 @@ pub fn scan_bars<'a>(
     ensures free { grammar.opens_bars (rest input.old) ≡ false → IsOk result }
     ensures same { OnErr result (input.new ≡ input.old) }
 {
-    let before = input.clone()?;
-    let bars = bars_at(alloc, input, mode);
-    if bars.is_err() {
-        *input = before;
+    if !input.is_str("||||||| ") {
+        return Ok(None);
     }
-    bars
+    let before = input.clone()?;
+    let Ok(bars) = read_bars(alloc, input, mode) else {
+        *input = before;
+        return Err(AllocError);
+    };
+    Ok(Some(bars))
 }

@@ -1,9 +1,8 @@
 -- What the elements of a gap tell of: their comments, and where the fault of a `<!--` comes among the others.
-use Rattle.std.proofs.Common.{◌≡◌, ◌∙◌, inl, inr, ℕ, Bool, true, false, List, [], ◌∷◌, ◌++◌, map, Option, Some, None, refl, sym, ap, append_assoc, if◌then◌else◌}
+use Rattle.std.proofs.Common.{◌≡◌, ◌∙◌, inl, inr, ℕ, true, List, [], ◌∷◌, ◌++◌, map, Option, Some, None, refl, sym, ap, append_assoc, if◌then◌else◌}
 use Rattle.std.specs.List.{list_all}
 use Rattle.ecma_place.specs.Text.{Text}
 use Rattle.ecma_place.specs.declared.comment.Comment.{Comment}
-use Rattle.ecma_token.specs.declared.kind.TokenKind.{TokenKind}
 use Rattle.ecma_grammar.specs.Comments.{behind_element, comments_of}
 use Rattle.ecma_grammar.specs.Found.{Fault}
 use Rattle.ecma_grammar.specs.Gaps.{Element, Blank, LineComment, BlockComment, OpenComment, HtmlOpening, HtmlClosing, Marker, element_faults, end_of, faults_of, flag_behind, is_common, legacy_comment, pending_behind, pending_fault}

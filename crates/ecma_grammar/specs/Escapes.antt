@@ -28,6 +28,34 @@ abbrev pub escape_spelling : Escape → Text
 escape_spelling (Accepted spelling value faults) = spelling
 escape_spelling (Refused spelling error) = spelling
 
+-- what it stands for
+abbrev pub escape_value : Escape → Text
+escape_value (Accepted spelling value faults) = value
+escape_value (Refused spelling error) = []
+
+-- what is said of it
+abbrev pub escape_faults : Escape → List Fault
+escape_faults (Accepted spelling value faults) = faults
+escape_faults (Refused spelling error) = []
+
+-- why it is refused, if it is
+abbrev pub escape_refusal : Escape → Option ErrorView
+escape_refusal (Accepted spelling value faults) = None
+escape_refusal (Refused spelling error) = Some error
+
+-- what is wanted where it does not stand
+abbrev pub two_digits_wanted : KindView
+two_digits_wanted = bad_escape (codes "2 hex characters")
+
+abbrev pub four_digits_wanted : KindView
+four_digits_wanted = bad_escape (codes "4 hex characters")
+
+abbrev pub some_digits_wanted : KindView
+some_digits_wanted = bad_escape (codes "1-6 hex characters")
+
+abbrev pub code_point_wanted : KindView
+code_point_wanted = bad_escape (codes "1-6 hex characters in the range 0 to 10FFFF.")
+
 abbrev pub is_hex_digit : ℕ → Bool
 is_hex_digit c = is_digit c 16
 
@@ -74,7 +102,7 @@ abbrev pub hex_escape : Text → Escape
 hex_escape digits =
     if length digits == 2
     then Accepted (codes "\\x" ++ digits) (digits_value 16 digits ∷ []) []
-    else Refused (codes "\\x" ++ digits) (error_over (bad_escape (codes "2 hex characters")) (2 + length digits))
+    else Refused (codes "\\x" ++ digits) (error_over two_digits_wanted (2 + length digits))
 
 -- Octal digits: one to three, while the value is below 256
 
@@ -117,14 +145,14 @@ abbrev pub four_escape : Use → Text → Escape
 four_escape within digits =
     if length digits == 4
     then code_escape within (codes "\\u" ++ digits) (digits_value 16 digits)
-    else Refused (codes "\\u" ++ digits) (unicode_refusal within (bad_escape (codes "4 hex characters")) (2 + length digits) (2 + length digits))
+    else Refused (codes "\\u" ++ digits) (unicode_refusal within four_digits_wanted (2 + length digits) (2 + length digits))
 
 abbrev pub no_digits : Use → Escape
-no_digits within = Refused (codes "\\u{") (unicode_refusal within (bad_escape (codes "1-6 hex characters")) 3 3)
+no_digits within = Refused (codes "\\u{") (unicode_refusal within some_digits_wanted 3 3)
 
 abbrev pub out_of_range : Use → Text → Escape
 out_of_range within digits =
-    Refused (codes "\\u{" ++ digits) (unicode_refusal within (bad_escape (codes "1-6 hex characters in the range 0 to 10FFFF.")) (3 + length digits) (3 + length digits))
+    Refused (codes "\\u{" ++ digits) (unicode_refusal within code_point_wanted (3 + length digits) (3 + length digits))
 
 abbrev pub no_brace : Use → Text → Escape
 no_brace within digits = Refused (codes "\\u{" ++ digits) (unicode_refusal within (plain InvalidUnicodeEscape) 3 (3 + length digits))

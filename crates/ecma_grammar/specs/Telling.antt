@@ -1,7 +1,7 @@
 -- What the elements of a gap tell of, said of the elements themselves: which comments they are (ECMA-262 Comment, 12.4,
 -- B.1.1; those of markers, and where a comment begins, are our own choice), and in which order their faults come, which
 -- is our own choice too.
-use Rattle.std.specs.Prelude.{◌≡◌, ◌⊎◌, ⊤, ℕ, ◌+◌, Bool, true, false, not, List, [], ◌∷◌, ◌++◌, map, Option, None, encode_utf8_all}
+use Rattle.std.specs.Prelude.{◌≡◌, ◌⊎◌, ⊤, ℕ, ◌+◌, Bool, true, not, List, [], ◌∷◌, ◌++◌, map, Option, None, encode_utf8_all}
 use Rattle.std.specs.List.{list_all}
 use Rattle.ecma_place.specs.Text.{Text}
 use Rattle.ecma_place.specs.Atom.{borrowed_atom}

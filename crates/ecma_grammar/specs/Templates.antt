@@ -14,7 +14,7 @@ use Rattle.ecma_grammar.specs.Found.{Scanned, FoundView, scanned, error_over, er
 use Rattle.ecma_grammar.specs.Fronts.{next_is, begins_with}
 use Rattle.ecma_grammar.specs.Locality.{IsLocal, ends_template}
 use Rattle.ecma_grammar.specs.Pieces.{Cutter, pieces, spelled, remainder, Tiled}
-use Rattle.ecma_grammar.specs.Escapes.{Escape, Accepted, Refused, InTemplate, escape_spelling, escape_behind, line_end}
+use Rattle.ecma_grammar.specs.Escapes.{Escape, InTemplate, escape_spelling, escape_value, escape_refusal, escape_behind, line_end}
 
 pub data TemplatePiece : Type 0 where
   -- a character that stands for itself
@@ -33,18 +33,10 @@ piece_text (Escaped e) = escape_spelling e
 abbrev pub cooked_break : Text → Text
 cooked_break spelling = if next_is 13 spelling then 10 ∷ [] else spelling
 
-abbrev pub escape_value : Escape → Text
-escape_value (Accepted spelling value faults) = value
-escape_value (Refused spelling error) = []
-
 abbrev pub cooked_piece : TemplatePiece → Text
 cooked_piece (Plain c) = c ∷ []
 cooked_piece (Break spelling) = cooked_break spelling
 cooked_piece (Escaped e) = escape_value e
-
-abbrev pub escape_refusal : Escape → Option ErrorView
-escape_refusal (Accepted spelling value faults) = None
-escape_refusal (Refused spelling error) = Some error
 
 abbrev pub piece_refusal : TemplatePiece → Option ErrorView
 piece_refusal (Plain c) = None

@@ -25,7 +25,7 @@ use Rattle.ecma_state.specs.State.{previous}
 use Rattle.ecma_state.specs.TokenAt.{token_at}
 use Rattle.ecma_state.specs.declared.mode.Mode.{Mode}
 use Rattle.ecma_state.specs.declared.step.Step.TheVariants.{Read}
-use Rattle.ecma_stream.proofs.EndLemmas.{token-extent}
+use Rattle.ecma_stream.proofs.EndLemmas.{hi_in, kind_in, lo_in, token-extent}
 use Rattle.ecma_stream.proofs.ProgressLemmas.{Nothing, Reads, Something, token-reads}
 use Rattle.ecma_laws.proofs.StepLemmas.{fold-holds}
 
@@ -42,14 +42,6 @@ far-apart lo hi n some reach same = omega (arith, some, reach, eqb-true lo hi sa
 abbrev IsEmptyText : Option TokenKind → SpannedView → Type 0
 IsEmptyText previous t = (is_tpl_element previous ≡ false) × (kind_of t.token ≡ Template)
 
-abbrev span_in : SpannedView → Option SpannedView → ℕ × ℕ
-span_in t None = (0, 0)
-span_in t (Some u) = (u.span.lo.0, u.span.hi.0)
-
-abbrev kind_in : Option SpannedView → Option TokenKind
-kind_in None = None
-kind_in (Some t) = Some (kind_of t.token)
-
 behind-empty : (mode : Mode) (before : GapView) (here : Cursor) (text : Text) (t : SpannedView) → (reading_behind mode before here text).found ≡ Some t → is_empty_token t ≡ true → IsEmptyText mode.previous t
 behind-empty mode before here [] t found empty = absurd (none-some t found)
 behind-empty mode before here (c ∷ cs) t found empty = go (token-reads mode before.line_break c cs)
@@ -60,8 +52,8 @@ behind-empty mode before here (c ∷ cs) t found empty = go (token-reads mode be
     ends : t.span.hi.0 ≡ t.span.lo.0 + n
     ends =
         let extent = token-extent mode before.line_break (place here) (c ∷ cs) in
-        let lo = ap (λ e. e.lo.0) (sym extent) ∙ ap (λ p. p.0) (ap (span_in t) found) in
-        let hi = ap (λ e. e.hi.0) (sym extent) ∙ ap (λ p. p.1) (ap (span_in t) found) in
+        let lo = ap (λ e. e.lo.0) (sym extent) ∙ ap lo_in found in
+        let hi = ap (λ e. e.hi.0) (sym extent) ∙ ap hi_in found in
         sym hi ∙ ap (λ m. m + n) lo
 
     go : Reads mode before.line_break (c ∷ cs) → IsEmptyText mode.previous t
@@ -82,8 +74,8 @@ reading-empty mode input t found empty = go (stands_shebang mode (rest input)) f
     go : (b : Bool) → (reading_if b mode input).found ≡ Some t → IsEmptyText mode.previous t
     go true found =
         let text = (shebang_token (rest input)).spelling in
-        let lo = ap (λ p. p.0) (ap (span_in t) found) in
-        let hi = ap (λ p. p.1) (ap (span_in t) found) in
+        let lo = ap lo_in found in
+        let hi = ap hi_in found in
         absurd (far-apart t.span.lo.0 t.span.hi.0 (byte_len text) (bytes-some text (omega arith)) (sym hi ∙ ap (λ m. m + byte_len text) lo) empty)
     go false found = code-empty mode input t found empty
 
@@ -141,8 +133,8 @@ again-holds flag here t found = go (is_empty_token t) refl
     go : (b : Bool) → is_empty_token t ≡ b → b ≡ false
     go false e = refl
     go true e =
-        let lo = ap (λ p. p.0) (ap (span_in t) found) in
-        let hi = ap (λ p. p.1) (ap (span_in t) found) in
+        let lo = ap lo_in found in
+        let hi = ap hi_in found in
         absurd (far-apart t.span.lo.0 t.span.hi.0 (byte_len text) (bytes-some text (expression-some (rest here))) (sym hi ∙ ap (λ m. m + byte_len text) lo) e)
 
 again-alone : (past : Past) (t : SpannedView) → Alone past → is_empty_token t ≡ false → Alone (Again t ∷ past)

@@ -30,7 +30,7 @@ use Rattle.ecma_state.specs.declared.settings.Settings.{Settings}
 use Rattle.ecma_state.specs.declared.step.Step.{Step}
 use Rattle.ecma_state.specs.declared.step.Step.TheVariants.{Read, SetCtx, SetExprAllowed, SetContexts, PopContext, Reread, Withdraw, Save, Back, TakeErrors}
 use Rattle.ecma_token.specs.Kinds.{kind_of}
-use Rattle.ecma_stream.proofs.EndLemmas.{ReadsOn, reading-on, token-extent}
+use Rattle.ecma_stream.proofs.EndLemmas.{ReadsOn, lo_in, reading-on, token-extent}
 use Rattle.ecma_stream.proofs.SlashLemmas.{again-kind, expression-no-slash, place-there, slash-is}
 use Rattle.ecma_laws.specs.Tiling.{EndBehind, NoGapInTemplates, Piece, Stand, StandsGap, Tiles, TokenBehind, bytes_between, gap_if, gap_read, joined, kept_spans, last_is_gap, piece_in, pieces_behind, pieces_by, pieces_from, pieces_read, spans_in, with_again}
 use Rattle.ecma_laws.proofs.TilingLemmas.{LastBegins, Standing, act_standing, again-ends, begins_standing, session_standing}
@@ -70,10 +70,6 @@ record GapBefore (input : Cursor) (gap : Text) (r : Reading) : Type 0 where
   front : gap ++ more ≡ rest input
   token : (t : SpannedView) → r.found ≡ Some t → t.span.lo.0 ≡ place input + byte_len gap
   ending : r.found ≡ None → place r.input ≡ place input + byte_len gap
-
-abbrev lo_in : Option SpannedView → ℕ
-lo_in None = 0
-lo_in (Some t) = t.span.lo.0
 
 begins-behind : (mode : Mode) (before : GapView) (here : Cursor) (text : Text) (t : SpannedView) → (reading_behind mode before here text).found ≡ Some t → t.span.lo.0 ≡ place here
 begins-behind mode before here [] t e = absurd (none-some t e)

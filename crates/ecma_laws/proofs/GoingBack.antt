@@ -55,7 +55,7 @@ longer_trans {a} {b} {c} f g =
       saves = g.saves ∙ (ap (λ xs. xs ++ g.more) f.saves ∙ append_assoc a.saves f.more g.more);
     }
 
-all_longer : (c : Counted) (steps : List Step) → Longer c (count_all c steps)
+pub all_longer : (c : Counted) (steps : List Step) → Longer c (count_all c steps)
 all_longer c [] = same_saves c c refl
 all_longer c (x ∷ steps) = longer_trans (step_longer c x) (all_longer (count_step c x) steps)
 
@@ -99,11 +99,11 @@ step_same k c d Reread e s = counted_same k c d Reread s
 step_same k c d Withdraw e s = counted_same k c d Withdraw s
 step_same k c d TakeErrors e s = counted_same k c d TakeErrors s
 
-and_left : (a b : Bool) → (a && b) ≡ true → a ≡ true
+pub and_left : (a b : Bool) → (a && b) ≡ true → a ≡ true
 and_left true b e = refl
 and_left false b e = e
 
-and_right : (a b : Bool) → (a && b) ≡ true → b ≡ true
+pub and_right : (a b : Bool) → (a && b) ≡ true → b ≡ true
 and_right true b e = e
 and_right false b e = absurd (grind (arith, e))
 
@@ -131,7 +131,7 @@ answers_same begin k c d (x ∷ xs) e s =
 
 -- Behind the way back the same steps count as behind the save
 
-abbrev saved : Counted → Counted
+abbrev pub saved : Counted → Counted
 saved c = record c { saves = c.saves ++ c.steps ∷ [] }
 
 -- a step back to a save that is there
@@ -158,7 +158,7 @@ unfolding count_step
 save_step c = refl
 
 -- the counted steps of the parts
-behind_save : (before after : List Step) → count_all none_yet (before ++ Save ∷ after) ≡ count_all (saved (count_all none_yet before)) after
+pub behind_save : (before after : List Step) → count_all none_yet (before ++ Save ∷ after) ≡ count_all (saved (count_all none_yet before)) after
 behind_save before after =
     fold-append count_step none_yet before (Save ∷ after) ∙ ap (λ c. count_all c after) (save_step (count_all none_yet before))
 

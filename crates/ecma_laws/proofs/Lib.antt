@@ -5,6 +5,9 @@ pub mod FewLemmas
 pub mod FreeLemmas
 pub mod GapTiling
 pub mod GoingBack
+pub mod NestedLemmas
+pub mod NothingLemmas
 pub mod OrderLemmas
 pub mod StepLemmas
 pub mod TilingLemmas
+pub mod ToldLemmas

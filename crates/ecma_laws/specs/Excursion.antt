@@ -29,9 +29,25 @@ pub record LeavesNothing (begin : Session) (before excursion after : List Step) 
   pub counts : counting (there_and_back before excursion after) ≡ counting (without before after)
   pub answers : answers_behind begin (count_all none_yet (before ++ Save ∷ (excursion ++ Back (saves_of before) ∷ []))) after ≡ answers_behind begin (count_all none_yet (before ++ Save ∷ [])) after
 
+-- an excursion that saves, goes on by another, and goes back on it, behind steps that came before
+abbrev pub nested : List Step → List Step → List Step → List Step → List Step
+nested before first within last = first ++ Save ∷ (within ++ Back (saves_of (before ++ Save ∷ first)) ∷ last)
+
+-- Both leave nothing: the one inside for what follows it in the one around it, and that one for what follows both.
+pub record BothLeaveNothing (begin : Session) (before first within last after : List Step) : Type 0 where
+  pub inner : LeavesNothing begin (before ++ Save ∷ first) within (last ++ Back (saves_of before) ∷ after)
+  pub outer : LeavesNothing begin before (nested before first within last) after
+
 -- Laws
 
 -- Going back undoes all that came since the save: tokens, contexts, errors, comments, and what is read again.
 abbrev pub GoingBackUndoes : Type 0
 GoingBackUndoes =
     (begin : Session) (before excursion after : List Step) → list_all (stays_within (saves_of before + 1)) after ≡ true → LeavesNothing begin before excursion after
+
+-- So it does what an excursion saved and went back on inside itself.
+abbrev pub NestedExcursionsAreUndone : Type 0
+NestedExcursionsAreUndone =
+    (begin : Session) (before first within last after : List Step)
+    → list_all (stays_within (saves_of (before ++ Save ∷ first) + 1)) last ≡ true → list_all (stays_within (saves_of before + 1)) after ≡ true
+    → BothLeaveNothing begin before first within last after

@@ -3,8 +3,10 @@ pub mod EmptyTokens
 pub mod Excursion
 pub mod FewTokens
 pub mod FreeReads
+pub mod NothingBehind
 pub mod Order
 pub mod Tiling
+pub mod ToldComments
 pub use Rattle.ecma_state.specs.Attachment
 pub use Rattle.ecma_state.specs.Buffers
 pub use Rattle.ecma_state.specs.Contexts
@@ -40,6 +42,7 @@ pub use Rattle.ecma_scan.specs.Punctuators
 pub use Rattle.ecma_scan.specs.Readings
 pub use Rattle.ecma_scan.specs.Shebangs
 pub use Rattle.ecma_scan.specs.Strings
+pub use Rattle.ecma_scan.specs.Telling
 pub use Rattle.ecma_scan.specs.Templates
 pub use Rattle.ecma_scan.specs.Words
 pub use Rattle.ecma_token.specs.Kinds

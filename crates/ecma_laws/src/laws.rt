@@ -1,13 +1,15 @@
 //! Laws over the definitions alone.
 ghost use Rattle.ecma_laws.specs.Collecting.{CollectingChangesNothing, CommentsAreKept};
 ghost use Rattle.ecma_laws.specs.EmptyTokens.{EmptyTokensStandAlone};
-ghost use Rattle.ecma_laws.specs.Excursion.{GoingBackUndoes};
+ghost use Rattle.ecma_laws.specs.Excursion.{GoingBackUndoes, NestedExcursionsAreUndone};
 ghost use Rattle.ecma_stream.specs.Ending.{ReadsOut, TokensRunOut};
 ghost use Rattle.ecma_laws.specs.FewTokens.{TokensAreFew};
 ghost use Rattle.ecma_laws.specs.FreeReads.{ReadsAreFree};
+ghost use Rattle.ecma_laws.specs.NothingBehind.{NothingBehindTheEnd};
 ghost use Rattle.ecma_laws.specs.Order.{AnswersAreInOrder, TokensAreInOrder};
 ghost use Rattle.ecma_state.specs.Reading.{ReadingIsDetermined};
 ghost use Rattle.ecma_laws.specs.Tiling.{NoGapInTemplates, Tiles};
+ghost use Rattle.ecma_laws.specs.ToldComments.{CommentsAreTold};
 
 pub mod expressions;
 pub mod gaps;
@@ -37,6 +39,11 @@ pub fn reads_end()
 /// What a read finds depends on the mode, on what is left, and on the place of that alone.
 pub fn reading_is_determined()
     ensures { ReadingIsDetermined }
+{}
+
+/// The iterator gives nothing behind its end, where no slash is read again: no token, and no refusal of memory.
+pub fn nothing_behind_the_end()
+    ensures { NothingBehindTheEnd }
 {}
 
 /// Each token that is read leaves fewer that may come: at most two for a character, and one.
@@ -69,6 +76,11 @@ pub fn going_back_undoes()
     ensures { GoingBackUndoes }
 {}
 
+/// It undoes also what an excursion saved and went back on inside itself.
+pub fn nested_excursions_are_undone()
+    ensures { NestedExcursionsAreUndone }
+{}
+
 /// Collecting comments changes no token, flag or error, nor anything else but the comments.
 pub fn collecting_changes_nothing()
     ensures { CollectingChangesNothing }
@@ -84,4 +96,10 @@ pub fn comments_are_kept()
 /// text with no CR.
 pub fn reads_are_free()
     ensures { ReadsAreFree }
+{}
+
+/// The elements of the gaps that a run reads, and of its markers of bars, tell which comments it keeps: the line comments,
+/// closed block comments, `<!--`, `-->` and markers, each once, with its kind, span and text.
+pub fn comments_are_told()
+    ensures { CommentsAreTold }
 {}

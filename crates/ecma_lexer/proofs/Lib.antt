@@ -7,8 +7,11 @@ pub use Rattle.ecma_stream.proofs.EndingLemmas
 pub use Rattle.ecma_state.proofs.ErrorLemmas
 pub use Rattle.ecma_laws.proofs.FewLemmas
 pub use Rattle.ecma_dispatch.proofs.FrontLemmas
+pub use Rattle.ecma_laws.proofs.GapTiling
 pub use Rattle.ecma_laws.proofs.GoingBack
 pub use Rattle.ecma_stream.proofs.ItemLemmas
+pub use Rattle.ecma_laws.proofs.NestedLemmas
+pub use Rattle.ecma_laws.proofs.NothingLemmas
 pub use Rattle.ecma_state.proofs.OpeningLemmas
 pub use Rattle.ecma_laws.proofs.OrderLemmas
 pub use Rattle.ecma_stream.proofs.PlainLemmas
@@ -19,4 +22,5 @@ pub use Rattle.ecma_stream.proofs.SlashLemmas
 pub use Rattle.ecma_laws.proofs.StepLemmas
 pub use Rattle.ecma_laws.proofs.TilingLemmas
 pub use Rattle.ecma_dispatch.proofs.TokenLemmas
+pub use Rattle.ecma_laws.proofs.ToldLemmas
 pub use Rattle.ecma_state.proofs.TransitionRows

@@ -23,8 +23,10 @@ pub use Rattle.ecma_laws.specs.Collecting
 pub use Rattle.ecma_laws.specs.EmptyTokens
 pub use Rattle.ecma_laws.specs.Excursion
 pub use Rattle.ecma_laws.specs.FewTokens
+pub use Rattle.ecma_laws.specs.NothingBehind
 pub use Rattle.ecma_laws.specs.Order
 pub use Rattle.ecma_laws.specs.Tiling
+pub use Rattle.ecma_laws.specs.ToldComments
 pub use Rattle.ecma_place.specs.Atom
 pub use Rattle.ecma_place.specs.Cursor
 pub use Rattle.ecma_place.specs.Text
@@ -40,6 +42,7 @@ pub use Rattle.ecma_scan.specs.Punctuators
 pub use Rattle.ecma_scan.specs.Readings
 pub use Rattle.ecma_scan.specs.Shebangs
 pub use Rattle.ecma_scan.specs.Strings
+pub use Rattle.ecma_scan.specs.Telling
 pub use Rattle.ecma_scan.specs.Templates
 pub use Rattle.ecma_scan.specs.Words
 pub use Rattle.ecma_token.specs.Kinds

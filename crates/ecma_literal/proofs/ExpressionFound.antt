@@ -14,7 +14,8 @@ use Rattle.ecma_grammar.specs.Fronts.{next_is, in_line, line, behind_line}
 use Rattle.ecma_grammar.specs.Pieces.{spelled, remainder}
 use Rattle.ecma_grammar.specs.Expressions.{slashed, regex_value, closed_expression, open_expression, expression_behind, regular_expression, flags, no_flags, body_cutter, body_pieces}
 use Rattle.ecma_literal.specs.WrittenExpressions.{regex_of, behind_all, at_line_end}
-use Rattle.ecma_escape.proofs.EscapeForms.{passed-both, rest-behind}
+use Rattle.ecma_escape.proofs.EscapeForms.{passed-both}
+use Rattle.ecma_grammar.proofs.SignLemmas.{rest-behind}
 use Rattle.ecma_grammar.proofs.EscapeLaws.{begins_is}
 use Rattle.ecma_literal.proofs.ExpressionLaws.{body_is_cutter}
 use Rattle.ecma_grammar.proofs.Fronts.{front_after, first-cons}

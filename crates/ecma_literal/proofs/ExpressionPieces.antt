@@ -12,7 +12,8 @@ use Rattle.ecma_grammar.specs.Pieces.{Cutter, pieces, spelled, remainder}
 use Rattle.ecma_grammar.specs.Cutters.{IsCutter}
 use Rattle.ecma_grammar.specs.Expressions.{Class, class_letter, class_cutter, class_behind, body_piece, body_cutter}
 use Rattle.ecma_literal.specs.WrittenExpressions.{letter_if, body_if, behind_all, at_line_end}
-use Rattle.ecma_escape.proofs.EscapeForms.{rest-behind, eaten-is, passed-both}
+use Rattle.ecma_escape.proofs.EscapeForms.{eaten-is, passed-both}
+use Rattle.ecma_grammar.proofs.SignLemmas.{rest-behind}
 use Rattle.ecma_grammar.proofs.Fronts.{first-cons}
 use Rattle.ecma_grammar.proofs.PieceLemmas.{cut, tiling, maximal, pieces_none, pieces_more}
 use Rattle.ecma_literal.proofs.ExpressionForms.{class_forms, class_lines, expression_is_pieces}

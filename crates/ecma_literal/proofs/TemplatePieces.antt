@@ -23,7 +23,7 @@ use Rattle.ecma_escape.specs.declared.escape.Answer.{Answer}
 use Rattle.ecma_escape.specs.declared.escape.Answer.TheVariants as answer
 use Rattle.ecma_literal.specs.WrittenTemplates.{piece_of, first_text}
 use Rattle.ecma_escape.proofs.EscapeBytes.{IsAsciiIfRefused, refused_ascii}
-use Rattle.ecma_escape.proofs.EscapeForms.{rest-behind}
+use Rattle.ecma_grammar.proofs.SignLemmas.{rest-behind}
 use Rattle.ecma_grammar.proofs.PieceLemmas.{pieces_none, pieces_more}
 use Rattle.ecma_literal.proofs.TemplateLaws.{template_is_cutter}
 

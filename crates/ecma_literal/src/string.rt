@@ -154,29 +154,6 @@ fn string_token<'a>(
     }
 }
 
-/// The string at the cursor, behind which the cursor then stands.
-fn string_at<'a>(
-    alloc: Global,
-    input: &mut StringInput<'a>,
-) -> Result<Found<'a, Token<'a>>, AllocError>
-    requires { grammar.opens_string (rest input.old) ≡ true }
-    ensures found { IfOk result (λ f. found_view token_view f ≡
-        found_at token_behind (place input.old) (grammar.string_literal (rest input.old))) }
-    ensures moved { OnOk result (input.new ≡ passed (length (grammar.string_literal (rest input.old)).spelling) input.old) }
-    ensures free { (token : TokenView) → (grammar.string_literal (rest input.old)).value ≡ Ok token → owns_nothing token ≡ true
-        → (grammar.string_literal (rest input.old)).faults ≡ [] → IsOk result }
-{
-    let start = input.cur_pos();
-    let mut faults = Vec::new(alloc);
-    let value = string_token(alloc, input, &mut faults)?;
-    Ok(Found {
-        value,
-        faults,
-        extent: Span::new(start, input.cur_pos()),
-        line_break: false,
-    })
-}
-
 /// Reads the string at the cursor (ECMA-262 StringLiteral, 12.9.4, with the octal escapes of Annex B).
 ///
 /// The cursor stands at a quote. The value borrows from the source where the string holds no escape, the raw text
@@ -200,9 +177,16 @@ pub fn scan_string<'a>(
     ensures same { OnErr result (input.new ≡ input.old) }
 {
     let before = input.clone()?;
-    let found = string_at(alloc, input);
-    if found.is_err() {
+    let start = input.cur_pos();
+    let mut faults = Vec::new(alloc);
+    let Ok(value) = string_token(alloc, input, &mut faults) else {
         *input = before;
-    }
-    found
+        return Err(AllocError);
+    };
+    Ok(Found {
+        value,
+        faults,
+        extent: Span::new(start, input.cur_pos()),
+        line_break: false,
+    })
 }

@@ -1,5 +1,5 @@
 -- The parts of a number, as a cursor reads them one after another.
-use Rattle.std.proofs.Common.{◌≡◌, ℕ, ◌+◌, ◌<◌, true, false, [], ◌∷◌, ◌++◌, drop, length, Some, None, refl, sym, ap, ◌∙◌, arith, drop-drop, length-append}
+use Rattle.std.proofs.Common.{◌≡◌, ℕ, ◌+◌, ◌<◌, true, false, [], ◌∷◌, ◌++◌, drop, length, Some, None, refl, sym, ap, ◌∙◌, arith, length-append}
 use Rattle.std.specs.Prelude.{slice_get}
 use Rattle.ecma_place.specs.Text.{Text}
 use Rattle.ecma_place.specs.Cursor.{Cursor, rest, passed}
@@ -7,17 +7,15 @@ use Rattle.ecma_token.specs.declared.token.Radix.{Radix}
 use Rattle.ecma_token.specs.declared.token.Radix.TheVariants.{Decimal}
 use Rattle.ecma_grammar.specs.Numbers.{BigRun, OctalRun, DecimalRun, Fraction, Point, Exponent, Scaled, fraction, fraction_text, exponent, exponent_text, after_fraction, sign, is_exponent_mark, run_of, behind_run, in_run, is_big, is_octal_run, number_behind, number_text, prefix}
 use Rattle.ecma_grammar.proofs.Fronts.{after_drop}
+use Rattle.ecma_grammar.proofs.SignLemmas.{rest-behind}
 
 -- two moves in a row
 pub moved-on : (old mid now : Cursor) (m n k : ℕ) → mid ≡ passed m old → now ≡ passed n mid → k ≡ m + n → now ≡ passed k old
 moved-on old mid now m n k first second sum =
     second ∙ ap (passed n) first ∙ ap (λ (i : ℕ). let moved : Cursor = record { start = old.start; text = old.text; at = i } in moved) (let same : old.at + m + n ≡ old.at + k = omega arith in same)
 
-pub rest-on : (old now : Cursor) (n : ℕ) → now ≡ passed n old → rest now ≡ drop n (rest old)
-rest-on old now n moved = ap rest moved ∙ sym (drop-drop n old.at old.text)
-
 pub rest-run : (radix : Radix) (old now : Cursor) → now ≡ passed (length (run_of radix (rest old))) old → rest now ≡ behind_run radix (rest old)
-rest-run radix old now moved = rest-on old now _ moved ∙ sym (after_drop (in_run radix) (rest old))
+rest-run radix old now moved = rest-behind old now _ moved ∙ sym (after_drop (in_run radix) (rest old))
 
 pub fraction-point : (text : Text) → slice_get text 0 ≡ Some 46 → fraction text ≡ Point (run_of Decimal (drop 1 text))
 fraction-point [] e = cc

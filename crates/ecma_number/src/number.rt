@@ -63,28 +63,6 @@ fn found_number<'a>(
     })
 }
 
-/// The number at the cursor, behind which the cursor then stands.
-fn number_at<'a>(
-    alloc: Global,
-    input: &mut StringInput<'a>,
-    ts1085: bool,
-) -> Result<Found<'a, Token<'a>>, AllocError>
-    requires { grammar.opens_number (rest input.old) ≡ true }
-    ensures found { IfOk result (λ f. found_view token_view f ≡
-        found_at token_behind (place input.old) (grammar.number ts1085 (rest input.old))) }
-    ensures moved { OnOk result
-        (input.new ≡ passed (length (grammar.number ts1085 (rest input.old)).spelling) input.old) }
-    ensures free { list_any grammar.is_separator (grammar.number ts1085 (rest input.old)).spelling ≡ false
-        → is_accepted (grammar.number ts1085 (rest input.old)).value ≡ true
-        → (grammar.number ts1085 (rest input.old)).faults ≡ [] → IsOk result }
-{
-    let start = input.cur_pos();
-    let number = read_parts(input);
-    let extent = Span::new(start, input.cur_pos());
-    let raw = input.slice(extent.lo, extent.hi);
-    found_number(alloc, number, raw, extent, input, ts1085)
-}
-
 /// Reads the number at the cursor (ECMA-262 NumericLiteral, 12.9.3, with the legacy forms), and moves behind it.
 ///
 /// The cursor stands at a digit, or at a point and a digit. `ts1085` says that a legacy octal is told of as TypeScript
@@ -119,9 +97,13 @@ pub fn scan_number<'a>(
     ensures same { OnErr result (input.new ≡ input.old) }
 {
     let before = input.clone()?;
-    let found = number_at(alloc, input, ts1085);
-    if found.is_err() {
+    let start = input.cur_pos();
+    let number = read_parts(input);
+    let extent = Span::new(start, input.cur_pos());
+    let raw = input.slice(extent.lo, extent.hi);
+    let Ok(found) = found_number(alloc, number, raw, extent, input, ts1085) else {
         *input = before;
-    }
-    found
+        return Err(AllocError);
+    };
+    Ok(found)
 }

@@ -1,2 +1,2 @@
 pub mod ReplayLemmas
-pub mod TilingLemmas
+pub mod ReplayTiling

@@ -1,5 +1,5 @@
 -- The shebang with which a text begins, as its reader finds it.
-use Rattle.std.proofs.Common.{◌≡◌, ℕ, ◌+◌, Bool, true, false, ◌++◌, length, take, drop, refl, sym, ap, ◌∙◌, arith, codes, encode_utf8_all, Option, Some, None, [], take_at, drop-drop}
+use Rattle.std.proofs.Common.{◌≡◌, ℕ, ◌+◌, Bool, true, false, ◌++◌, length, take, drop, refl, sym, ap, ◌∙◌, arith, codes, encode_utf8_all, Option, Some, None, []}
 use Rattle.std.specs.Prelude.{option_map, if◌then◌else◌, Result, Ok}
 use Rattle.ecma_place.specs.Text.{Text, byte_len}
 use Rattle.ecma_place.specs.Atom.{borrowed_atom}
@@ -11,13 +11,12 @@ use Rattle.ecma_grammar.specs.Found.{FoundView, found_at, token_behind, span_of}
 use Rattle.ecma_grammar.specs.Fronts.{line, behind_line, in_line}
 use Rattle.ecma_grammar.specs.Shebangs.{opens_shebang, shebang}
 use Rattle.ecma_grammar.proofs.Fronts.{begins_with-front, front_after}
+use Rattle.ecma_grammar.proofs.NumberFound.{front-taken}
+use Rattle.ecma_grammar.proofs.SignLemmas.{rest-behind}
 
 -- the token of the shebang with which a text begins
 abbrev pub shebang_token : Text → Option Token
 shebang_token text = if opens_shebang text then Some (Shebang (borrowed_atom (encode_utf8_all (line (drop 2 text))))) else None
-
-front-take : (spelling behind text : Text) → spelling ++ behind ≡ text → take (length spelling) text ≡ spelling
-front-take spelling behind text e = ap (λ t. take (length spelling) t) (sym e) ∙ take_at spelling behind _ refl
 
 pub shebang-front : (text : Text) → take (length (shebang text).spelling) text ≡ (shebang text).spelling
 shebang-front text = go (opens_shebang text) refl
@@ -26,7 +25,7 @@ shebang-front text = go (opens_shebang text) refl
     go false e = rw e refl
     go true e =
         let whole = ap (λ t. codes "#!" ++ t) (front_after in_line (drop 2 text)) ∙ begins_with-front (codes "#!") text e in
-        rw e (front-take (codes "#!" ++ line (drop 2 text)) (behind_line (drop 2 text)) text whole)
+        rw e (front-taken (codes "#!" ++ line (drop 2 text)) (behind_line (drop 2 text)) text whole)
 
 -- it holds no error, so that it is seen the same at every place
 abbrev seen : ℕ → Text → FoundView (Option TokenView)
@@ -41,15 +40,12 @@ shebang-seen n text = go (opens_shebang text) refl
     go false e = rw e refl
     go true e = rw e refl
 
-behind-two : (old one : Cursor) → one ≡ passed 2 old → rest one ≡ drop 2 (rest old)
-behind-two old one e = rw e (sym (drop-drop 2 old.at old.text))
-
 pub shebang-opened : (old one : Cursor) → opens_shebang (rest old) ≡ true → one ≡ passed 2 old
     → Some (Shebang (borrowed_atom (encode_utf8_all (line (rest one))))) ≡ shebang_token (rest old)
-shebang-opened old one opens e = rw (opens, behind-two old one e) refl
+shebang-opened old one opens e = rw (opens, rest-behind old one 2 e) refl
 
 pub shebang-passed : (old one two : Cursor) → opens_shebang (rest old) ≡ true → one ≡ passed 2 old → two ≡ passed (length (line (rest one))) one
     → two ≡ passed (length (shebang (rest old)).spelling) old
 shebang-passed old one two opens e moved =
     let text : Text = line (drop 2 (rest old)) in
-    rw opens (moved ∙ ap (λ t. passed (length (line t)) one) (behind-two old one e) ∙ ap (passed (length text)) e ∙ sym (passed-later-by old (length (codes "#!" ++ text)) (length text) 2 (omega arith)))
+    rw opens (moved ∙ ap (λ t. passed (length (line t)) one) (rest-behind old one 2 e) ∙ ap (passed (length text)) e ∙ sym (passed-later-by old (length (codes "#!" ++ text)) (length text) 2 (omega arith)))

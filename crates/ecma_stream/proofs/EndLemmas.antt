@@ -27,6 +27,20 @@ use Rattle.ecma_state.specs.declared.opening.Opening.TheVariants as opens
 use Rattle.ecma_dispatch.proofs.FrontLemmas.{shebang-front, token_at-front}
 use Rattle.ecma_stream.proofs.ProgressLemmas.{Nothing, Reads, Something, token-reads}
 
+-- of what a read finds, if it finds something: where it begins and ends, and its kind
+
+abbrev pub lo_in : Option SpannedView → ℕ
+lo_in None = 0
+lo_in (Some t) = t.span.lo.0
+
+abbrev pub hi_in : Option SpannedView → ℕ
+hi_in None = 0
+hi_in (Some t) = t.span.hi.0
+
+abbrev pub kind_in : Option SpannedView → Option TokenKind
+kind_in None = None
+kind_in (Some t) = Some (kind_of t.token)
+
 -- what a read finds stands behind the place where it began, and ends where the read ends
 pub record ReadsOn (input : Cursor) (r : Reading) : Type 0 where
   pub start : r.input.start ≡ input.start
@@ -72,14 +86,6 @@ reads-behind mode before input here n (c ∷ cs) gap e =
       further = omega (arith, first, behind);
       ending = λ h. absurd (none-some _ (sym h));
     }
-  where
-    lo_in : Option SpannedView → ℕ
-    lo_in None = 0
-    lo_in (Some t) = t.span.lo.0
-
-    hi_in : Option SpannedView → ℕ
-    hi_in None = 0
-    hi_in (Some t) = t.span.hi.0
 
 -- a token without a gap before it
 token-on : (input : Cursor) (s : Scanned TokenView) → take (length s.spelling) (rest input) ≡ s.spelling
@@ -96,14 +102,6 @@ token-on input s front =
       further = omega (arith, behind);
       ending = λ h. absurd (none-some _ (sym h));
     }
-  where
-    lo_in : Option SpannedView → ℕ
-    lo_in None = 0
-    lo_in (Some t) = t.span.lo.0
-
-    hi_in : Option SpannedView → ℕ
-    hi_in None = 0
-    hi_in (Some t) = t.span.hi.0
 
 pub stands-opens : (none_given : Bool) (text : Text) → (none_given && opens_shebang text) ≡ true → opens_shebang text ≡ true
 stands-opens true text h = h
@@ -203,10 +201,6 @@ end-free mode input e =
 -- what is left of n characters and the room that one more token takes
 abbrev pub most : Cursor → Option TokenKind → ℕ
 most input previous = 2 * length (rest input) + empty_room previous
-
-abbrev kind_in : Option SpannedView → Option TokenKind
-kind_in None = None
-kind_in (Some t) = Some (kind_of t.token)
 
 pub room-le : (previous : Option TokenKind) → empty_room previous ≤ 1
 room-le previous = go (is_tpl_element previous)

@@ -42,7 +42,7 @@ use Rattle.ecma_state.specs.declared.kept.Kept.{Kept}
 use Rattle.ecma_state.specs.declared.mode.Mode.{Mode}
 use Rattle.ecma_state.specs.declared.opening.Opening.{Opening}
 use Rattle.ecma_state.specs.declared.opening.Opening.TheVariants as opens
-use Rattle.ecma_stream.proofs.EndLemmas.{reading-on, token-extent}
+use Rattle.ecma_stream.proofs.EndLemmas.{lo_in, reading-on, token-extent}
 use Rattle.ecma_stream.proofs.EndingLemmas.{opened-kept}
 use Rattle.ecma_dispatch.proofs.ReadingLemmas.{free_comments, free_faults}
 use Rattle.ecma_dispatch.proofs.TokenLemmas.{and-parts, empty-none}
@@ -409,10 +409,6 @@ is-answer l now found opened slash finds moved = go l.reread refl found finds mo
           slash = λ p h. no-slash t p (expression-no-slash t.token is) h;
           again = λ p h. ap (λ b. cond b t.span.lo l.state.opened) (expression-opens-none l.state.contexts t.token is);
         }
-      where
-        lo_in : Option SpannedView → ℕ
-        lo_in None = 0
-        lo_in (Some u) = u.span.lo.0
 
 -- What an answer that is taken in leaves
 

@@ -1,11 +1,8 @@
 //! What stands in template text, before anything is made of it.
-ghost use Rattle.std.specs.Prelude.{◌≡◌, ◌≤◌, ◌+◌, ℕ, None, option_map, length};
+ghost use Rattle.std.specs.Prelude.{◌≡◌, ◌≤◌, ◌+◌, None, option_map, length};
 ghost use Rattle.std.specs.List.{list_all, list_any};
 ghost use Rattle.ecma_place.specs.Cursor.{rest, place, passed};
 ghost use Rattle.ecma_place.specs.Text.{Text};
-ghost use Rattle.ecma_escape.specs.EscapeAnswers.{refusal_error};
-ghost use Rattle.ecma_grammar.specs.Escapes.{InTemplate};
-ghost use Rattle.ecma_grammar.specs.Found.{span_behind};
 ghost use Rattle.ecma_grammar.specs.Pieces.{pieces, spelled};
 ghost use Rattle.ecma_grammar.specs.Templates as grammar;
 ghost use Rattle.ecma_literal.specs.WrittenTemplates.{piece_of, refused_at};
@@ -14,7 +11,7 @@ ghost use Rattle.ecma_escape.specs.declared.escape.Answer.TheVariants.{Refused};
 ghost use Rattle.ecma_literal.specs.declared.template.pieces.Piece.TheVariants.{Escaped};
 
 use crate::template::pieces::{Piece, is_break, is_verbatim, read_piece};
-use ecma_escape::escape::{Answer, Refusal};
+use ecma_escape::escape::{Answer, Refusal, Use, refusal_span};
 use ecma_place::{BytePos, Span, StringInput};
 
 /// What stands in template text.
@@ -26,18 +23,6 @@ pub(super) struct Survey {
     pub(super) line_break: bool,
     /// Why the last escape that is refused is so, and where.
     pub(super) refusal: Option<(Refusal, Span)>,
-}
-
-/// Where the error of a refused escape lies that reaches from one place to another.
-fn refusal_span(refusal: Refusal, start: BytePos, end: BytePos) -> Span
-    requires { start.0 ≤ end.0 }
-    ensures { (n : ℕ) → start.0 + n ≡ end.0 → result ≡ span_behind start.0 (refusal_error InTemplate refusal n).span }
-{
-    match refusal {
-        Refusal::NoCodePoint => Span::new(start, start),
-        Refusal::AtEnd => Span::new(start, start),
-        _ => Span::new(start, end),
-    }
 }
 
 /// The refusal of a piece that reaches from one place to another, or the one before it.
@@ -53,7 +38,8 @@ fn newer(
 {
     match piece {
         Piece::Escaped(Answer::Refused(refusal)) => {
-            Some((refusal, refusal_span(refusal, start, end)))
+            let span = refusal_span(refusal, Use::InTemplate, start, end);
+            Some((refusal, span))
         }
         _ => before,
     }

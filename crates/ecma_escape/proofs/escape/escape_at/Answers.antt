@@ -3,7 +3,8 @@ use Rattle.ecma_place.specs.Cursor.{rest}
 use Rattle.ecma_grammar.specs.Escapes.{hex_escape, escape_spelling}
 use Rattle.ecma_escape.specs.EscapeAnswers.{use_of, digit_front}
 use Rattle.ecma_grammar.proofs.EscapeLaws.{hex_size}
-use Rattle.ecma_escape.proofs.EscapeForms.{hex-of, answers-whole, onward, rest-behind}
+use Rattle.ecma_escape.proofs.EscapeForms.{hex-of, answers-whole, onward}
+use Rattle.ecma_grammar.proofs.SignLemmas.{rest-behind}
 use Rattle.ecma_escape.proofs.escape.escape_at.Goals as goal
 
 pub returns-then-first-eq120-clause-answer : goal.returns-then-first-eq120-clause-answer

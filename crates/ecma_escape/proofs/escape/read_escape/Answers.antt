@@ -6,7 +6,8 @@ use Rattle.ecma_escape.specs.EscapeAnswers.{use_of}
 use Rattle.ecma_escape.specs.declared.escape.Answer.TheVariants as answer
 use Rattle.ecma_escape.specs.declared.escape.Refusal.TheVariants as because
 use Rattle.ecma_grammar.proofs.EscapeLaws.{unicode_size, escape_some}
-use Rattle.ecma_escape.proofs.EscapeForms.{eaten-is, at-letter, at-other, at-end, in-word, not-first, answers-whole, onward, onward-all, rest-behind}
+use Rattle.ecma_escape.proofs.EscapeForms.{eaten-is, at-letter, at-other, at-end, in-word, not-first, answers-whole, onward, onward-all}
+use Rattle.ecma_grammar.proofs.SignLemmas.{rest-behind}
 use Rattle.ecma_escape.proofs.escape.read_escape.Goals as goal
 
 pub returns-then-eat_byte-clause-answer : goal.returns-then-eat_byte-clause-answer

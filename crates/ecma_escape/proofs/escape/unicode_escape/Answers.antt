@@ -3,7 +3,8 @@ use Rattle.ecma_place.specs.Cursor.{rest}
 use Rattle.ecma_grammar.specs.Escapes.{hex_front, is_hex_digit, braced_escape, four_escape, unicode_escape}
 use Rattle.ecma_grammar.specs.Fronts.{after}
 use Rattle.ecma_escape.specs.EscapeAnswers.{digit_front}
-use Rattle.ecma_escape.proofs.EscapeForms.{unicode-braced, unicode-four, eaten-is, answers-whole, onward, rest-behind, braced_long, same-move}
+use Rattle.ecma_escape.proofs.EscapeForms.{unicode-braced, unicode-four, eaten-is, answers-whole, onward, braced_long, same-move}
+use Rattle.ecma_grammar.proofs.SignLemmas.{rest-behind}
 use Rattle.ecma_escape.proofs.escape.unicode_escape.Goals as goal
 
 pub returns-then-eat_byte-clause-answer : goal.returns-then-eat_byte-clause-answer

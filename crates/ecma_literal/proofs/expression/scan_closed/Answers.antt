@@ -5,7 +5,8 @@ use Rattle.ecma_place.specs.Cursor.{rest, passed}
 use Rattle.ecma_place.proofs.MoveLemmas.{place-passed-le}
 use Rattle.ecma_grammar.specs.Expressions.{flags}
 use Rattle.ecma_grammar.specs.Found.{FoundView}
-use Rattle.ecma_escape.proofs.EscapeForms.{rest-behind, passed-both}
+use Rattle.ecma_escape.proofs.EscapeForms.{passed-both}
+use Rattle.ecma_grammar.proofs.SignLemmas.{rest-behind}
 use Rattle.ecma_literal.proofs.ExpressionFound.{closed_found, slash_place}
 use Rattle.ecma_literal.proofs.expression.scan_closed.Goals as goal
 

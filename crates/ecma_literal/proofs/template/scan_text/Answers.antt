@@ -8,7 +8,7 @@ use Rattle.ecma_place.proofs.RunLemmas.{further-HasPlace, further-start, further
 use Rattle.ecma_token.specs.declared.error.SyntaxError.{UnterminatedTpl}
 use Rattle.ecma_grammar.specs.Pieces.{remainder}
 use Rattle.ecma_grammar.specs.Templates.{template_cutter, template_end, raw_text}
-use Rattle.ecma_escape.proofs.EscapeForms.{rest-behind}
+use Rattle.ecma_grammar.proofs.SignLemmas.{rest-behind}
 use Rattle.ecma_grammar.proofs.NumberFound.{front-taken}
 use Rattle.ecma_grammar.proofs.NumberRefusals.{seen_error}
 use Rattle.ecma_grammar.proofs.PieceLemmas.{tiling}

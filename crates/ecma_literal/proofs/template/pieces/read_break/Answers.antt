@@ -1,7 +1,8 @@
 use Rattle.std.proofs.Common.{drop, ap, ◌∙◌, eq-eqb}
 use Rattle.ecma_place.specs.Cursor.{rest}
 use Rattle.ecma_grammar.specs.Fronts.{next_is}
-use Rattle.ecma_escape.proofs.EscapeForms.{eaten-is, line_end-moved, rest-behind}
+use Rattle.ecma_escape.proofs.EscapeForms.{eaten-is, line_end-moved}
+use Rattle.ecma_grammar.proofs.SignLemmas.{rest-behind}
 use Rattle.ecma_literal.proofs.TemplatePieces.{return_piece}
 use Rattle.ecma_literal.proofs.template.pieces.read_break.Goals as goal
 

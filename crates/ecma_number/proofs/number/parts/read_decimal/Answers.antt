@@ -2,8 +2,9 @@ use Rattle.std.proofs.Common.{◌≡◌, ◌∷◌, [], length, drop, refl, sym,
 use Rattle.ecma_place.specs.Cursor.{rest}
 use Rattle.ecma_token.specs.declared.token.Radix.TheVariants.{Decimal}
 use Rattle.ecma_grammar.specs.Numbers.{BigRun, OctalRun, run_of, behind_run, number_text, fraction, exponent, after_fraction}
-use Rattle.ecma_number.proofs.NumberReading.{moved-on, rest-on, rest-run, decimal-big, decimal-octal, decimal-plain, decimal-length}
+use Rattle.ecma_number.proofs.NumberReading.{moved-on, rest-run, decimal-big, decimal-octal, decimal-plain, decimal-length}
 use Rattle.ecma_number.proofs.number.parts.read_decimal.Goals as goal
+use Rattle.ecma_grammar.proofs.SignLemmas.{rest-behind}
 
 pub returns-then-read_suffix : goal.returns-then-read_suffix
 returns-then-read_suffix c =
@@ -43,10 +44,10 @@ returns c =
     let found = decimal-plain text (sym big ∙ c.if-read_suffix.false) (sym octal ∙ c.if-is_octal_run.false) in
     let none = rw (← c.read_suffix.ensures.value, c.if-read_suffix.false) at c.read_suffix.ensures.moved in
     let first = moved-on _ _ _ _ _ (length (run_of Decimal text)) c.read_run-run.ensures.moved none (omega arith) in
-    let there = rest-on _ _ 0 none ∙ behind in
+    let there = rest-behind _ _ 0 none ∙ behind in
     let part = c.read_fraction-fraction.ensures.value ∙ ap fraction there in
     let second = rw there at c.read_fraction-fraction.ensures.moved in
-    let more = rest-on _ _ _ second ∙ ap (drop _) there in
+    let more = rest-behind _ _ _ second ∙ ap (drop _) there in
     let scale = c.read_exponent-exponent.ensures.value ∙ ap exponent more in
     let third = rw more at c.read_exponent-exponent.ensures.moved in
     let sum = decimal-length (run_of Decimal text) (fraction (behind_run Decimal text)) (exponent (after_fraction (behind_run Decimal text))) in

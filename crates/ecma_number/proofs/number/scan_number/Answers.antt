@@ -9,11 +9,10 @@ use Rattle.ecma_grammar.specs.Numbers.{number_parts, number_text, behind_number,
 use Rattle.ecma_number.specs.WrittenNumbers.{number_of}
 use Rattle.ecma_number.proofs.NumberDigits.{number-some}
 use Rattle.ecma_number.proofs.NumberForms.{number-bytes}
-use Rattle.ecma_grammar.proofs.NumberFound.{front-taken, on_any, free-number}
+use Rattle.ecma_grammar.proofs.NumberFound.{front-taken}
 use Rattle.ecma_number.proofs.NumberLaws.{number_sound, number_tiles}
 use Rattle.ecma_number.proofs.NumberLocal.{spelling_is}
-use Rattle.ecma_number.proofs.NumberReading.{rest-on}
-use Rattle.ecma_number.proofs.number.number_at.Goals as goal
+use Rattle.ecma_number.proofs.number.scan_number.Goals as goal
 
 pub new-extent-requires : goal.new-extent-requires
 new-extent-requires c = rw (c.cur_pos-start.ensures, c.cur_pos.ensures) (place-passed-le _ _ _ c.read_parts-number.ensures.moved)
@@ -51,24 +50,9 @@ found_number-requires-clause-some c =
 pub found_number-requires-clause-behind : goal.found_number-requires-clause-behind
 found_number-requires-clause-behind c = ap (λ (s : Span). s.hi.0) c.new-extent.ensures ∙ c.cur_pos.ensures
 
-pub returns-clause-found : goal.returns-clause-found
-returns-clause-found c =
-    let from = ap (λ (s : Span). s.lo.0) c.new-extent.ensures ∙ c.cur_pos-start.ensures in
-    rw (from, c.read_parts-number.ensures.value, rest-on _ _ _ c.read_parts-number.ensures.moved) at c.found_number.ensures.found
-
 pub returns-clause-moved : goal.returns-clause-moved
 returns-clause-moved c =
     let text = rest c.args.input.now in
     let number = number_parts text in
     let same = spelling_is c.args.ts1085 number (refusal number (behind_number number text)) in
-    on_any c.found_number.result (c.read_parts-number.ensures.moved ∙ ap (λ s. passed (length s) c.args.input.now) (sym same))
-
-pub returns-clause-free : goal.returns-clause-free
-returns-clause-free c =
-    let text = rest c.args.input.now in
-    let number = number_parts text in
-    let value = c.read_parts-number.ensures.value in
-    let follows = rest-on _ _ _ c.read_parts-number.ensures.moved in
-    λ plain accepted clean.
-    let parts = free-number c.args.ts1085 number (refusal number (behind_number number text)) plain accepted clean in
-    c.found_number.ensures.free (rw value parts.0) (rw (value, follows) parts.1) (rw value parts.2)
+    c.read_parts-number.ensures.moved ∙ ap (λ s. passed (length s) c.args.input.now) (sym same)

@@ -1,15 +1,14 @@
 -- What a replay keeps tiles its text.
-use Rattle.std.proofs.Common.{◌≡◌, ◌∙◌, Bool, List, [], ◌∷◌, map, refl, sym, subst, ap, reverse}
+use Rattle.std.proofs.Common.{◌≡◌, ◌∙◌, List, [], ◌∷◌, map, refl, sym, subst, ap, reverse}
 use Rattle.std.proofs.lemmas.List.{reverse-reverse}
 use Rattle.ecma_place.specs.Cursor.{Cursor, place}
-use Rattle.ecma_place.specs.declared.place.Span.{Span}
 use Rattle.ecma_token.specs.View.{SpannedView}
 use Rattle.ecma_laws.specs.Tiling.{IsTiled, kept_spans, pieces_read}
 use Rattle.ecma_laws.proofs.GapTiling.{tiles}
 use Rattle.ecma_replay.specs.Replay.{Replays, TilesText, spans_kept}
 use Rattle.ecma_replay.specs.declared.replayed.Replay.{Replay}
 use Rattle.ecma_state.specs.Run.{session, start_of}
-use Rattle.ecma_state.specs.Session.{Session, kept_back, kept_of}
+use Rattle.ecma_state.specs.Session.{has_ended, kept_back, kept_of}
 use Rattle.ecma_state.specs.declared.kept.Kept.{Kept}
 use Rattle.ecma_state.specs.declared.settings.Settings.{Settings}
 use Rattle.ecma_state.specs.declared.step.Step.{Step}
@@ -25,4 +24,4 @@ replays_tile settings input steps r replays =
     let spans : spans_kept r ≡ kept_spans s = ap (map (λ (k : Kept). k.span)) kept ∙ spans-of (kept_back s.past) in
     let tiled = tiles settings input steps in
     subst (λ ended. IsTiled input (spans_kept r) ended (place s.input) (pieces_read settings input steps)) (sym replays.ended)
-    (subst (λ spans. IsTiled input spans (seen_of s.past).ended (place s.input) (pieces_read settings input steps)) (sym spans) tiled)
+    (subst (λ spans. IsTiled input spans (has_ended s.past) (place s.input) (pieces_read settings input steps)) (sym spans) tiled)
