@@ -162,7 +162,8 @@ found_at c p angled plainly true cs = angled cs
 found_at c p angled plainly false cs = plainly cs
 
 pub closers_are_read_again : ClosersAreReadAgain
-closers_are_read_again mode flag behind r =
-    (closer mode flag 96 _ behind r back_quote_no_start refl back_quote_inert (λ cs. refl) (λ cs. refl) (found_at 96 _ (λ cs. refl) (λ cs. refl)) (λ cs. refl),
-    closer mode flag 125 _ behind r brace_no_start refl brace_inert (λ cs. refl) (λ cs. refl) (found_at 125 _ (λ cs. refl) (λ cs. refl)) (λ cs. refl),
-    closer mode flag 41 _ behind r parenthesis_no_start refl parenthesis_inert (λ cs. refl) (λ cs. refl) (found_at 41 _ (λ cs. refl) (λ cs. refl)) (λ cs. refl))
+closers_are_read_again mode flag behind r = (
+  closer mode flag 96 _ behind r back_quote_no_start refl back_quote_inert (λ cs. refl) (λ cs. refl) (found_at 96 _ (λ cs. refl) (λ cs. refl)) (λ cs. refl),
+  closer mode flag 125 _ behind r brace_no_start refl brace_inert (λ cs. refl) (λ cs. refl) (found_at 125 _ (λ cs. refl) (λ cs. refl)) (λ cs. refl),
+  closer mode flag 41 _ behind r parenthesis_no_start refl parenthesis_inert (λ cs. refl) (λ cs. refl) (found_at 41 _ (λ cs. refl) (λ cs. refl)) (λ cs. refl),
+)

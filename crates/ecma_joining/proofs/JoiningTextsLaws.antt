@@ -8,7 +8,6 @@ use Rattle.ecma_scan.specs.Templates.{AtBackQuote, AtDollarBrace, AtEnd, Templat
 use Rattle.ecma_scan.proofs.PieceLemmas.{pieces_in_order}
 use Rattle.ecma_scan.proofs.TemplateLaws.{ends_on, is_at_end, stops_at_mark, template_is_cutter, template_is_local, template_tiles}
 
-
 -- what accepted text is
 
 record Accepted (ps : List TemplatePiece) (e : TemplateEnd) (x : Text) : Type 0 where

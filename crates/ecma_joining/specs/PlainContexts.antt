@@ -32,7 +32,7 @@ opens_text kind = false
 abbrev pub ContextsStayPlain : Type 0
 ContextsStayPlain =
     ((before : Before) (contexts : Contexts) (kind : TokenKind) (flag : Bool) → are_plain contexts ≡ true → tpl_on_top contexts ≡ false
-        → are_plain (transition before contexts kind flag).contexts ≡ true)
+    → are_plain (transition before contexts kind flag).contexts ≡ true)
     × ((before : Before) (contexts : Contexts) (flag : Bool) → are_plain contexts ≡ true → are_plain (transition before contexts BackQuote flag).contexts ≡ true)
     × ((before : Before) (contexts : Contexts) (flag : Bool) → are_plain contexts ≡ true → are_plain (transition before contexts DollarLBrace flag).contexts ≡ true)
 

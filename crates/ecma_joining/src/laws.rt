@@ -1,10 +1,11 @@
-//! Laws of tokens of code.
+//! Laws of tokens of code, of the text of templates, and of contexts.
 ghost use Rattle.ecma_joining.specs.Joining.{CodeBeginsNoGap, CodeIsLocal, CodeOpensNoShebang};
 ghost use Rattle.ecma_joining.specs.JoiningFaults.{ExpressionIsFaultless};
 ghost use Rattle.ecma_joining.specs.JoiningGaps.{ClosersAreReadAgain, SeparatorIsTheGap, SlashIsReadAgain, StartIsTheGap};
 ghost use Rattle.ecma_joining.specs.JoiningKinds.{CloserIsWritten, CodeHoldsNoBreak, CodeIsNeither};
 ghost use Rattle.ecma_joining.specs.JoiningRest.{NothingBehindTheGap, ShebangStandsAlone};
 ghost use Rattle.ecma_joining.specs.JoiningTexts.{TextsStandAlone};
+ghost use Rattle.ecma_joining.specs.PlainContexts.{ContextsStayPlain, TemplatesAreOpened};
 
 /// A token of code that is read cleanly is read the same at the end of the text and in front of a space or a line feed.
 pub fn code_is_local()
@@ -74,4 +75,14 @@ pub fn shebang_stands_alone()
 /// Nothing is wrong with a regular expression that is read cleanly.
 pub fn expression_is_faultless()
     ensures { ExpressionIsFaultless }
+{}
+
+/// In plain contexts, without template text on top, every token leaves plain contexts.
+pub fn contexts_stay_plain()
+    ensures { ContextsStayPlain }
+{}
+
+/// Template text comes on top behind a back quote, `}` and `)` alone.
+pub fn templates_are_opened()
+    ensures { TemplatesAreOpened }
 {}
