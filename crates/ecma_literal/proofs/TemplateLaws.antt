@@ -184,7 +184,7 @@ none_ends (c ∷ cs) h more = go (c == 96 || (c == 36 && next_is 123 cs)) (c == 
     go false false true h = cc
     go false false false h = cc
 
-ends_on : (text : Text) → ends_template text ≡ true → is_at_end (template_end text) ≡ false
+pub ends_on : (text : Text) → ends_template text ≡ true → is_at_end (template_end text) ≡ false
 ends_on [] h = cc
 ends_on (c ∷ cs) h = go (c == 96)
   where
@@ -193,7 +193,7 @@ ends_on (c ∷ cs) h = go (c == 96)
     go false = refl
 
 -- what follows the pieces of a text that goes on behind them
-stops_at_mark : (text : Text) → is_at_end (template_end (remainder template_cutter tt text)) ≡ false → ends_template (remainder template_cutter tt text) ≡ true
+pub stops_at_mark : (text : Text) → is_at_end (template_end (remainder template_cutter tt text)) ≡ false → ends_template (remainder template_cutter tt text) ≡ true
 stops_at_mark text on = none_ends (remainder template_cutter tt text) (maximal template_cutter template_is_cutter tt text) on
 
 text_local : (after_template : Bool) (b behind r : Text) → IsText after_template (pieces template_cutter tt (b ++ behind)) → is_clean (template_text after_template (b ++ behind)) ≡ true

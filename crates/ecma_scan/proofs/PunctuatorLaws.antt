@@ -232,7 +232,7 @@ no_fraction c [] behind (d ∷ ds) free h = at (c == 46) (d == 32) (d == 10) ref
     at z false true e f h = with_digit (c == 46) _ (ap (λ x. opens_fraction (46 ∷ (x ∷ ds))) (eqb-true d 10 f))
     at z false false e f h = cc
 
-found_local : (type_mode : Bool) (b behind r : Text) (found : Option Punctuator) → punctuator_in type_mode (b ++ behind) ≡ found → spelling_in found ≡ b → separates r ≡ true
+pub found_local : (type_mode : Bool) (b behind r : Text) (found : Option Punctuator) → punctuator_in type_mode (b ++ behind) ≡ found → spelling_in found ≡ b → separates r ≡ true
     → punctuator_in type_mode (b ++ r) ≡ found
 found_local type_mode [] behind r None e written free = none_at type_mode r free
 found_local type_mode [] behind r (Some p) e written free = absurd (omega (arith, punctuator-some type_mode behind p e, ap length written))
@@ -313,7 +313,7 @@ angle_passes test c t all e = go (c == 60) (c == 62) refl refl e
     go false false f g e = cc
 
 -- a test that all spellings pass is passed by what is found
-found_passes : (test : Text → Bool) (type_mode : Bool) (text : Text) (found : Punctuator) → list_all (λ p. test p.spelling) punctuators ≡ true → punctuator_in type_mode text ≡ Some found
+pub found_passes : (test : Text → Bool) (type_mode : Bool) (text : Text) (found : Punctuator) → list_all (λ p. test p.spelling) punctuators ≡ true → punctuator_in type_mode text ≡ Some found
     → test found.spelling ≡ true
 found_passes test type_mode [] found all e = cc
 found_passes test type_mode (c ∷ cs) found all e = by_mode type_mode e

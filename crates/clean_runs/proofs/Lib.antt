@@ -1,0 +1,5 @@
+pub mod Alike
+pub mod CanonicalLaws
+pub mod KeptLemmas
+pub mod PartsLaws
+pub mod Sharing

@@ -1,0 +1,5 @@
+pub mod Clean
+pub mod Grammar
+pub mod Laws
+pub mod Moments
+pub mod Parts

@@ -1,0 +1,7 @@
+pub mod JoiningFaultsLaws
+pub mod JoiningGapsLaws
+pub mod JoiningKindsLaws
+pub mod JoiningLaws
+pub mod JoiningRestLaws
+pub mod JoiningTextsLaws
+pub mod PlainContextsLemmas

@@ -1,0 +1,5 @@
+use Rattle.ecma_joining.proofs.JoiningKindsLaws.{closer_is_written}
+use Rattle.ecma_joining.proofs.laws.closer_is_written.Goals as goal
+
+pub returns : goal.returns
+returns c = closer_is_written

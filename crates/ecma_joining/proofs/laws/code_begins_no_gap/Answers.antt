@@ -1,0 +1,5 @@
+use Rattle.ecma_joining.proofs.JoiningLaws.{code_begins_no_gap}
+use Rattle.ecma_joining.proofs.laws.code_begins_no_gap.Goals as goal
+
+pub returns : goal.returns
+returns c = code_begins_no_gap

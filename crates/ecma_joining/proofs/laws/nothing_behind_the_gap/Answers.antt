@@ -1,0 +1,5 @@
+use Rattle.ecma_joining.proofs.JoiningRestLaws.{nothing_behind_the_gap}
+use Rattle.ecma_joining.proofs.laws.nothing_behind_the_gap.Goals as goal
+
+pub returns : goal.returns
+returns c = nothing_behind_the_gap

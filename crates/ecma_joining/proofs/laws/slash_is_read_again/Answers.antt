@@ -1,0 +1,5 @@
+use Rattle.ecma_joining.proofs.JoiningGapsLaws.{slash_is_read_again}
+use Rattle.ecma_joining.proofs.laws.slash_is_read_again.Goals as goal
+
+pub returns : goal.returns
+returns c = slash_is_read_again
