@@ -12,7 +12,11 @@ use Rattle.ecma_scan.specs.Bars.{opens_bars}
 use Rattle.ecma_scan.specs.Found.{Scanned}
 use Rattle.ecma_scan.specs.Fronts.{begins_with, next_passes}
 use Rattle.ecma_scan.specs.Gaps.{element}
-use Rattle.ecma_joining.specs.Joining.{CodeBeginsNoGap, CodeIsLocal, CodeMode, CodeOpensNoShebang, as_token, code_at, code_opening, opening_from, punctuator_or_stray, read_code, stray}
+use Rattle.ecma_joining.specs.Joining.{CodeBeginsNoGap, CodeIsLocal, CodeIsToken, CodeMode, CodeOpensNoShebang, code_at, code_mode, code_opening, opening_from, read_code}
+use Rattle.ecma_state.specs.Mode.{is_template}
+use Rattle.ecma_state.specs.declared.mode.Mode.{Mode}
+use Rattle.ecma_state.specs.TokenAt as grammar
+use Rattle.ecma_state.specs.TokenAt.{as_token, punctuator_or_stray, stray}
 use Rattle.ecma_scan.specs.Locality.{is_clean, separates}
 use Rattle.ecma_scan.specs.Numbers.{digit, exponent, fraction, in_run, number, number_parts, number_text, opens_number, refusal, behind_number, exponent_text, after_fraction, run_of}
 use Rattle.ecma_scan.specs.Punctuators.{Punctuator, punctuator_in, punctuators}
@@ -230,3 +234,18 @@ code_opens_no_shebang mode flag c b behind r clean spells free = go (code mode f
     go (AString n opens k s is) = no_hash (λ x. x == 34 || x == 39) c (b ++ r) refl opens
     go (AWord n t opens k s is) = word_no_hash c (b ++ r) opens
     go (APunctuator n t w p e s is) = ap (λ x. opens_shebang (x ++ r)) (sym s) ∙ punctuator_opens_none opens_shebang mode.type_mode (c ∷ (b ++ behind)) r p (shebang_none r free) e
+
+-- Code and the token at a place
+
+pub code_is_token : CodeIsToken
+code_is_token mode flag text outside =
+    go (is_template mode.top) (opens_number text) (opens_string text) (opens_word text) (flag && opens_bars text) outside
+  where
+    go : (t n s w b : Bool) → t ≡ false
+        → grammar.read_opened (grammar.opening_from t n s w b) mode text ≡ read_code (opening_from n s w b) (code_mode mode) text
+    go true n s w b outside = cc
+    go false true s w b outside = refl
+    go false false true w b outside = refl
+    go false false false true b outside = refl
+    go false false false false true outside = refl
+    go false false false false false outside = refl

@@ -1,14 +1,11 @@
 -- The token with which code begins, where no template's text is read, and where it stands by itself.
-use Rattle.std.specs.Prelude.{◌≡◌, ℕ, Bool, true, false, ◌&&◌, [], ◌∷◌, ◌++◌, Option, Some, None, Result, Ok, Err}
+use Rattle.std.specs.Prelude.{◌≡◌, ℕ, Bool, true, false, ◌&&◌, ◌∷◌, ◌++◌, None}
 use Rattle.ecma_place.specs.Text.{Text}
 use Rattle.ecma_syntax.specs.declared.context.Context.{Context}
-use Rattle.ecma_syntax.specs.declared.word.Word.{Word}
-use Rattle.ecma_token.specs.declared.token.Token as token
-use Rattle.ecma_token.specs.declared.error.SyntaxError.{UnexpectedChar}
-use Rattle.ecma_token.specs.View.{TokenView, ErrorView, plain, plain_token}
+use Rattle.ecma_token.specs.View.{TokenView}
 use Rattle.ecma_scan.specs.declared.gap_mode.GapMode.{GapMode}
 use Rattle.ecma_scan.specs.Bars as bars
-use Rattle.ecma_scan.specs.Found.{Scanned, error_at}
+use Rattle.ecma_scan.specs.Found.{Scanned}
 use Rattle.ecma_scan.specs.Gaps.{element}
 use Rattle.ecma_scan.specs.Locality.{is_clean, separates}
 use Rattle.ecma_scan.specs.Numbers as numbers
@@ -16,6 +13,9 @@ use Rattle.ecma_scan.specs.Punctuators as punctuators
 use Rattle.ecma_scan.specs.Shebangs.{opens_shebang}
 use Rattle.ecma_scan.specs.Strings as strings
 use Rattle.ecma_scan.specs.Words as words
+use Rattle.ecma_state.specs.Mode.{is_template, type_mode}
+use Rattle.ecma_state.specs.TokenAt.{as_token, punctuator_or_stray, token_at, ts1085}
+use Rattle.ecma_state.specs.declared.mode.Mode.{Mode}
 
 -- what a read of code goes by besides the text
 pub record CodeMode : Type 0 where
@@ -29,21 +29,6 @@ pub data CodeOpening : Type 0 where
   Word' : CodeOpening
   Bars : CodeOpening
   Other : CodeOpening
-
-abbrev pub word_value : Result Word ErrorView → Result TokenView ErrorView
-word_value (Ok word) = Ok (plain_token (token.Word word))
-word_value (Err error) = Err error
-
-abbrev pub as_token : Scanned Word → Scanned TokenView
-as_token s = record { value = word_value s.value; faults = s.faults; spelling = s.spelling; line_break = s.line_break }
-
-abbrev pub stray : Text → Scanned TokenView
-stray [] = record { value = Err (error_at (plain (UnexpectedChar 0)) 0); faults = []; spelling = []; line_break = false }
-stray (c ∷ cs) = record { value = Err (error_at (plain (UnexpectedChar c)) 0); faults = []; spelling = c ∷ []; line_break = false }
-
-abbrev pub punctuator_or_stray : Option punctuators.Punctuator → Text → Scanned TokenView
-punctuator_or_stray (Some p) text = record { value = Ok (plain_token p.token); faults = []; spelling = p.spelling; line_break = false }
-punctuator_or_stray None text = stray text
 
 abbrev pub opening_from : Bool → Bool → Bool → Bool → CodeOpening
 opening_from true string word bars = Number
@@ -65,7 +50,15 @@ read_code Other mode text = punctuator_or_stray (punctuators.punctuator_in mode.
 abbrev pub code_at : CodeMode → Bool → Text → Scanned TokenView
 code_at mode flag text = read_code (code_opening flag text) mode text
 
+-- what a read goes by, where it reads code
+abbrev pub code_mode : Mode → CodeMode
+code_mode mode = record { type_mode = type_mode mode; ts1085 = ts1085 mode; context = mode.context }
+
 -- Laws
+
+-- Outside of templates this is the token at a place.
+abbrev pub CodeIsToken : Type 0
+CodeIsToken = (mode : Mode) (flag : Bool) (text : Text) → is_template mode.top ≡ false → token_at mode flag text ≡ code_at (code_mode mode) flag text
 
 -- what is asked of a token that is read cleanly, and of what may follow it
 abbrev pub StandsAlone : (CodeMode → Bool → ℕ → Text → Text → Text → Type 0) → Type 0

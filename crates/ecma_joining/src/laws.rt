@@ -1,11 +1,16 @@
 //! Laws of tokens of code, of the text of templates, and of contexts.
-ghost use Rattle.ecma_joining.specs.Joining.{CodeBeginsNoGap, CodeIsLocal, CodeOpensNoShebang};
+ghost use Rattle.ecma_joining.specs.Joining.{CodeBeginsNoGap, CodeIsLocal, CodeIsToken, CodeOpensNoShebang};
 ghost use Rattle.ecma_joining.specs.JoiningFaults.{ExpressionIsFaultless};
 ghost use Rattle.ecma_joining.specs.JoiningGaps.{ClosersAreReadAgain, SeparatorIsTheGap, SlashIsReadAgain, StartIsTheGap};
 ghost use Rattle.ecma_joining.specs.JoiningKinds.{CloserIsWritten, CodeHoldsNoBreak, CodeIsNeither};
 ghost use Rattle.ecma_joining.specs.JoiningRest.{NothingBehindTheGap, ShebangStandsAlone};
 ghost use Rattle.ecma_joining.specs.JoiningTexts.{TextsStandAlone};
 ghost use Rattle.ecma_joining.specs.PlainContexts.{ContextsStayPlain, TemplatesAreOpened};
+
+/// What is read of code is the token at a place outside of templates.
+pub fn code_is_token()
+    ensures { CodeIsToken }
+{}
 
 /// A token of code that is read cleanly is read the same at the end of the text and in front of a space or a line feed.
 pub fn code_is_local()

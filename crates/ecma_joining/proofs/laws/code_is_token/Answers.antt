@@ -1,0 +1,5 @@
+use Rattle.ecma_joining.proofs.JoiningLaws.{code_is_token}
+use Rattle.ecma_joining.proofs.laws.code_is_token.Goals as goal
+
+pub returns : goal.returns
+returns c = code_is_token
