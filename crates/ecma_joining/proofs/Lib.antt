@@ -1,7 +1,7 @@
-pub mod JoiningFaultsLaws
-pub mod JoiningGapsLaws
-pub mod JoiningKindsLaws
-pub mod JoiningLaws
-pub mod JoiningRestLaws
-pub mod JoiningTextsLaws
+pub mod BoundariesLaws
+pub mod CodeKindsLaws
+pub mod CodeLaws
+pub mod FaultlessLaws
 pub mod PlainContextsLemmas
+pub mod SeparatorsLaws
+pub mod TextsLaws

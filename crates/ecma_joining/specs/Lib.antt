@@ -1,7 +1,7 @@
-pub mod Joining
-pub mod JoiningFaults
-pub mod JoiningGaps
-pub mod JoiningKinds
-pub mod JoiningRest
-pub mod JoiningTexts
+pub mod Boundaries
+pub mod Code
+pub mod CodeKinds
+pub mod Faultless
 pub mod PlainContexts
+pub mod Separators
+pub mod Texts

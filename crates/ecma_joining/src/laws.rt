@@ -1,10 +1,10 @@
 //! Laws of tokens of code, of the text of templates, and of contexts.
-ghost use Rattle.ecma_joining.specs.Joining.{CodeBeginsNoGap, CodeIsLocal, CodeIsToken, CodeOpensNoShebang};
-ghost use Rattle.ecma_joining.specs.JoiningFaults.{ExpressionIsFaultless};
-ghost use Rattle.ecma_joining.specs.JoiningGaps.{ClosersAreReadAgain, SeparatorIsTheGap, SlashIsReadAgain, StartIsTheGap};
-ghost use Rattle.ecma_joining.specs.JoiningKinds.{CloserIsWritten, CodeHoldsNoBreak, CodeIsNeither};
-ghost use Rattle.ecma_joining.specs.JoiningRest.{NothingBehindTheGap, ShebangStandsAlone};
-ghost use Rattle.ecma_joining.specs.JoiningTexts.{TextsStandAlone};
+ghost use Rattle.ecma_joining.specs.Code.{CodeBeginsNoGap, CodeIsLocal, CodeIsToken, CodeOpensNoShebang};
+ghost use Rattle.ecma_joining.specs.Faultless.{ExpressionIsFaultless};
+ghost use Rattle.ecma_joining.specs.Separators.{ClosersAreReadAgain, SeparatorIsTheGap, SlashIsReadAgain, StartIsTheGap};
+ghost use Rattle.ecma_joining.specs.CodeKinds.{CloserIsWritten, CodeHoldsNoBreak, CodeIsNeither};
+ghost use Rattle.ecma_joining.specs.Boundaries.{NothingBehindTheGap, ShebangStandsAlone};
+ghost use Rattle.ecma_joining.specs.Texts.{TextsStandAlone};
 ghost use Rattle.ecma_joining.specs.PlainContexts.{ContextsStayPlain, TemplatesAreOpened};
 
 /// What is read of code is the token at a place outside of templates.

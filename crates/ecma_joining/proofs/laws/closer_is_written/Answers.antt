@@ -1,4 +1,4 @@
-use Rattle.ecma_joining.proofs.JoiningKindsLaws.{closer_is_written}
+use Rattle.ecma_joining.proofs.CodeKindsLaws.{closer_is_written}
 use Rattle.ecma_joining.proofs.laws.closer_is_written.Goals as goal
 
 pub returns : goal.returns

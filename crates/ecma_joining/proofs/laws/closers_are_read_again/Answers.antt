@@ -1,4 +1,4 @@
-use Rattle.ecma_joining.proofs.JoiningGapsLaws.{closers_are_read_again}
+use Rattle.ecma_joining.proofs.SeparatorsLaws.{closers_are_read_again}
 use Rattle.ecma_joining.proofs.laws.closers_are_read_again.Goals as goal
 
 pub returns : goal.returns

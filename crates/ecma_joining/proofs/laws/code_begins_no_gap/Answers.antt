@@ -1,4 +1,4 @@
-use Rattle.ecma_joining.proofs.JoiningLaws.{code_begins_no_gap}
+use Rattle.ecma_joining.proofs.CodeLaws.{code_begins_no_gap}
 use Rattle.ecma_joining.proofs.laws.code_begins_no_gap.Goals as goal
 
 pub returns : goal.returns

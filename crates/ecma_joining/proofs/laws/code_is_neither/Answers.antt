@@ -1,4 +1,4 @@
-use Rattle.ecma_joining.proofs.JoiningKindsLaws.{code_is_neither}
+use Rattle.ecma_joining.proofs.CodeKindsLaws.{code_is_neither}
 use Rattle.ecma_joining.proofs.laws.code_is_neither.Goals as goal
 
 pub returns : goal.returns

@@ -1,4 +1,4 @@
-use Rattle.ecma_joining.proofs.JoiningLaws.{code_opens_no_shebang}
+use Rattle.ecma_joining.proofs.CodeLaws.{code_opens_no_shebang}
 use Rattle.ecma_joining.proofs.laws.code_opens_no_shebang.Goals as goal
 
 pub returns : goal.returns

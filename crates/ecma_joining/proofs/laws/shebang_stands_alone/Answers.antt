@@ -1,4 +1,4 @@
-use Rattle.ecma_joining.proofs.JoiningRestLaws.{shebang_stands_alone}
+use Rattle.ecma_joining.proofs.BoundariesLaws.{shebang_stands_alone}
 use Rattle.ecma_joining.proofs.laws.shebang_stands_alone.Goals as goal
 
 pub returns : goal.returns

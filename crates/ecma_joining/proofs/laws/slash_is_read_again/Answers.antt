@@ -1,4 +1,4 @@
-use Rattle.ecma_joining.proofs.JoiningGapsLaws.{slash_is_read_again}
+use Rattle.ecma_joining.proofs.SeparatorsLaws.{slash_is_read_again}
 use Rattle.ecma_joining.proofs.laws.slash_is_read_again.Goals as goal
 
 pub returns : goal.returns

@@ -9,9 +9,9 @@ use Rattle.ecma_token.specs.Kinds.{kind_of}
 use Rattle.ecma_token.specs.View.{ErrorView, TokenView, plain_token}
 use Rattle.ecma_token.specs.declared.token.Token.{Token, BinOp}
 use Rattle.ecma_scan.specs.Bars.{opens_bars}
-use Rattle.ecma_joining.specs.Joining.{Bars, CodeMode, CodeOpening, Number, Other, String, Word', code_at, code_opening, read_code}
+use Rattle.ecma_joining.specs.Code.{Bars, CodeMode, CodeOpening, Number, Other, String, Word', code_at, code_opening, read_code}
 use Rattle.ecma_state.specs.TokenAt.{as_token, punctuator_or_stray, stray, word_value}
-use Rattle.ecma_joining.specs.JoiningKinds.{CloserIsWritten, CodeHoldsNoBreak, CodeIsNeither, is_closer, is_closer_text, is_text_or_line}
+use Rattle.ecma_joining.specs.CodeKinds.{CloserIsWritten, CodeHoldsNoBreak, CodeIsNeither, is_closer, is_closer_text, is_text_or_line}
 use Rattle.ecma_scan.specs.Numbers as numbers
 use Rattle.ecma_scan.specs.Numbers.{opens_fraction}
 use Rattle.ecma_scan.specs.Punctuators.{Punctuator, alone_or, angle, angle_in, first_of, longest, punctuator_in, punctuators, spells}

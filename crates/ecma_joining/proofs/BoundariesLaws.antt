@@ -4,7 +4,7 @@ use Rattle.ecma_place.specs.Text.{Text}
 use Rattle.ecma_place.specs.Character.{is_line_terminator}
 use Rattle.ecma_scan.specs.Fronts.{in_line, line, next_passes}
 use Rattle.ecma_scan.specs.Gaps.{behind_gap, element, elements, gap, gap_cutter}
-use Rattle.ecma_joining.specs.JoiningRest.{NothingBehindTheGap, ShebangStandsAlone}
+use Rattle.ecma_joining.specs.Boundaries.{NothingBehindTheGap, ShebangStandsAlone}
 use Rattle.ecma_scan.specs.Locality.{ends_line}
 use Rattle.ecma_scan.specs.Pieces.{spelled, state_behind}
 use Rattle.ecma_scan.proofs.Fronts.{front_all, front_run}

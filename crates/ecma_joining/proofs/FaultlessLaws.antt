@@ -12,7 +12,7 @@ use Rattle.std.specs.Str.Parse.{digits_value}
 use Rattle.ecma_scan.specs.Expressions.{body_cutter, body_pieces, closed_expression, expression_behind, flags, open_expression, regular_expression, slashed}
 use Rattle.ecma_scan.specs.Found.{Fault, Scanned, fault_behind}
 use Rattle.ecma_scan.specs.Fronts.{after, next_is, next_passes}
-use Rattle.ecma_joining.specs.JoiningFaults.{ExpressionIsFaultless}
+use Rattle.ecma_joining.specs.Faultless.{ExpressionIsFaultless}
 use Rattle.ecma_scan.specs.Locality.{has_clean_faults, is_accepted, is_always, is_clean}
 use Rattle.ecma_scan.specs.Pieces.{pieces, remainder, spelled}
 use Rattle.ecma_scan.specs.Strings.{Escaped, Piece, Plain, faults_of, piece_faults, piece_text}

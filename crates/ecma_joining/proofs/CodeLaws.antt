@@ -12,7 +12,7 @@ use Rattle.ecma_scan.specs.Bars.{opens_bars}
 use Rattle.ecma_scan.specs.Found.{Scanned}
 use Rattle.ecma_scan.specs.Fronts.{begins_with, next_passes}
 use Rattle.ecma_scan.specs.Gaps.{element}
-use Rattle.ecma_joining.specs.Joining.{CodeBeginsNoGap, CodeIsLocal, CodeIsToken, CodeMode, CodeOpensNoShebang, code_at, code_mode, code_opening, opening_from, read_code}
+use Rattle.ecma_joining.specs.Code.{CodeBeginsNoGap, CodeIsLocal, CodeIsToken, CodeMode, CodeOpensNoShebang, code_at, code_mode, code_opening, opening_from, read_code}
 use Rattle.ecma_state.specs.Mode.{is_template}
 use Rattle.ecma_state.specs.declared.mode.Mode.{Mode}
 use Rattle.ecma_state.specs.TokenAt as grammar

@@ -5,7 +5,7 @@ use Rattle.ecma_token.specs.Kinds.{kind_of}
 use Rattle.ecma_token.specs.View.{TokenView}
 use Rattle.ecma_token.specs.declared.kind.TokenKind.{TokenKind}
 use Rattle.ecma_token.specs.declared.kind.TokenKind.TheVariants as kind
-use Rattle.ecma_joining.specs.Joining.{CodeMode, code_at}
+use Rattle.ecma_joining.specs.Code.{CodeMode, code_at}
 
 -- template text, or a shebang
 abbrev pub is_text_or_line : TokenKind → Bool

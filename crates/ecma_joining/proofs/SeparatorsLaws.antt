@@ -10,9 +10,9 @@ use Rattle.ecma_scan.specs.declared.gap_mode.GapMode.{GapMode}
 use Rattle.ecma_scan.specs.Expressions.{opens_expression, regular_expression}
 use Rattle.ecma_scan.specs.Fronts.{begins_with}
 use Rattle.ecma_scan.specs.Gaps.{Element, Blank, behind_gap, element, faults_of, gap, gap_cutter, gap_faults, has_line_break, is_inert}
-use Rattle.ecma_joining.specs.Joining.{CodeMode, code_at, opening_from, read_code}
+use Rattle.ecma_joining.specs.Code.{CodeMode, code_at, opening_from, read_code}
 use Rattle.ecma_state.specs.TokenAt.{punctuator_or_stray}
-use Rattle.ecma_joining.specs.JoiningGaps.{CloserAgain, ClosersAreReadAgain, IsGap, SeparatorIsTheGap, SlashAgain, SlashIsReadAgain, StartIsTheGap, separator}
+use Rattle.ecma_joining.specs.Separators.{CloserAgain, ClosersAreReadAgain, IsGap, SeparatorIsTheGap, SlashAgain, SlashIsReadAgain, StartIsTheGap, separator}
 use Rattle.ecma_scan.specs.Locality.{is_clean}
 use Rattle.ecma_scan.specs.Numbers.{opens_number}
 use Rattle.ecma_scan.specs.Pieces.{spelled}

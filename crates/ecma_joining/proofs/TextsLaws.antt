@@ -1,7 +1,7 @@
 -- Template text is read again in front of a back quote and `${`.
 use Rattle.std.proofs.Common.{◌≡◌, ℕ, Bool, true, false, cond, ◌&&◌, ◌||◌, ◌==◌, List, [], ◌∷◌, ◌++◌, drop, length, Option, Some, None, Ok, Err, refl, ap, ◌∙◌, sym}
 use Rattle.ecma_place.specs.Text.{Text}
-use Rattle.ecma_joining.specs.JoiningTexts.{TextsStandAlone, text_at, text_in}
+use Rattle.ecma_joining.specs.Texts.{TextsStandAlone, text_at, text_in}
 use Rattle.ecma_scan.specs.Locality.{ends_template, is_clean}
 use Rattle.ecma_scan.specs.Pieces.{pieces, remainder, spelled}
 use Rattle.ecma_scan.specs.Templates.{AtBackQuote, AtDollarBrace, AtEnd, TemplateEnd, TemplatePiece, mark_of, raw_text, template_cutter, template_end, template_of, template_piece, template_text, text_of}

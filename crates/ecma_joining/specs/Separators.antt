@@ -4,7 +4,7 @@ use Rattle.ecma_place.specs.Text.{Text}
 use Rattle.ecma_scan.specs.declared.gap_mode.GapMode.{GapMode}
 use Rattle.ecma_scan.specs.Expressions.{opens_expression, regular_expression}
 use Rattle.ecma_scan.specs.Gaps.{behind_gap, element, gap_faults, has_line_break}
-use Rattle.ecma_joining.specs.Joining.{CodeMode, code_at}
+use Rattle.ecma_joining.specs.Code.{CodeMode, code_at}
 use Rattle.ecma_scan.specs.Locality.{is_clean}
 use Rattle.ecma_scan.specs.Shebangs.{opens_shebang}
 

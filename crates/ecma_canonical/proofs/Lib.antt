@@ -1,0 +1,2 @@
+mod CanonicalRows
+mod CleanRows
