@@ -1,5 +1,5 @@
 -- No element stands behind a gap, and a line ends at a line feed.
-use Rattle.std.proofs.Common.{◌≡◌, ℕ, Bool, true, false, ◌==◌, [], ◌∷◌, ◌++◌, drop, length, None, refl, ap, ◌∙◌, eqb-true}
+use Rattle.std.proofs.Common.{◌≡◌, true, false, [], ◌∷◌, drop, length, refl, ap, ◌∙◌, eqb-true}
 use Rattle.ecma_place.specs.Text.{Text}
 use Rattle.ecma_place.specs.Character.{is_line_terminator}
 use Rattle.ecma_scan.specs.Fronts.{in_line, line, next_passes}

@@ -1,5 +1,5 @@
 -- What tokens of code are, by what their first characters open.
-use Rattle.std.proofs.Common.{◌≡◌, ℕ, Bool, true, false, not, cond, ◌&&◌, ◌||◌, ◌==◌, List, [], ◌∷◌, ◌++◌, Option, Some, None, Result, Ok, Err, refl, ap, ◌∙◌, sym, eqb-true}
+use Rattle.std.proofs.Common.{◌≡◌, ℕ, Bool, true, false, not, cond, ◌||◌, ◌==◌, List, [], ◌∷◌, ◌++◌, Option, Some, None, Result, Ok, Err, refl, ap, ◌∙◌, sym, eqb-true}
 use Rattle.std.specs.Prelude.{codes}
 use Rattle.std.specs.List.{list_all}
 use Rattle.ecma_place.specs.Text.{Text}
@@ -7,14 +7,13 @@ use Rattle.ecma_syntax.specs.declared.operator.BinOpToken.TheVariants as bin
 use Rattle.ecma_syntax.specs.declared.word.Word.{Word}
 use Rattle.ecma_token.specs.Kinds.{kind_of}
 use Rattle.ecma_token.specs.View.{ErrorView, TokenView, plain_token}
-use Rattle.ecma_token.specs.declared.token.Token.{Token, BinOp}
-use Rattle.ecma_scan.specs.Bars.{opens_bars}
-use Rattle.ecma_joining.specs.Code.{Bars, CodeMode, CodeOpening, Number, Other, String, Word', code_at, code_opening, read_code}
-use Rattle.ecma_state.specs.TokenAt.{as_token, punctuator_or_stray, stray, word_value}
+use Rattle.ecma_token.specs.declared.token.Token.{BinOp}
+use Rattle.ecma_joining.specs.Code.{Bars, CodeMode, CodeOpening, Number, Other, String, Word', code_opening, read_code}
+use Rattle.ecma_state.specs.TokenAt.{punctuator_or_stray, stray, word_value}
 use Rattle.ecma_joining.specs.CodeKinds.{CloserIsWritten, CodeHoldsNoBreak, CodeIsNeither, is_closer, is_closer_text, is_text_or_line}
 use Rattle.ecma_scan.specs.Numbers as numbers
 use Rattle.ecma_scan.specs.Numbers.{opens_fraction}
-use Rattle.ecma_scan.specs.Punctuators.{Punctuator, alone_or, angle, angle_in, first_of, longest, punctuator_in, punctuators, spells}
+use Rattle.ecma_scan.specs.Punctuators.{Punctuator, alone_or, longest, punctuator_in, punctuators, spells}
 use Rattle.ecma_scan.specs.Pieces.{remainder, spelled}
 use Rattle.ecma_scan.specs.Strings.{Piece}
 use Rattle.ecma_scan.specs.Strings as strings

@@ -1,24 +1,21 @@
 -- A token of code stands by itself in front of a separator.
-use Rattle.std.proofs.Common.{◌≡◌, ℕ, Bool, true, false, not, ◌&&◌, ◌||◌, ◌==◌, List, [], ◌∷◌, ◌++◌, Option, Some, None, Result, Ok, Err, refl, ap, ◌∙◌, sym, eqb-true}
+use Rattle.std.proofs.Common.{◌≡◌, ℕ, Bool, true, false, not, ◌&&◌, ◌||◌, ◌==◌, [], ◌∷◌, ◌++◌, Option, Some, None, Result, Ok, Err, refl, ap, ◌∙◌, sym, eqb-true}
 use Rattle.std.specs.List.{list_all}
 use Rattle.std.proofs.lemmas.Bool.{and_parts}
 use Rattle.ecma_place.specs.Text.{Text}
 use Rattle.ecma_place.specs.Character.{is_ident_start}
 use Rattle.ecma_syntax.specs.declared.word.Word.{Word}
-use Rattle.ecma_token.specs.View.{ErrorView, TokenView}
+use Rattle.ecma_token.specs.View.{ErrorView}
 use Rattle.ecma_token.specs.declared.token.Radix.TheVariants.{Decimal}
-use Rattle.ecma_scan.specs.declared.gap_mode.GapMode.{GapMode}
 use Rattle.ecma_scan.specs.Bars.{opens_bars}
-use Rattle.ecma_scan.specs.Found.{Scanned}
 use Rattle.ecma_scan.specs.Fronts.{begins_with, next_passes}
 use Rattle.ecma_scan.specs.Gaps.{element}
-use Rattle.ecma_joining.specs.Code.{CodeBeginsNoGap, CodeIsLocal, CodeIsToken, CodeMode, CodeOpensNoShebang, code_at, code_mode, code_opening, opening_from, read_code}
+use Rattle.ecma_joining.specs.Code.{CodeBeginsNoGap, CodeIsLocal, CodeIsToken, CodeMode, CodeOpensNoShebang, code_at, code_mode, opening_from, read_code}
 use Rattle.ecma_state.specs.Mode.{is_template}
-use Rattle.ecma_state.specs.declared.mode.Mode.{Mode}
 use Rattle.ecma_state.specs.TokenAt as grammar
 use Rattle.ecma_state.specs.TokenAt.{as_token, punctuator_or_stray, stray}
 use Rattle.ecma_scan.specs.Locality.{is_clean, separates}
-use Rattle.ecma_scan.specs.Numbers.{digit, exponent, fraction, in_run, number, number_parts, number_text, opens_number, refusal, behind_number, exponent_text, after_fraction, run_of}
+use Rattle.ecma_scan.specs.Numbers.{digit, exponent, in_run, number, number_parts, number_text, opens_number, refusal, behind_number, exponent_text, after_fraction, run_of}
 use Rattle.ecma_scan.specs.Punctuators.{Punctuator, punctuator_in, punctuators}
 use Rattle.ecma_scan.specs.Shebangs.{opens_shebang}
 use Rattle.ecma_scan.specs.Strings.{opens_string, string_literal}

@@ -1,21 +1,20 @@
 -- All faults of a name count whatever the code is.
-use Rattle.std.proofs.Common.{◌≡◌, ℕ, ◌+◌, Bool, true, false, cond, not, ◌&&◌, ◌==◌, List, [], ◌∷◌, ◌++◌, drop, take, length, Option, Some, None, Result, Ok, Err, map, refl, ap, ◌∙◌, sym}
+use Rattle.std.proofs.Common.{◌≡◌, ℕ, ◌+◌, Bool, true, false, cond, not, ◌&&◌, ◌==◌, List, [], ◌∷◌, ◌++◌, drop, take, length, Option, Some, None, map, refl, ap, ◌∙◌, sym}
 use Rattle.std.specs.Prelude.{codes, nat_lt}
 use Rattle.std.specs.List.{list_all}
 use Rattle.std.proofs.lemmas.Bool.{and_parts}
 use Rattle.ecma_place.specs.Text.{Text, byte_len}
 use Rattle.ecma_place.specs.Character.{is_ident_start}
-use Rattle.ecma_token.specs.View.{TokenView, ErrorView}
 use Rattle.ecma_scan.specs.Cutters.{ReadsInOrder}
 use Rattle.ecma_scan.specs.Escapes.{Accepted, Escape, HexLetter, InWord, LineEnd, OctalDigit, Opening, Refused, Single, UnicodeLetter, braced_escape, code_escape, escape_behind, escape_of, four_escape, hex_front, is_hex_digit, is_surrogate, opening, surrogate_faults, no_brace, out_of_range, unicode_escape}
 use Rattle.std.specs.Str.Parse.{digits_value}
-use Rattle.ecma_scan.specs.Expressions.{body_cutter, body_pieces, closed_expression, expression_behind, flags, open_expression, regular_expression, slashed}
-use Rattle.ecma_scan.specs.Found.{Fault, Scanned, fault_behind}
+use Rattle.ecma_scan.specs.Expressions.{body_cutter, body_pieces, expression_behind, flags, regular_expression, slashed}
+use Rattle.ecma_scan.specs.Found.{Fault, fault_behind}
 use Rattle.ecma_scan.specs.Fronts.{after, next_is, next_passes}
 use Rattle.ecma_joining.specs.Faultless.{ExpressionIsFaultless}
-use Rattle.ecma_scan.specs.Locality.{has_clean_faults, is_accepted, is_always, is_clean}
-use Rattle.ecma_scan.specs.Pieces.{pieces, remainder, spelled}
-use Rattle.ecma_scan.specs.Strings.{Escaped, Piece, Plain, faults_of, piece_faults, piece_text}
+use Rattle.ecma_scan.specs.Locality.{has_clean_faults, is_accepted, is_always}
+use Rattle.ecma_scan.specs.Pieces.{remainder, spelled}
+use Rattle.ecma_scan.specs.Strings.{Piece, faults_of, piece_faults, piece_text}
 use Rattle.ecma_scan.specs.Words.{BadEscape, Backslash, Ended, Part, Stop, WordEnding, WordRole, found_name, identifier_name, may_stand, named_piece, word_cutter, word_ending, word_pieces, word_piece, word_piece_of, word_role}
 use Rattle.ecma_scan.proofs.PieceLemmas.{cut}
 use Rattle.ecma_scan.proofs.WordLaws.{word_is_cutter}

@@ -1,5 +1,5 @@
 -- One character is the gap before a token of code, and slashes and closers are read again.
-use Rattle.std.proofs.Common.{◌≡◌, ℕ, Bool, true, false, cond, ◌&&◌, ◌||◌, ◌==◌, List, [], ◌∷◌, ◌++◌, drop, length, Option, Some, None, Ok, refl, ap, ◌∙◌, sym, eqb-true}
+use Rattle.std.proofs.Common.{◌≡◌, ℕ, Bool, true, false, ◌&&◌, ◌||◌, ◌==◌, List, [], ◌∷◌, ◌++◌, drop, length, Some, None, refl, ap, ◌∙◌, sym, eqb-true}
 use Rattle.std.specs.Prelude.{codes}
 use Rattle.ecma_place.specs.Text.{Text}
 use Rattle.ecma_place.specs.Character.{is_ident_start, is_white_space, is_line_terminator}
@@ -7,13 +7,11 @@ use Rattle.ecma_syntax.specs.declared.operator.BinOpToken.TheVariants as bin
 use Rattle.ecma_syntax.specs.declared.operator.AssignOp.TheVariants as assign
 use Rattle.ecma_token.specs.declared.token.Token.{BinOp, AssignOp}
 use Rattle.ecma_scan.specs.declared.gap_mode.GapMode.{GapMode}
-use Rattle.ecma_scan.specs.Expressions.{opens_expression, regular_expression}
 use Rattle.ecma_scan.specs.Fronts.{begins_with}
-use Rattle.ecma_scan.specs.Gaps.{Element, Blank, behind_gap, element, faults_of, gap, gap_cutter, gap_faults, has_line_break, is_inert}
+use Rattle.ecma_scan.specs.Gaps.{Element, Blank, element, faults_of, gap, gap_cutter, has_line_break, is_inert}
 use Rattle.ecma_joining.specs.Code.{CodeMode, code_at, opening_from, read_code}
 use Rattle.ecma_state.specs.TokenAt.{punctuator_or_stray}
-use Rattle.ecma_joining.specs.Separators.{CloserAgain, ClosersAreReadAgain, IsGap, SeparatorIsTheGap, SlashAgain, SlashIsReadAgain, StartIsTheGap, separator}
-use Rattle.ecma_scan.specs.Locality.{is_clean}
+use Rattle.ecma_joining.specs.Separators.{CloserAgain, ClosersAreReadAgain, IsGap, SeparatorIsTheGap, SlashIsReadAgain, StartIsTheGap}
 use Rattle.ecma_scan.specs.Numbers.{opens_number}
 use Rattle.ecma_scan.specs.Pieces.{spelled}
 use Rattle.ecma_scan.specs.Punctuators.{Punctuator, found_punctuator, punctuator, punctuator_in, spells}

@@ -1,5 +1,5 @@
 -- Template text is read again in front of a back quote and `${`.
-use Rattle.std.proofs.Common.{◌≡◌, ℕ, Bool, true, false, cond, ◌&&◌, ◌||◌, ◌==◌, List, [], ◌∷◌, ◌++◌, drop, length, Option, Some, None, Ok, Err, refl, ap, ◌∙◌, sym}
+use Rattle.std.proofs.Common.{◌≡◌, ℕ, Bool, true, false, List, [], ◌∷◌, ◌++◌, drop, length, Option, Some, None, refl, ap, ◌∙◌, sym}
 use Rattle.ecma_place.specs.Text.{Text}
 use Rattle.ecma_joining.specs.Texts.{TextsStandAlone, text_at, text_in}
 use Rattle.ecma_scan.specs.Locality.{ends_template, is_clean}

@@ -1,5 +1,5 @@
 -- What kinds tokens of code have, and how closers are written.
-use Rattle.std.specs.Prelude.{◌≡◌, ℕ, Bool, true, false, ◌||◌, ◌==◌, [], ◌∷◌, Ok}
+use Rattle.std.specs.Prelude.{◌≡◌, Bool, true, false, ◌||◌, ◌==◌, [], ◌∷◌, Ok}
 use Rattle.ecma_place.specs.Text.{Text}
 use Rattle.ecma_token.specs.Kinds.{kind_of}
 use Rattle.ecma_token.specs.View.{TokenView}

@@ -1,5 +1,5 @@
 -- What is read of code behind a gap, and of the same token behind one character, or none.
-use Rattle.std.specs.Prelude.{◌≡◌, ℕ, Bool, true, false, List, [], ◌∷◌, ◌++◌, None}
+use Rattle.std.specs.Prelude.{◌≡◌, ℕ, Bool, true, false, [], ◌∷◌, ◌++◌, None}
 use Rattle.ecma_place.specs.Text.{Text}
 use Rattle.ecma_scan.specs.declared.gap_mode.GapMode.{GapMode}
 use Rattle.ecma_scan.specs.Expressions.{opens_expression, regular_expression}
