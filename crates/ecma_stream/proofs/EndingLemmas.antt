@@ -2,7 +2,7 @@
 use Rattle.std.proofs.Common.{◌≡◌, ◌∙◌, ℕ, zero, suc, ◌+◌, ◌-◌, ◌<◌, ◌≤◌, Bool, true, false, List, [], ◌∷◌, ◌++◌, append-nil, Option, Some, None, length, refl, sym, ap, arith, reverse}
 use Rattle.std.specs.Prelude.{fold, is_some, option_map, Result, Ok, Err, IfOk, OnOk}
 use Rattle.std.proofs.lemmas.Grind.{reverse_onto}
-use Rattle.ecma_place.specs.Text.{Text, byte_len}
+use Rattle.ecma_place.specs.Text.{byte_len}
 use Rattle.ecma_place.specs.Cursor.{Cursor, place, rest}
 use Rattle.std.proofs.lemmas.Str.{length-le-encodes}
 use Rattle.ecma_token.specs.Kinds.{kind_of}
