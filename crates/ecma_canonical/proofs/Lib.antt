@@ -1,2 +1,0 @@
-mod CanonicalRows
-mod CleanRows
