@@ -3,3 +3,4 @@ pub mod CanonicalLaws
 pub mod KeptLemmas
 pub mod PartsLaws
 pub mod Sharing
+pub mod WalkLemmas

@@ -173,11 +173,11 @@ module _ {M S K : Type 0} (P : Parts M S K) (L : PartLaws M S K P) where
         closed = λ h. absurd (false≢true (sym n ∙ h));
       }
 
-  at_line : (m : M) (r here : List ℕ) → L.Plainly m → P.in_text m ≡ false → At (P.shebang r) (P.after m (P.shebang r)) here
-  at_line m r here p o =
+  at_line : (m : M) (r here : List ℕ) → L.Plainly m → P.is_start m ≡ true → P.in_text m ≡ false → At (P.shebang r) (P.after m (P.shebang r)) here
+  at_line m r here p s o =
       let k = L.shebang_role r in
       record {
-        plain = L.shebang_plain m r p;
+        plain = L.shebang_plain m r s p;
         start = L.after_start m _;
         behind_text = L.after_text m _;
         behind_line = L.after_line m _;
@@ -194,16 +194,16 @@ module _ {M S K : Type 0} (P : Parts M S K) (L : PartLaws M S K P) where
       let f = rw i.start at e in
       at_code m (behind p r) t here v i.plain o f
 
-  first_found : (m : M) (r : List ℕ) (t : Token K) (here : List ℕ) (v b : Bool) → L.Plainly m → P.in_text m ≡ false → code_found P b m r ≡ token t here v → At t (P.after m t) here
-  first_found m r t here v true p o e =
+  first_found : (m : M) (r : List ℕ) (t : Token K) (here : List ℕ) (v b : Bool) → L.Plainly m → P.is_start m ≡ true → P.in_text m ≡ false → code_found P b m r ≡ token t here v → At t (P.after m t) here
+  first_found m r t here v true p s o e =
       let q : t ≡ P.shebang r = cc in
-      rw q (at_line m r here p o)
-  first_found m r t here v false p o e = at_code m r t here v p o e
+      rw q (at_line m r here p s o)
+  first_found m r t here v false p s o e = at_code m r t here v p o e
 
   first_at : (m : M) (r : List ℕ) (t : Token K) (here : List ℕ) (v : Bool) → Start m → scan_in P (P.in_text m) m r ≡ token t here v → At t (P.after m t) here
   first_at m r t here v i e =
       let f = rw (i.outside, i.start) at e in
-      first_found m r t here v (P.begins_shebang r) i.plain i.outside f
+      first_found m r t here v (P.begins_shebang r) i.plain i.start i.outside f
 
   regex_at : (p : Token K) (m : M) (here : List ℕ) (u : Token K) → At p m here → P.is_slash p.kind ≡ true → P.regex m p here ≡ Some u → At u (P.after m u) here
   regex_at p m here u i s e =

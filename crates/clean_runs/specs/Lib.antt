@@ -3,3 +3,4 @@ pub mod Grammar
 pub mod Laws
 pub mod Moments
 pub mod Parts
+pub mod Walk

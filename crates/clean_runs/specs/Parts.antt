@@ -153,7 +153,7 @@ pub record PartLaws (M S K : Type 0) (P : Parts M S K) : Type 1 where
   pub shebang_role : (r : List ℕ) → P.role (P.shebang r).kind ≡ Line
   pub shebang_slash : (r : List ℕ) → P.is_slash (P.shebang r).kind ≡ false
   pub shebang_inside : (m : M) (r : List ℕ) → P.in_text (P.after m (P.shebang r)) ≡ P.in_text m
-  pub shebang_plain : (m : M) (r : List ℕ) → Plainly m → Plainly (P.after m (P.shebang r))
+  pub shebang_plain : (m : M) (r : List ℕ) → P.is_start m ≡ true → Plainly m → Plainly (P.after m (P.shebang r))
   pub shebang_begins : (r tail : List ℕ) → P.begins_shebang r ≡ true → StartsLine tail → P.begins_shebang ((P.shebang r).bytes ++ tail) ≡ true
   pub shebang_again : (r tail : List ℕ) → P.begins_shebang r ≡ true → StartsLine tail → P.shebang ((P.shebang r).bytes ++ tail) ≡ P.shebang r
   -- code

@@ -51,7 +51,7 @@ free-token mode flag (c ∷ cs) x e h = h
 
 -- such a read has no faults
 
-placed-faults : (opening : Opening) (mode : Mode) (n : ℕ) (s : Scanned TokenView) → (placed opening mode n s).faults ≡ map (fault_behind n) s.faults
+pub placed-faults : (opening : Opening) (mode : Mode) (n : ℕ) (s : Scanned TokenView) → (placed opening mode n s).faults ≡ map (fault_behind n) s.faults
 placed-faults opens.Template mode n s = refl
 placed-faults opens.Number mode n s = refl
 placed-faults opens.String mode n s = refl

@@ -9,7 +9,7 @@ use Rattle.std.specs.Str.Parse.{AllDigits, ParsesUnsigned, digits_value}
 use Rattle.ecma_place.specs.Character.{is_line_terminator}
 use Rattle.ecma_place.specs.Text.{Text}
 use Rattle.ecma_place.specs.Cursor.{Cursor, rest, passed}
-use Rattle.ecma_place.proofs.RunLemmas.{passed-later-by}
+use Rattle.ecma_place.proofs.RunLemmas.{first-cons, passed-later-by}
 use Rattle.ecma_escape.specs.declared.escape.Answer.{Answer}
 use Rattle.ecma_escape.specs.declared.escape.Answer.TheVariants as answer
 use Rattle.ecma_escape.specs.declared.escape.Refusal.TheVariants as because
@@ -23,7 +23,7 @@ use Rattle.ecma_escape.specs.declared.escape.Use.TheVariants as place
 use Rattle.ecma_grammar.specs.Found.{error_at}
 use Rattle.ecma_escape.specs.EscapeAnswers.{answered, refusal_error, use_of, is_word, digit_front}
 use Rattle.ecma_escape.proofs.EscapeReading.{parsed-ok, parsed-err}
-use Rattle.ecma_grammar.proofs.Fronts.{after_drop, first-cons}
+use Rattle.ecma_grammar.proofs.Fronts.{after_drop}
 use Rattle.ecma_grammar.proofs.SignLemmas.{rest-behind}
 
 -- an escape that is answered so, and n characters long

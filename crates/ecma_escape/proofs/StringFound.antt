@@ -12,7 +12,7 @@ use Rattle.ecma_place.specs.declared.place.Span.{Span}
 use Rattle.ecma_place.specs.declared.run.Quote.{Quote as Mark}
 use Rattle.ecma_place.specs.declared.run.Quote.TheVariants.{Single, Double}
 use Rattle.ecma_place.proofs.MoveLemmas.{place-passed}
-use Rattle.ecma_place.proofs.RunLemmas.{passed-later-by, text-passed}
+use Rattle.ecma_place.proofs.RunLemmas.{first-cons, passed-later-by, text-passed}
 use Rattle.ecma_token.specs.View.{ErrorView, TokenView, plain_token, plain, owns_nothing}
 use Rattle.ecma_token.specs.declared.token.Token.{Str}
 use Rattle.ecma_token.specs.declared.error.SyntaxError.{UnterminatedStrLit}
@@ -26,7 +26,6 @@ use Rattle.ecma_escape.specs.PieceParts.{faults_from, end_from, quoted, unless_r
 use Rattle.ecma_grammar.proofs.PartFaults.{all_shifted}
 use Rattle.ecma_grammar.proofs.PieceLemmas.{tiling}
 use Rattle.ecma_grammar.proofs.SignLemmas.{rest-behind}
-use Rattle.ecma_grammar.proofs.Fronts.{first-cons}
 use Rattle.ecma_escape.proofs.StringLaws.{string_is_cutter, string_front}
 use Rattle.ecma_escape.proofs.StringReading.{is_bad, stays}
 

@@ -21,6 +21,7 @@ use Rattle.ecma_gap.specs.Readings.{ReadingView, found_with, with_element, with_
 use Rattle.ecma_grammar.proofs.AttachmentLemmas.{after-white}
 use Rattle.ecma_gap.proofs.BarsLaws.{common_is_cutter}
 use Rattle.ecma_gap.proofs.ElementLemmas.{none-collected}
+use Rattle.ecma_grammar.proofs.EmptyLists.{append-none}
 use Rattle.ecma_grammar.proofs.Fronts.{length-take_while, take_while-front}
 use Rattle.ecma_grammar.proofs.GapForms.{cond_true, gap_is_cutter, never_empty}
 use Rattle.ecma_grammar.proofs.PieceLemmas.{pieces_more, pieces_none}
@@ -252,10 +253,6 @@ ended-found mode now r w g e a b c =
 
 -- Where nothing is found
 
-both-empty : {A : Type 0} (xs ys : List A) → xs ++ ys ≡ [] → (xs ≡ []) × (ys ≡ [])
-both-empty [] ys e = (refl, e)
-both-empty (x ∷ xs) ys e = cc
-
 pub whole-empty : {S : Type 0} (cutter : Cutter S Element) (state : Bool → S) → ReadsElements cutter state → (mode : GapMode) (now : Cursor) (r : ReadingView)
     → IsEmpty (whole cutter state mode now r).found → NextAddsNothing mode (place now) (rest now) r (cutter.read (state r.flag) (rest now))
 unfolding whole
@@ -269,12 +266,12 @@ whole-empty {S} cutter state reads mode now r empty = go (cutter.read (state r.f
         let found : found_with mode (place now) (rest now) (pieces cutter (state r.flag) (rest now)) r ≡ found_with mode (end_of (place now) e) (behind_element e (rest now)) es it =
         ap (λ l. found_with mode (place now) (rest now) l r) (elements-more cutter state reads r.flag (rest now) e is) ∙ sym (found-step mode (place now) (rest now) e es r) in
         let here = subst IsEmpty found empty in
-        let comments = both-empty it.comments _ here.0 in
-        let faults = both-empty it.faults _ here.1 in
-        ((both-empty r.comments _ comments.0).1, (both-empty r.faults _ faults.0).1)
+        let comments = append-none it.comments _ here.0 in
+        let faults = append-none it.faults _ here.1 in
+        ((append-none r.comments _ comments.0).1, (append-none r.faults _ faults.0).1)
 
 pub ended-empty : (mode : GapMode) (now : Cursor) (r : ReadingView) (w : Whole) → Ended mode now r w → IsEmpty w.found → pending_fault r.pending (place now) ≡ []
-ended-empty mode now r w e empty = (both-empty r.faults (pending_fault r.pending (place now)) (e.faults ∙ empty.1)).1
+ended-empty mode now r w e empty = (append-none r.faults (pending_fault r.pending (place now)) (e.faults ∙ empty.1)).1
 
 -- The two cutters
 

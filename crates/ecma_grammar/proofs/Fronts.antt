@@ -107,10 +107,6 @@ begins_after_before p q (c ∷ cs) r stop still = go (p c) refl (begins_after_be
 
 -- by the first character of a text
 
-pub first-cons : (text : Text) (c : ℕ) → slice_get text 0 ≡ Some c → text ≡ c ∷ drop 1 text
-first-cons [] c e = cc
-first-cons (d ∷ cs) c e = ap (λ x. x ∷ cs) (let same : d ≡ c = cc in same)
-
 pub front_stops : (p : ℕ → Bool) (text : Text) (c : ℕ) → slice_get text 0 ≡ Some c → p c ≡ false → front p text ≡ []
 front_stops p [] c e stop = refl
 front_stops p (d ∷ ds) c e stop = let same : p d ≡ false = cc in rw same

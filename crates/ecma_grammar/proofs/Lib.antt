@@ -1,5 +1,6 @@
 pub mod Agreement
 pub mod AttachmentLemmas
+pub mod EmptyLists
 pub mod EscapeLaws
 pub mod Fronts
 pub mod GapForms

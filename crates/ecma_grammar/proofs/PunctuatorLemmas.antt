@@ -7,7 +7,7 @@ use Rattle.std.proofs.lemmas.Bool.{and_parts}
 use Rattle.std.proofs.lemmas.Bool.Decides.{nat_tests}
 use Rattle.ecma_place.specs.Text.{Text}
 use Rattle.ecma_place.specs.Cursor.{Cursor, rest, passed, moved_to}
-use Rattle.ecma_place.proofs.RunLemmas.{passed-later-by}
+use Rattle.ecma_place.proofs.RunLemmas.{first-cons, passed-later-by}
 use Rattle.ecma_token.specs.View.{token_view, plain_token}
 use Rattle.ecma_syntax.specs.declared.operator.BinOpToken.TheVariants as bin
 use Rattle.ecma_token.specs.declared.token.Token.{Token, BinOp}
@@ -15,7 +15,6 @@ use Rattle.ecma_grammar.specs.Fronts.{begins_with}
 use Rattle.ecma_grammar.specs.Punctuators.{Punctuator, spells, punctuators, first_of, token_in, count_behind, spelling_in, is_lone, begins_more, angle, angle_in, longest, alone_or, punctuator_in}
 use Rattle.ecma_grammar.specs.Numbers.{opens_fraction}
 use Rattle.ecma_grammar.specs.Found.{token_behind}
-use Rattle.ecma_grammar.proofs.Fronts.{first-cons}
 
 pub passed-zero : (c : Cursor) → passed 0 c ≡ c
 passed-zero c = let same : c.at + 0 ≡ c.at = omega arith in ap (λ n. moved_to n c) same

@@ -2,6 +2,7 @@
 use Rattle.std.proofs.Common.{◌≡◌, ◌∙◌, ℕ, ◌<◌, ◌==◌, Bool, true, false, not, cond, ◌||◌, ◌&&◌, List, [], ◌∷◌, ◌++◌, length, drop, map, Option, Some, None, Result, Ok, Err, refl, sym, subst, ap, arith}
 use Rattle.std.specs.List.{list_all, list_any}
 use Rattle.std.specs.Prelude.{is_ok}
+use Rattle.std.proofs.lemmas.Bool.{or_parts}
 use Rattle.std.proofs.lemmas.List.Folds.{list_any-append}
 use Rattle.ecma_place.specs.Atom.{AtomView}
 use Rattle.ecma_place.specs.Character.{is_ident_part, is_ident_start, is_line_break, is_line_terminator}
@@ -20,6 +21,7 @@ use Rattle.ecma_scan.specs.Numbers as numbers
 use Rattle.ecma_scan.specs.Numbers.{Number, found_number, is_big_number, is_separator, number, number_parts, refusal, behind_number}
 use Rattle.ecma_scan.specs.Pieces.{Cutter, pieces, remainder, spelled}
 use Rattle.ecma_scan.specs.Cutters.{IsCutter, ReadsInOrder}
+use Rattle.ecma_scan.proofs.EmptyLists.{append-none, map-none}
 use Rattle.ecma_scan.proofs.PieceLemmas.{cut}
 use Rattle.ecma_scan.specs.Strings as strings
 use Rattle.ecma_scan.specs.Strings.{Piece, Plain, Escaped, Ending, Closed, Unclosed, BadEscape, atom_of, ending, found_string, is_escaped, string_cutter, string_literal, string_pieces}
@@ -34,11 +36,13 @@ use Rattle.ecma_scan.proofs.TemplateLaws.{template_is_cutter}
 use Rattle.ecma_state.specs.Mode.{gap_mode, is_tpl_element}
 use Rattle.ecma_state.specs.Reading.{behind_gap, gap_in, is_free, is_free_again, is_free_behind, is_free_code, reading, reading_again, reading_behind, reading_code, reading_if, stands_shebang}
 use Rattle.ecma_state.specs.Run.{at_place, is_free_from, mode_of, reading_from}
+use Rattle.ecma_state.specs.State.{is_error}
 use Rattle.ecma_state.specs.TokenAt.{asks_for_none, is_borrowed, is_borrowed_name, is_empty, is_free_at, opening, placed, read_opened, token_at, token_found, token_of, ts1085, word_token, word_value}
 use Rattle.ecma_state.specs.declared.mode.Mode.{Mode}
 use Rattle.ecma_state.specs.declared.opening.Opening.{Opening}
 use Rattle.ecma_state.specs.declared.opening.Opening.TheVariants as opens
-use Rattle.ecma_laws.specs.FreeReads.{MeansItself, ReadsAreFree, is_error, spelling_at, spelling_from, turns_meaning}
+use Rattle.ecma_dispatch.proofs.ReadingLemmas.{placed-faults}
+use Rattle.ecma_laws.specs.FreeReads.{MeansItself, ReadsAreFree, spelling_at, spelling_from, turns_meaning}
 
 -- Pieces without such a character
 
@@ -46,17 +50,13 @@ use Rattle.ecma_laws.specs.FreeReads.{MeansItself, ReadsAreFree, is_error, spell
 pub record Keeps {S A : Type 0} (cutter : Cutter S A) (bad : ℕ → Bool) (fine : A → Bool) : Type 0 where
   pub keeps : (s : S) (c : ℕ) (cs : Text) (piece : A) → cutter.read s (c ∷ cs) ≡ Some piece → bad c ≡ false → fine piece ≡ true
 
-or-none : (a b : Bool) → (a || b) ≡ false → (a ≡ false) × (b ≡ false)
-or-none true b h = cc
-or-none false b h = (refl, h)
-
 none-in : (bad : ℕ → Bool) (a b : Text) → list_any bad (a ++ b) ≡ false → (list_any bad a ≡ false) × (list_any bad b ≡ false)
-none-in bad a b h = or-none (list_any bad a) (list_any bad b) (sym (list_any-append bad a b) ∙ h)
+none-in bad a b h = or_parts (list_any bad a) (list_any bad b) (sym (list_any-append bad a b) ∙ h)
 
 first-of : (bad : ℕ → Bool) (spelling behind text : Text) → spelling ++ behind ≡ text → 0 < length spelling → list_any bad spelling ≡ false
     → (c : ℕ) × (cs : Text) × (text ≡ c ∷ cs) × (bad c ≡ false)
 first-of bad [] behind text e some h = absurd (omega (arith, some))
-first-of bad (c ∷ cs) behind text e some h = (c, cs ++ behind, sym e, (or-none (bad c) (list_any bad cs) h).0)
+first-of bad (c ∷ cs) behind text e some h = (c, cs ++ behind, sym e, (or_parts (bad c) (list_any bad cs) h).0)
 
 one-fine : {S A : Type 0} (cutter : Cutter S A) (bad : ℕ → Bool) (fine : A → Bool) → IsCutter cutter → Keeps cutter bad fine
     → (s : S) (text : Text) (piece : A) → cutter.read s text ≡ Some piece → list_any bad (cutter.spelling piece) ≡ false → fine piece ≡ true
@@ -136,7 +136,7 @@ string-free (quote ∷ text) ok h = go (ending quote (remainder (string_cutter q
     opened = quote ∷ spelled (string_cutter quote) ps
 
     borrowed : list_any is_backslash opened ≡ false → (atom_of ps).is_borrowed ≡ true
-    borrowed h = borrowed-atom ps (pieces-fine (string_cutter quote) is_backslash is_plain (string_is_cutter quote) (string-keeps quote) tt text (or-none (is_backslash quote) _ h).1)
+    borrowed h = borrowed-atom ps (pieces-fine (string_cutter quote) is_backslash is_plain (string_is_cutter quote) (string-keeps quote) tt text (or_parts (is_backslash quote) _ h).1)
 
     go : (end : Ending) → is_ok (found_string quote opened ps end).value ≡ true → is_turned_in (found_string quote opened ps end) ≡ false
         → is_borrowed (found_string quote opened ps end).value ≡ true
@@ -171,7 +171,7 @@ abbrev is_turned : ℕ → Bool
 is_turned c = c == 92 || c == 13
 
 template-keeps : Keeps template_cutter is_turned is_verbatim
-template-keeps = record { keeps = λ s c cs piece e h. go c cs piece (c == 96 || (c == 36 && next_is 123 cs)) (c == 92) (is_line_terminator c) (or-none (c == 92) (c == 13) h) e }
+template-keeps = record { keeps = λ s c cs piece e h. go c cs piece (c == 96 || (c == 36 && next_is 123 cs)) (c == 92) (is_line_terminator c) (or_parts (c == 92) (c == 13) h) e }
   where
     go : (c : ℕ) (cs : Text) (piece : TemplatePiece) (q b l : Bool) → (b ≡ false) × ((c == 13) ≡ false)
         → templates.template_piece_of (cond q templates.Stop (cond b templates.Backslash (cond l templates.LineEnd templates.Itself))) c cs ≡ Some piece → is_verbatim piece ≡ true
@@ -307,14 +307,6 @@ placed-kind opens.Word mode n s = value-kind n s.value
 placed-kind opens.Bars mode n s = value-kind n s.value
 placed-kind opens.Other mode n s = value-kind n s.value
 
-placed-faults : (o : Opening) (mode : Mode) (n : ℕ) (s : Scanned TokenView) → (placed o mode n s).faults ≡ map (fault_behind n) s.faults
-placed-faults opens.Template mode n s = refl
-placed-faults opens.Number mode n s = refl
-placed-faults opens.String mode n s = refl
-placed-faults opens.Word mode n s = refl
-placed-faults opens.Bars mode n s = refl
-placed-faults opens.Other mode n s = refl
-
 no-error : (value : Result TokenView ErrorView) → is_error (kind_of (token_of value)) ≡ false → is_ok value ≡ true
 no-error (Ok token) h = refl
 no-error (Err error) h = cc
@@ -324,14 +316,6 @@ not-turned (Ok token) spelling h = h
 not-turned (Err error) spelling h = refl
 
 -- Reads
-
-both-empty : {A : Type 0} (a b : List A) → a ++ b ≡ [] → (a ≡ []) × (b ≡ [])
-both-empty [] b h = (refl, h)
-both-empty (x ∷ xs) b h = cc
-
-map-empty : {A B : Type 0} (f : A → B) (items : List A) → map f items ≡ [] → items ≡ []
-map-empty f [] h = refl
-map-empty f (x ∷ xs) h = cc
 
 code-free : (mode : Mode) (input : Cursor) → (reading_code mode input).faults ≡ [] → (reading_code mode input).comments ≡ []
     → MeansItself (reading_code mode input).found (spelling_at mode input) → is_free_code mode input ≡ true
@@ -357,15 +341,15 @@ code-free mode input = go (rest here)
         let kind = placed-kind (opening mode flag text) mode (place here) s in
         is-free-at mode flag text
         (no-error s.value (ap is_error (sym kind) ∙ ok))
-        (map-empty (fault_behind (place here)) s.faults (sym (placed-faults (opening mode flag text) mode (place here) s) ∙ faults))
+        (map-none (fault_behind (place here)) s.faults (sym (placed-faults (opening mode flag text) mode (place here) s) ∙ faults))
         (not-turned s.value s.spelling (ap (λ k. list_any (turns_meaning k) s.spelling) (sym kind) ∙ turned))
 
     go : (text : Text) → (reading_behind mode gap here text).faults ≡ [] → (reading_behind mode gap here text).comments ≡ []
         → MeansItself (reading_behind mode gap here text).found (token_at mode flag text).spelling → (is_empty gap.faults && (is_empty gap.comments && is_free_behind mode flag text)) ≡ true
     go [] faults comments means = empty gap.faults _ faults (empty gap.comments true comments refl)
     go (c ∷ cs) faults comments means =
-        let of_gap = both-empty gap.faults _ faults in
-        empty gap.faults _ of_gap.0 (empty gap.comments _ (both-empty gap.comments _ comments).0 (token (c ∷ cs) of_gap.1 means.0 means.1))
+        let of_gap = append-none gap.faults _ faults in
+        empty gap.faults _ of_gap.0 (empty gap.comments _ (append-none gap.comments _ comments).0 (token (c ∷ cs) of_gap.1 means.0 means.1))
 
 reading-free : (mode : Mode) (input : Cursor) → (reading mode input).faults ≡ [] → (reading mode input).comments ≡ []
     → MeansItself (reading mode input).found (spelling_at mode input) → is_free mode input ≡ true
@@ -384,7 +368,7 @@ again-free flag here faults means =
     let ok = no-error s.value (ap is_error (sym kind) ∙ means.0) in
     let turned = not-turned s.value s.spelling (ap (λ k. list_any (turns_meaning k) s.spelling) (sym kind) ∙ means.1) in
     ap (λ b. b && is_empty s.faults) (expression-free (rest here) ok turned)
-    ∙ ap is_empty (map-empty (fault_behind (place here)) s.faults faults)
+    ∙ ap is_empty (map-none (fault_behind (place here)) s.faults faults)
 
 pub reads_are_free : ReadsAreFree
 reads_are_free l = go l.reread

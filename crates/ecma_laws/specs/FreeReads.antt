@@ -7,13 +7,14 @@ use Rattle.ecma_place.specs.declared.place.BytePos.{BytePos}
 use Rattle.ecma_token.specs.Kinds.{kind_of}
 use Rattle.ecma_token.specs.View.{SpannedView}
 use Rattle.ecma_token.specs.declared.kind.TokenKind.{TokenKind}
-use Rattle.ecma_token.specs.declared.kind.TokenKind.TheVariants.{Num, BigInt, Template, Error}
+use Rattle.ecma_token.specs.declared.kind.TokenKind.TheVariants.{Num, BigInt, Template}
 use Rattle.ecma_scan.specs.Expressions.{regular_expression}
 use Rattle.ecma_scan.specs.Gaps.{has_line_break}
 use Rattle.ecma_state.specs.Mode.{gap_mode}
 use Rattle.ecma_state.specs.Reading.{behind_gap}
 use Rattle.ecma_state.specs.Run.{at_place, is_free_read, mode_of, reading_of}
 use Rattle.ecma_state.specs.Session.{LexerState}
+use Rattle.ecma_state.specs.State.{is_error}
 use Rattle.ecma_state.specs.TokenAt.{token_at}
 use Rattle.ecma_state.specs.declared.mode.Mode.{Mode}
 
@@ -33,10 +34,6 @@ spelling_at mode input = (token_at mode (has_line_break (gap_mode mode) (rest in
 abbrev pub spelling_from : Option BytePos → LexerState → Text
 spelling_from None l = spelling_at (mode_of l) l.input
 spelling_from (Some slash) l = (regular_expression (rest (at_place slash l.input))).spelling
-
-abbrev pub is_error : TokenKind → Bool
-is_error Error = true
-is_error _ = false
 
 -- a token is no error, and nothing in its spelling turns its meaning; at the end there is nothing to ask
 abbrev pub MeansItself : Option SpannedView → Text → Type 0

@@ -18,7 +18,8 @@ use Rattle.ecma_escape.proofs.EscapeForms.{passed-both}
 use Rattle.ecma_grammar.proofs.SignLemmas.{rest-behind}
 use Rattle.ecma_grammar.proofs.EscapeLaws.{begins_is}
 use Rattle.ecma_literal.proofs.ExpressionLaws.{body_is_cutter}
-use Rattle.ecma_grammar.proofs.Fronts.{front_after, first-cons}
+use Rattle.ecma_grammar.proofs.Fronts.{front_after}
+use Rattle.ecma_place.proofs.RunLemmas.{first-cons}
 use Rattle.ecma_grammar.proofs.NumberFound.{front-taken}
 use Rattle.ecma_grammar.proofs.PieceLemmas.{tiling}
 use Rattle.ecma_grammar.proofs.PartFaults.{all_shifted}

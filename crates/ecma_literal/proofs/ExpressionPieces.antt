@@ -6,7 +6,7 @@ use Rattle.std.proofs.lemmas.List.{drop_at}
 use Rattle.ecma_place.specs.Text.{Text}
 use Rattle.ecma_place.specs.Character.{is_line_terminator}
 use Rattle.ecma_place.specs.Cursor.{Cursor, rest, passed}
-use Rattle.ecma_place.proofs.RunLemmas.{passed-later-by}
+use Rattle.ecma_place.proofs.RunLemmas.{first-cons, passed-later-by}
 use Rattle.ecma_grammar.specs.Fronts.{front, next_is, line}
 use Rattle.ecma_grammar.specs.Pieces.{Cutter, pieces, spelled, remainder}
 use Rattle.ecma_grammar.specs.Cutters.{IsCutter}
@@ -14,7 +14,6 @@ use Rattle.ecma_grammar.specs.Expressions.{Class, class_letter, class_cutter, cl
 use Rattle.ecma_literal.specs.WrittenExpressions.{letter_if, body_if, behind_all, at_line_end}
 use Rattle.ecma_escape.proofs.EscapeForms.{eaten-is, passed-both}
 use Rattle.ecma_grammar.proofs.SignLemmas.{rest-behind}
-use Rattle.ecma_grammar.proofs.Fronts.{first-cons}
 use Rattle.ecma_grammar.proofs.PieceLemmas.{cut, tiling, maximal, pieces_none, pieces_more}
 use Rattle.ecma_literal.proofs.ExpressionForms.{class_forms, class_lines, expression_is_pieces}
 use Rattle.ecma_literal.proofs.ExpressionLaws.{class_is_cutter, body_is_cutter}

@@ -33,10 +33,6 @@ octal_said_typed start run span was mid now all place first second =
     second ∙ ap (λ l. l ++ (fault Strict LegacyOctal span ∷ [])) first ∙ append_assoc was (fault Always TS1085 span ∷ []) (fault Strict LegacyOctal span ∷ [])
     ∙ ap (λ (s : Span). was ++ (fault Always TS1085 s ∷ (fault Strict LegacyOctal s ∷ []))) (over_run start run span all place)
 
-pub none_of_both : (xs ys : List Fault) → xs ++ ys ≡ [] → (xs ≡ []) × (ys ≡ [])
-none_of_both [] ys e = (refl, e)
-none_of_both (x ∷ xs) ys e = cc
-
 pub not_legacy : (run : Text) → legacy_faults run ≡ [] → is_legacy run ≡ false
 not_legacy run none = go (is_legacy run) refl
   where

@@ -18,7 +18,7 @@ pub record IsOnRun (p : ℕ → Bool) (old now : Cursor) : Type 0 where
 pub run-start : (p : ℕ → Bool) (c : Cursor) → IsOnRun p c c
 run-start p c = record { same_end = refl; further = omega arith }
 
-first-cons : (cs : List ℕ) (x : ℕ) → slice_get cs 0 ≡ Some x → cs ≡ x ∷ drop 1 cs
+pub first-cons : (cs : List ℕ) (x : ℕ) → slice_get cs 0 ≡ Some x → cs ≡ x ∷ drop 1 cs
 first-cons [] x e = cc
 first-cons (c ∷ cs) x e = ap (λ (y : ℕ). y ∷ cs) (let same : c ≡ x = cc in same)
 

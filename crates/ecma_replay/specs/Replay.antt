@@ -6,7 +6,7 @@ use Rattle.ecma_token.specs.View.{error_view, spanned_view}
 use Rattle.ecma_state.specs.Counting.{count_all, counting, none_yet}
 use Rattle.ecma_state.specs.Run as run
 use Rattle.ecma_state.specs.Run.{Acted, act_all, answers_behind, session}
-use Rattle.ecma_state.specs.Session.{LexerKept, Session, has_ended, kept_back, kept_of, lexer_state, state_of}
+use Rattle.ecma_state.specs.Session.{LexerKept, Session, has_ended, kept_back, kept_of, kept_tokens, lexer_state, state_of}
 use Rattle.ecma_laws.specs.Tiling.{IsTiled, pieces_read}
 use Rattle.ecma_replay.specs.declared.answer.Answer.{Answer}
 use Rattle.ecma_replay.specs.declared.answer.Answer.TheVariants.{Token, End, Done, Errors, NoSlash, NoSave, NoContext}
@@ -61,10 +61,6 @@ pub record Follows (begin : Session) (steps : List Step) (r : RunnerKept) : Type
   pub player : IsAt (act_all begin (count_all none_yet steps).steps) r.player
   pub saves : AllAt begin (count_all none_yet steps).saves r.saves
   pub answers : map answer_view r.answers ≡ answers_behind begin none_yet steps
-
--- the tokens that are kept, in order
-abbrev pub kept_tokens : Session → List Kept
-kept_tokens s = reverse (map kept_of (kept_back s.past))
 
 -- it tells what these steps answer, and where they come to from a session
 pub record Replays (begin : Session) (steps : List Step) (r : Replay) : Type 0 where

@@ -24,6 +24,7 @@ pub use Rattle.ecma_number.proofs.DigitValues
 pub use Rattle.ecma_gap.proofs.ElementLemmas
 pub use Rattle.ecma_escape.proofs.EscapeBytes
 pub use Rattle.ecma_escape.proofs.EscapeForms
+pub use Rattle.ecma_grammar.proofs.EmptyLists
 pub use Rattle.ecma_grammar.proofs.EscapeLaws
 pub use Rattle.ecma_escape.proofs.EscapeReading
 pub use Rattle.ecma_escape.proofs.EscapeSpans

@@ -8,6 +8,7 @@ use Rattle.ecma_token.specs.declared.error.Error.{Error}
 use Rattle.ecma_syntax.specs.declared.context.Context.{Context}
 use Rattle.ecma_grammar.specs.declared.found.Blame.{Blame}
 use Rattle.ecma_grammar.specs.Found.{fault_view}
+use Rattle.ecma_grammar.proofs.EmptyLists.{append-none, map-none}
 use Rattle.ecma_state.specs.Disposition.{disposed, disposition, with_faults}
 use Rattle.ecma_state.specs.Errors.{Begins, ErrorsKept, errors_view}
 
@@ -19,16 +20,8 @@ pub view-append : (errors more : List Error) → map error_view (errors ++ more)
 view-append errors more = map-append error_view errors more
 
 -- where nothing is seen, there is nothing
-pub map-none : {A B : Type 0} → (seen : A → B) (items : List A) → map seen items ≡ [] → items ≡ []
-map-none seen [] h = refl
-map-none seen (item ∷ items) h = cc
-
 pub view-none : (errors : List Error) → map error_view errors ≡ [] → errors ≡ []
 view-none = map-none error_view
-
-append-none : {A : Type 0} → (xs ys : List A) → xs ++ ys ≡ [] → (xs ≡ []) × (ys ≡ [])
-append-none [] ys h = (refl, h)
-append-none (x ∷ xs) ys h = cc
 
 pub faults-none : (first second : List (Blame × Error)) → map fault_view first ++ map fault_view second ≡ [] → (first ≡ []) × (second ≡ [])
 faults-none first second h =

@@ -1,5 +1,5 @@
 -- What steps have come to, and what is read off the answers that were given.
-use Rattle.std.specs.Prelude.{Bool, true, false, ◌&&◌, List, [], ◌∷◌, drop, Option, Some, None, option_map}
+use Rattle.std.specs.Prelude.{Bool, true, false, ◌&&◌, List, [], ◌∷◌, drop, map, reverse, Option, Some, None, option_map}
 use Rattle.ecma_place.specs.Cursor.{Cursor}
 use Rattle.ecma_token.specs.Kinds.{kind_of}
 use Rattle.ecma_token.specs.View.{SpannedView}
@@ -83,6 +83,10 @@ pub record Session : Type 0 where
   -- those that have their token, in order
   pub comments : List BufferedComment
   pub past : Past
+
+-- the tokens that are kept, in order
+abbrev pub kept_tokens : Session → List Kept
+kept_tokens s = reverse (map kept_of (kept_back s.past))
 
 -- What a lexer keeps of its answers
 

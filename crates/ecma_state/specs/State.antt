@@ -4,7 +4,7 @@ use Rattle.ecma_place.specs.declared.place.BytePos.{BytePos}
 use Rattle.ecma_token.specs.declared.kind.TokenKind.{TokenKind}
 use Rattle.ecma_syntax.specs.declared.operator.AssignOp.TheVariants.{DivAssign}
 use Rattle.ecma_syntax.specs.declared.operator.BinOpToken.TheVariants.{Div}
-use Rattle.ecma_token.specs.declared.kind.TokenKind.TheVariants.{AssignOp, BackQuote, BinOp, Shebang}
+use Rattle.ecma_token.specs.declared.kind.TokenKind.TheVariants.{AssignOp, BackQuote, BinOp, Shebang, Error}
 use Rattle.ecma_state.specs.Contexts.{Contexts}
 use Rattle.ecma_state.specs.Transition.{Turned, tpl_on_top, transition, turned}
 use Rattle.ecma_state.specs.declared.attachment.Around.{Around}
@@ -18,6 +18,10 @@ use Rattle.ecma_state.specs.declared.transition.Before.{Before}
 abbrev pub is_shebang : TokenKind → Bool
 is_shebang Shebang = true
 is_shebang _ = false
+
+abbrev pub is_error : TokenKind → Bool
+is_error Error = true
+is_error _ = false
 
 abbrev pub none_seen : Seen
 none_seen = record { first = true; last = None; flag = false; ended = false }

@@ -211,7 +211,7 @@ place-there c p (n, e) =
     (leb_tells n (length c.text))
 
 -- the same place of the same text
-at-there : (here c : Cursor) (x : ℕ) (xs : Text) → here.start ≡ c.start → here.text ≡ c.text → rest here ≡ x ∷ xs → rest (at_place (record { 0 = place here }) c) ≡ x ∷ xs
+pub at-there : (here c : Cursor) (x : ℕ) (xs : Text) → here.start ≡ c.start → here.text ≡ c.text → rest here ≡ x ∷ xs → rest (at_place (record { 0 = place here }) c) ≡ x ∷ xs
 at-there here c x xs start text e =
     let some : length (rest here) ≡ 1 + length xs = ap length e ∙ (let one : length (x ∷ xs) ≡ 1 + length xs = omega arith in one) in
     let within : here.at ≤ length here.text = omega (arith, length-drop here.at here.text, some) in

@@ -7,7 +7,7 @@ use Rattle.ecma_number.proofs.NumberForms.{number-length}
 use Rattle.ecma_grammar.proofs.NumberFound.{refused-found, accepted-found}
 use Rattle.ecma_grammar.proofs.NumberRefusals.{none-behind}
 use Rattle.ecma_number.proofs.NumberLocal.{first_none}
-use Rattle.ecma_number.proofs.OctalFaults.{none_of_both}
+use Rattle.ecma_grammar.proofs.EmptyLists.{append-none}
 use Rattle.ecma_number.proofs.number.found_number.Goals.{in-Some, in-None+in_ok-push_octal_faults-in-None+in_ok-number_token-in-None}
 use Rattle.ecma_number.proofs.number.found_number.Goals as goal
 
@@ -32,13 +32,13 @@ number_token-requires-clause-some c =
 pub returns-in_err-push_part_faults-clause-free : goal.returns-in_err-push_part_faults-clause-free
 returns-in_err-push_part_faults-clause-free c =
     λ plain unrefused clean.
-    let none = none_of_both (part_faults (number_of c.args.number)) (octal_faults c.args.ts1085 (number_of c.args.number)) clean in
+    let none = append-none (part_faults (number_of c.args.number)) (octal_faults c.args.ts1085 (number_of c.args.number)) clean in
     absurd (false≢true (c.in_err-push_part_faults.ensures.free plain none.0))
 
 pub returns-in_err-push_octal_faults-in-None-clause-free : goal.returns-in_err-push_octal_faults-in-None-clause-free
 returns-in_err-push_octal_faults-in-None-clause-free c =
     λ plain unrefused clean.
-    let none = none_of_both (part_faults (number_of c.args.number)) (octal_faults c.args.ts1085 (number_of c.args.number)) clean in
+    let none = append-none (part_faults (number_of c.args.number)) (octal_faults c.args.ts1085 (number_of c.args.number)) clean in
     absurd (false≢true (c.in_err-push_octal_faults-in-None.ensures.free none.1))
 
 pub returns-in_err-error-clause-free : goal.returns-in_err-error-clause-free

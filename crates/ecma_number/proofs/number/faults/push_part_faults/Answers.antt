@@ -2,7 +2,8 @@ use Rattle.std.proofs.Common.{◌≡◌, ◌+◌, ◌++◌, List, map, OnOk, ref
 use Rattle.ecma_grammar.specs.Found.{Fault, fault_view}
 use Rattle.ecma_grammar.specs.Numbers.{run_faults, is_separator, fraction_text, exponent_text, suffix_of}
 use Rattle.ecma_number.specs.WrittenNumbers.{fraction_of, exponent_of}
-use Rattle.ecma_number.proofs.OctalFaults.{none_of_both, not_legacy}
+use Rattle.ecma_grammar.proofs.EmptyLists.{append-none}
+use Rattle.ecma_number.proofs.OctalFaults.{not_legacy}
 use Rattle.ecma_grammar.proofs.PartFaults.{all_shifted}
 use Rattle.ecma_number.proofs.Refusals.{parts_fit}
 use Rattle.ecma_number.proofs.RunFaults.{any-parts}
@@ -38,5 +39,5 @@ returns-in-Plain-clause-free c =
     let said = rw c.in-Plain.is at clean in
     let parts = any-parts is_separator run _ plain in
     let more = any-parts is_separator (fraction_text fraction) (exponent_text exponent) parts.1 in
-    let legacy = none_of_both _ _ (none_of_both _ _ said).1 in
+    let legacy = append-none _ _ (append-none _ _ said).1 in
     c.push_decimal_faults.ensures.free parts.0 more.0 more.1 (not_legacy run legacy.0)

@@ -1,5 +1,6 @@
 -- The canonical text of kept tokens: their own characters, and between two of them as little as keeps them apart.
 use Rattle.std.specs.Prelude.{◌≡◌, Bool, true, false, ◌||◌, List, [], ◌∷◌, ◌++◌}
+use Rattle.clean_runs.specs.Parts.{joint}
 use Rattle.ecma_place.specs.Cursor.{Cursor}
 use Rattle.ecma_place.specs.Text.{Text, slice_between}
 use Rattle.ecma_state.specs.declared.kept.Kept.{Kept}
@@ -25,11 +26,6 @@ is_template_text _ = false
 
 -- what stands between two neighbours: nothing beside template text, else a line feed where the second's flag stands, else a
 -- space
-abbrev pub joint : Bool → Bool → Text
-joint true flag = []
-joint false true = 10 ∷ []
-joint false false = 32 ∷ []
-
 abbrev pub between : Own → Own → Text
 between p u = joint (is_template_text p.kind || is_template_text u.kind) u.flag
 

@@ -5,17 +5,12 @@ use Rattle.ecma_place.specs.Cursor.{Cursor}
 use Rattle.ecma_state.specs.Counting.{counting}
 use Rattle.ecma_state.specs.Run.{act_on, session, start_of}
 use Rattle.ecma_state.specs.Session.{Past, Plain, Again, AtEnd, Session, has_ended, kept_back}
+use Rattle.ecma_state.specs.State.{is_error}
 use Rattle.ecma_state.specs.TokenAt.{is_empty}
 use Rattle.ecma_state.specs.declared.settings.Settings.{Settings}
 use Rattle.ecma_state.specs.declared.step.Step.{Step}
 use Rattle.ecma_state.specs.declared.step.Step.TheVariants.{Read, SetCtx, SetExprAllowed, SetContexts, PopContext, Reread, Withdraw, Save, Back, TakeErrors}
 use Rattle.ecma_token.specs.Kinds.{kind_of}
-use Rattle.ecma_token.specs.declared.kind.TokenKind.{TokenKind}
-use Rattle.ecma_token.specs.declared.kind.TokenKind.TheVariants.{Error}
-
-abbrev pub is_error : TokenKind → Bool
-is_error Error = true
-is_error _ = false
 
 -- the newest answer was read again
 abbrev pub was_again : Past → Bool
