@@ -1,5 +1,5 @@
 -- What holds of canonical texts: they are read to the same tokens, and shared exactly where these agree.
-use Rattle.std.specs.Prelude.{◌≡◌, ℕ, true, List, map}
+use Rattle.std.specs.Prelude.{◌≡◌, ◌↔◌, ℕ, true, List, map}
 use Rattle.std.specs.List.{list_all}
 use Rattle.ecma_place.specs.Cursor.{Cursor}
 use Rattle.ecma_place.specs.Text.{Text}
