@@ -1,5 +1,5 @@
 //! The canonical text of a clean run.
-ghost use Rattle.std.specs.Prelude.{◌≡◌, ◌+◌, ◌<◌, ◌^◌, not, length, IfOk};
+ghost use Rattle.std.specs.Prelude.{◌≡◌, ◌+◌, ◌<◌, ◌^◌, ◌==◌, ◌&&◌, not, length, IfOk};
 ghost use Rattle.std.specs.List.{list_all};
 ghost use Rattle.std.specs.Str.{chars};
 ghost use Rattle.ecma_place.specs.Cursor.{Cursor};
@@ -40,18 +40,20 @@ fn has_no_error(kept: &[Kept]) -> bool
     kept.iter().all(|token| token.kind != TokenKind::Error)
 }
 
+/// Whether the run that was played came to the end, and left nothing wrong.
+fn ends_clean(played: &Replay) -> bool
+    ensures { result ≡ (played.now.ended && (list_all (λ k. not (is_error k.kind)) played.now.kept.items && (length played.now.errors == 0))) }
+{
+    played.ended && has_no_error(played.kept.as_slice()) && played.errors.is_empty()
+}
+
 /// Whether the run that was played by these steps is clean.
 fn is_clean(alloc: Global, steps: &[Step], played: &Replay) -> Result<bool, AllocError>
     requires { length played.now.answers.items ≡ length steps.now }
     ensures { (settings : Settings) (input : Cursor) → Replays (start_of settings input) steps.now played.now → IfOk result (λ b. b ≡ clean.is_clean settings input steps.now) }
 {
-    let is_plain = steps_are_clean(alloc, steps, played.answers.as_slice())?;
-    Ok(
-        is_plain
-            && played.ended
-            && has_no_error(played.kept.as_slice())
-            && played.errors.as_slice().is_empty(),
-    )
+    let are_clean = steps_are_clean(alloc, steps, played.answers.as_slice())?;
+    Ok(are_clean && ends_clean(played))
 }
 
 /// The canonical text of a list of steps over a text that starts at a place.

@@ -1,0 +1,4 @@
+pub mod CleanLemmas
+pub mod JoinedLemmas
+pub mod KeptLemmas
+pub mod WatchLemmas

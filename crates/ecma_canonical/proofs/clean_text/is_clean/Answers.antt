@@ -1,0 +1,11 @@
+use Rattle.std.proofs.Common.{◌∙◌, true, false, sym}
+use Rattle.ecma_canonical.proofs.CleanLemmas.{told-clean}
+use Rattle.ecma_canonical.proofs.clean_text.is_clean.Goals as goal
+
+pub returns-then-are_clean : goal.returns-then-are_clean
+returns-then-are_clean c = λ settings input replays.
+    c.ends_clean.ensures ∙ told-clean settings input c.args.steps.now c.args.played.now true replays (sym c.if-are_clean.true ∙ c.in_ok-are_clean.ensures)
+
+pub returns-else-are_clean : goal.returns-else-are_clean
+returns-else-are_clean c = λ settings input replays.
+    told-clean settings input c.args.steps.now c.args.played.now false replays (sym c.if-are_clean.false ∙ c.in_ok-are_clean.ensures)
