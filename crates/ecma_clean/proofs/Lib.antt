@@ -9,3 +9,4 @@ pub mod TokensRead
 pub mod WalkedEnd
 pub mod WalkedTokens
 pub mod Walking
+pub mod CodeReading
