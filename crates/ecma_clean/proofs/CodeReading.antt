@@ -1,7 +1,7 @@
 -- What a token of code was read from, and where the same is read again.
-use Rattle.std.proofs.Common.{◌≡◌, ℕ, ◌<◌, Bool, true, false, not, ◌&&◌, ◌||◌, List, [], ◌∷◌, ◌++◌, drop, length, take, take-append-drop, Result, Ok, Err, refl, sym, ap, ◌∙◌, subst, arith}
+use Rattle.std.proofs.Common.{◌≡◌, ℕ, ◌<◌, Bool, true, false, not, ◌||◌, List, [], ◌∷◌, ◌++◌, drop, length, take, take-append-drop, Result, Ok, Err, refl, sym, ap, ◌∙◌, subst, arith}
 use Rattle.std.proofs.lemmas.Bool.{and_from, or_from, or_parts}
-use Rattle.clean_runs.specs.Grammar.{Found, token, WaitsWithin}
+use Rattle.clean_runs.specs.Grammar.{token, WaitsWithin}
 use Rattle.clean_runs.specs.Parts.{Again}
 use Rattle.ecma_dispatch.proofs.FrontLemmas.{token_at-front, token_at-some}
 use Rattle.ecma_joining.proofs.CodeLaws.{code_is_token}
