@@ -1,9 +1,9 @@
 -- What is walked is a clean run, and each clean run is walked.
-use Rattle.std.proofs.Common.{ℕ, Bool, true, false, not, cond, ◌&&◌, ◌||◌, List, [], ◌∷◌, Option, Some, None, ◌≡◌, ◌∙◌, ap, refl}
+use Rattle.std.proofs.Common.{ℕ, Bool, true, false, not, cond, ◌&&◌, ◌||◌, List, [], ◌∷◌, Option, Some, None, ◌≡◌, ◌∙◌, ap, subst, refl}
 use Rattle.clean_runs.specs.Grammar.{Token, Found, token, ended, faulty, Counting, read, set, reread, withdraw, Slot, first, at, Standing, nothing, asked, answered, Grammar, behind}
 use Rattle.clean_runs.specs.Clean.{Calm, calm_none, calm_read, calm_set, calm_reread, calm_withdraw, Clean, end_first, end_next, read_first, read_next, read_again, set_mode, ask, refuse_first, refuse_next, take_back}
 use Rattle.clean_runs.specs.Moments.{Moment, calm_moments, moment, moments}
-use Rattle.clean_runs.specs.Walk.{Walked, is_calm, walk, walk_again, walk_first, walk_found, walked_if, with_moment, with_token}
+use Rattle.clean_runs.specs.Walk.{IsClean, Walked, is_calm, walk, walk_again, walk_first, walk_found, walked_if, with_moment, with_token}
 
 module _ {M S K : Type 0} (G : Grammar M S K) where
   -- Steps behind the end
@@ -118,7 +118,7 @@ module _ {M S K : Type 0} (G : Grammar M S K) where
       sound-asked m p a w here cs (G.is_slash p.kind) _ refl (walk-sound m p (cond (G.is_slash p.kind) asked a) w here cs)
   walk-sound m p a w here (withdraw ∷ cs) = sound-withdrawn m (at p) a w here cs _ (walk-sound m p nothing w here cs)
 
-  pub walk_first-sound : (m : M) (w : Bool) (here : List ℕ) (cs : List (Counting S)) → Sound m first nothing w here cs (walk_first G m w here cs)
+  walk_first-sound : (m : M) (w : Bool) (here : List ℕ) (cs : List (Counting S)) → Sound m first nothing w here cs (walk_first G m w here cs)
   walk_first-sound m w here [] = tt
   walk_first-sound m w here (read ∷ cs) =
       sound-found m w here cs _ (G.scan m here) refl (λ m2 t w2 there. walk-sound m2 t nothing w2 there cs)
@@ -127,6 +127,13 @@ module _ {M S K : Type 0} (G : Grammar M S K) where
   walk_first-sound m w here (reread ∷ cs) = sound-refused m w here cs _ (walk_first-sound m w here cs)
   walk_first-sound m w here (withdraw ∷ cs) =
       sound-withdrawn m first nothing w here cs _ (walk_first-sound m w here cs)
+
+  pub walk_first-clean : (m : M) (w : Bool) (here : List ℕ) (cs : List (Counting S)) (x : Walked M K) → walk_first G m w here cs ≡ Some x → IsClean G m w here cs x
+  walk_first-clean m w here cs x e = go (walk_first G m w here cs) e (walk_first-sound m w here cs)
+    where
+      go : (o : Option (Walked M K)) → o ≡ Some x → Sound m first nothing w here cs o → IsClean G m w here cs x
+      go None e h = cc
+      go (Some y) e h = let same : y ≡ x = cc in subst (IsClean G m w here cs) same h
 
   -- Each clean run is walked
 

@@ -1,5 +1,5 @@
 -- The lexer's grammar keeps the laws of parts.
-use Rattle.std.proofs.Common.{◌≡◌, Some, refl, ap}
+use Rattle.std.proofs.Common.{[], ◌≡◌, Some, refl, ap}
 use Rattle.clean_runs.specs.Parts.{is_text, Keeps, is_line}
 use Rattle.ecma_state.specs.Mode.{is_tpl_element}
 use Rattle.ecma_state.specs.State.{is_slash}
@@ -15,6 +15,10 @@ use Rattle.ecma_clean.proofs.PlainBearings.{IsPlain, shebang_keeps}
 use Rattle.ecma_clean.proofs.AgainParts.{again_kind, regex_again, regex_flag, regex_inside, regex_plain, slash_role}
 use Rattle.ecma_clean.proofs.CodeParts.{code_end, code_first, code_line, code_next, code_no_shebang, code_opens, code_plain, code_role}
 use Rattle.ecma_clean.proofs.TextParts.{closing_again, closing_closes, closing_opens, closing_plain, closing_role, closing_slash, shebang_again, shebang_begins, shebang_plain, text_inside, text_kind, text_plain}
+use Rattle.ecma_clean.specs.Bearing.{bearing_of}
+use Rattle.ecma_clean.specs.Sharing.{begin}
+use Rattle.ecma_state.specs.Run.{start_of}
+use Rattle.ecma_state.specs.declared.settings.Settings.{Settings}
 
 change_plain : (b : Bearing) (change : Change) → IsPlain b → IsPlain (changed change b)
 change_plain b (InContext context) plain = record { contexts = plain.contexts; start = plain.start; line = plain.line }
@@ -92,3 +96,8 @@ lexer_parts_keep =
       regex_plain = regex_plain;
       regex_again = regex_again;
     }
+
+-- a session begins plainly
+pub start_is_plain : (settings : Settings) → lexer_parts_keep.Plainly (bearing_of (start_of settings (begin 0 [])))
+unfolding lexer_parts_keep
+start_is_plain settings = record { contexts = refl; start = λ none. refl; line = λ line. cc }

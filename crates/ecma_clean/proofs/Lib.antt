@@ -1,4 +1,5 @@
 pub mod AgainParts
+pub mod CanonicalLaws
 mod CanonicalRows
 mod CleanRows
 pub mod Cleanly
@@ -13,5 +14,6 @@ pub mod TemplateCode
 pub mod TextParts
 pub mod TokensRead
 pub mod WalkedEnd
+pub mod WalkedRuns
 pub mod WalkedTokens
 pub mod Walking

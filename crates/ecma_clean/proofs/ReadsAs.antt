@@ -20,7 +20,9 @@ use Rattle.ecma_stream.proofs.SlashLemmas.{again-kind, expression-no-slash}
 use Rattle.ecma_state.specs.Mode.{gap_mode}
 use Rattle.ecma_state.specs.Reading.{Reading, behind_gap, gap_in, reading, reading_again, reading_behind, reading_code, reading_if, reading_token, shebang_reading, shebang_token, spanned, stands_shebang, token_reading}
 use Rattle.ecma_state.specs.State.{is_error, is_slash}
-use Rattle.ecma_state.specs.TokenAt.{is_empty, opening, token_at, token_found, token_of}
+use Rattle.ecma_state.specs.TokenAt.{is_empty, opening, read_opened, token_at, token_comments, token_found, token_of}
+use Rattle.ecma_state.specs.declared.opening.Opening.{Opening}
+use Rattle.ecma_state.specs.declared.opening.Opening.TheVariants as opens
 use Rattle.ecma_state.specs.Transition.{tpl_on_top}
 use Rattle.ecma_state.specs.declared.mode.Mode.{Mode}
 use Rattle.ecma_syntax.specs.declared.context.Context.{Context}
@@ -130,6 +132,18 @@ token-reads context c here gap faults f s comments x xs start text left front sa
           left = rest-passed (length s.spelling) here ∙ ap (drop (length s.spelling)) left;
         })
 
+-- where a template was opened is not asked for
+opened-anywhere : (o : Opening) (opened : BytePos) (b : Bearing) (text : Text) → read_opened o (mode_at opened b) text ≡ read_opened o (bare_mode b) text
+opened-anywhere opens.Template opened b text = refl
+opened-anywhere opens.Number opened b text = refl
+opened-anywhere opens.String opened b text = refl
+opened-anywhere opens.Word opened b text = refl
+opened-anywhere opens.Bars opened b text = refl
+opened-anywhere opens.Other opened b text = refl
+
+token-anywhere : (opened : BytePos) (b : Bearing) (flag : Bool) (text : Text) → token_at (mode_at opened b) flag text ≡ token_at (bare_mode b) flag text
+token-anywhere opened b flag text = opened-anywhere (opening (bare_mode b) flag text) opened b text
+
 reads-behind : (opened : BytePos) (b : Bearing) (c here : Cursor) (gap : GapView) (faults : List Fault) (text : Text) → here.start ≡ c.start → here.text ≡ c.text → rest here ≡ text
     → SaysSame b.context gap.faults faults → ReadsAs b.context c (reading_behind (mode_at opened b) gap here text) (found_behind b gap.line_break faults text)
 reads-behind opened b c here gap faults [] start text left same = go (any_recorded b.context faults) refl
@@ -145,7 +159,7 @@ reads-behind opened b c here gap faults (x ∷ xs) start text left same =
     let n : ℕ = place here in
     let f : FoundView TokenView = token_found mode flag n (x ∷ xs) in
     let faults_same : SaysSame b.context f.faults s.faults = subst (λ fs. SaysSame b.context fs s.faults) (sym (placed-faults o mode n s)) (same-behind b.context n s.faults) in
-    token-reads
+    let reads = token-reads
     b.context
     c
     here
@@ -153,7 +167,7 @@ reads-behind opened b c here gap faults (x ∷ xs) start text left same =
     faults
     f
     s
-    _
+    (token_comments mode flag n (x ∷ xs))
     x
     xs
     start
@@ -164,7 +178,11 @@ reads-behind opened b c here gap faults (x ∷ xs) start text left same =
     (token-extent mode flag n (x ∷ xs))
     (placed-kind o mode n s)
     (placed-token o mode n s)
-    (placed-break o mode n s)
+    (placed-break o mode n s) in
+    subst
+    (λ (u : Scanned TokenView). ReadsAs b.context c (reading_behind mode gap here (x ∷ xs)) (token_if (is_refused u || any_recorded b.context (faults ++ u.faults)) (bare flag u) (x ∷ xs) (not (is_empty (faults ++ u.faults)))))
+    (token-anywhere opened b flag (x ∷ xs))
+    reads
 
 -- gap and token
 code-reads : (opened : BytePos) (b : Bearing) (c input : Cursor) → input.start ≡ c.start → input.text ≡ c.text → ReadsAs b.context c (reading_code (mode_at opened b) input) (code b (rest input))

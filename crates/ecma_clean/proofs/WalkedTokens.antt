@@ -5,7 +5,7 @@ use Rattle.std.specs.Prelude.{is_some}
 use Rattle.std.specs.List.{list_all}
 use Rattle.clean_runs.specs.Grammar.{Counting, Found, Standing, answered, asked, behind, ended, faulty, nothing, token}
 use Rattle.clean_runs.specs.Moments.{Moment, moment}
-use Rattle.clean_runs.specs.Walk.{Walked, by_standing, walk, walk_again, walk_found, walked_if, with_moment, with_token}
+use Rattle.clean_runs.specs.Walk.{Walked, by_standing, calm_walk, walk, walk_again, walk_found, walked_if, with_moment, with_token}
 use Rattle.ecma_place.specs.Cursor.{Cursor, HasPlace, place, place_at, rest}
 use Rattle.ecma_place.specs.Text.{Text, place_of}
 use Rattle.ecma_place.specs.declared.place.BytePos.{BytePos}
@@ -78,7 +78,7 @@ read-plain : (s : Session) → s.reread ≡ None → is_plain_step s Read ≡ tr
 read-plain s e = ap (λ r. not (is_some r && was_again s.past)) e
 
 -- the bearing behind a token
-bearing-behind : (c : Cursor) (s : Session) (r : Reading) (again : Bool) (t : SpannedView) (faults : List Fault) (p : Bare) (here : Text) → Stands c t p here
+pub bearing-behind : (c : Cursor) (s : Session) (r : Reading) (again : Bool) (t : SpannedView) (faults : List Fault) (p : Bare) (here : Text) → Stands c t p here
     → bearing_of (after_read s r again (Some t) faults) ≡ lexer_grammar.after (bearing_of s) p
 bearing-behind c s r true t faults p here k =
     ap (λ kind. behind_kind (bearing_of s) kind t.had_line_break) (stands-kind c t p here k) ∙ ap (behind_kind (bearing_of s) (kind_of p.kind)) (stands-flag c t p here k)
@@ -86,15 +86,15 @@ bearing-behind c s r false t faults p here k =
     ap (λ kind. behind_kind (bearing_of s) kind t.had_line_break) (stands-kind c t p here k) ∙ ap (behind_kind (bearing_of s) (kind_of p.kind)) (stands-flag c t p here k)
 
 -- the token that is told
-token-told : (c : Cursor) (t : SpannedView) (p : Bare) (here : Text) → Stands c t p here → Some (placeless t) ≡ told (Some p)
+pub token-told : (c : Cursor) (t : SpannedView) (p : Bare) (here : Text) → Stands c t p here → Some (placeless t) ≡ told (Some p)
 token-told c t p here k =
-    ap (λ token. found token t.had_line_break) (ap (token_from t.span.lo.0) k.token ∙ token-back t.span.lo.0 p.kind) ∙ ap (found p.kind) (stands-flag c t p here k)
+    ap (λ u. found u t.had_line_break) (ap (token_from t.span.lo.0) k.token ∙ token-back t.span.lo.0 p.kind) ∙ ap (found p.kind) (stands-flag c t p here k)
   where
     found : TokenView → Bool → Option (TokenView × Bool)
-    found token flag = Some (token, flag)
+    found u flag = Some (u, flag)
 
 -- what stands before a read
-read-stage : (s : Session) (r : Reading) (a : Standing) (w : Bool) (found : Option SpannedView) (answer : Option Bare) → Acts s r → is_some s.reread ≡ stands_again a → Sound s w → r.found ≡ found
+pub read-stage : (s : Session) (r : Reading) (a : Standing) (w : Bool) (found : Option SpannedView) (answer : Option Bare) → Acts s r → is_some s.reread ≡ stands_again a → Sound s w → r.found ≡ found
     → read_in (acted_on s (record r { found = found })).answer ≡ told answer → stage_with s (read_in (act s Read).answer) ≡ stage_of (moment (bearing_of s) a answer)
 read-stage s r a w found answer acts e k f same =
     ap (stage_with s) (ap (λ x. read_in x.answer) acts.acts ∙ ap (λ o. read_in (acted_on s (record r { found = o })).answer) f ∙ same)
@@ -129,11 +129,11 @@ walked-read c s w steps f plain k walks (at_end v found e is left) =
     steps
     (owned_back c s)
     (moment (bearing_of s) nothing None)
-    _
+    (calm_walk lexer_grammar (w || v) (bearing_of s) (steps_as steps))
     (read-plain s k.reread)
     refl
     (read-stage s r nothing w None None acts (ap is_some k.reread) k.sound found refl)
-    (subst (λ t. IsWalked c t steps (owned_back c s) _) (sym same) (walked-end c after (w || v) steps plain end))
+    (subst (λ t. IsWalked c t steps (owned_back c s) (calm_walk lexer_grammar (w || v) (bearing_of s) (steps_as steps))) (sym same) (walked-end c after (w || v) steps plain end))
   where
     r : Reading
     r = reading (mode_of (state_of s)) s.input
@@ -205,14 +205,14 @@ walked-read c s w steps f plain k walks (good t p here v found e is reads) =
 
 -- Behind a token
 
-at-ended : (c : Cursor) (s : Session) (t : SpannedView) (a : Standing) (p : Bare) (w : Bool) (here : Text) (older : List SpannedView) → At c s t a p w here older → has_ended s.past ≡ false
+pub at-ended : (c : Cursor) (s : Session) (t : SpannedView) (a : Standing) (p : Bare) (w : Bool) (here : Text) (older : List SpannedView) → At c s t a p w here older → has_ended s.past ≡ false
 at-ended c s t a p w here older k = ap has_ended k.newest ∙ go k.again
   where
     go : (again : Bool) → has_ended (given_in again false (Some t) ∷ k.past) ≡ false
     go true = refl
     go false = refl
 
-at-given : (c : Cursor) (s : Session) (t : SpannedView) (a : Standing) (p : Bare) (w : Bool) (here : Text) (older : List SpannedView) → At c s t a p w here older → (bearing_of s).none_given ≡ false
+pub at-given : (c : Cursor) (s : Session) (t : SpannedView) (a : Standing) (p : Bare) (w : Bool) (here : Text) (older : List SpannedView) → At c s t a p w here older → (bearing_of s).none_given ≡ false
 at-given c s t a p w here older k = ap given k.newest ∙ go k.again
   where
     given : Past → Bool
@@ -222,7 +222,7 @@ at-given c s t a p w here older k = ap given k.newest ∙ go k.again
     go true = refl
     go false = refl
 
-at-slash : (c : Cursor) (s : Session) (t : SpannedView) (a : Standing) (p : Bare) (w : Bool) (here : Text) (older : List SpannedView) → At c s t a p w here older
+pub at-slash : (c : Cursor) (s : Session) (t : SpannedView) (a : Standing) (p : Bare) (w : Bool) (here : Text) (older : List SpannedView) → At c s t a p w here older
     → last_slash (seen_of s.past) ≡ cond (is_slash (kind_of t.token)) (Some t.span.lo) None
 at-slash c s t a p w here older k = ap (λ past. last_slash (seen_of past)) k.newest ∙ go k.again
   where
@@ -230,27 +230,27 @@ at-slash c s t a p w here older k = ap (λ past. last_slash (seen_of past)) k.ne
     go true = refl
     go false = refl
 
-at-flag : (c : Cursor) (s : Session) (t : SpannedView) (a : Standing) (p : Bare) (w : Bool) (here : Text) (older : List SpannedView) → At c s t a p w here older → last_flag s.past ≡ p.flag
+pub at-flag : (c : Cursor) (s : Session) (t : SpannedView) (a : Standing) (p : Bare) (w : Bool) (here : Text) (older : List SpannedView) → At c s t a p w here older → last_flag s.past ≡ p.flag
 at-flag c s t a p w here older k = ap last_flag k.newest ∙ go k.again ∙ stands-flag c t p here k.stands
   where
     go : (again : Bool) → last_flag (given_in again false (Some t) ∷ k.past) ≡ t.had_line_break
     go true = refl
     go false = refl
 
-at-again : (c : Cursor) (s : Session) (t : SpannedView) (a : Standing) (p : Bare) (w : Bool) (here : Text) (older : List SpannedView) → (k : At c s t a p w here older) → was_again s.past ≡ k.again
+pub at-again : (c : Cursor) (s : Session) (t : SpannedView) (a : Standing) (p : Bare) (w : Bool) (here : Text) (older : List SpannedView) → (k : At c s t a p w here older) → was_again s.past ≡ k.again
 at-again c s t a p w here older k = ap was_again k.newest ∙ go k.again
   where
     go : (again : Bool) → was_again (given_in again false (Some t) ∷ k.past) ≡ again
     go true = refl
     go false = refl
 
-at-rereads : (a : Standing) (again : Bool) (reread : Option BytePos) (t : SpannedView) → StandsFor a again reread t → is_some reread ≡ stands_again a
+pub at-rereads : (a : Standing) (again : Bool) (reread : Option BytePos) (t : SpannedView) → StandsFor a again reread t → is_some reread ≡ stands_again a
 at-rereads nothing again reread t h = ap is_some h
 at-rereads asked again reread t h = ap is_some h.0
 at-rereads answered again reread t h = ap is_some h.0
 
 -- a reread that stands and was not answered yet was asked for at a slash
-at-poised : (c : Cursor) (s : Session) (t : SpannedView) (a : Standing) (p : Bare) (w : Bool) (here : Text) (older : List SpannedView) → At c s t a p w here older → IsPoised s
+pub at-poised : (c : Cursor) (s : Session) (t : SpannedView) (a : Standing) (p : Bare) (w : Bool) (here : Text) (older : List SpannedView) → At c s t a p w here older → IsPoised s
 at-poised c s t nothing p w here older k q f h = let never : None ≡ Some q = sym k.reread ∙ f in cc
 at-poised c s t asked p w here older k q f h =
     let fresh = k.fresh k.reread.1 in
@@ -259,12 +259,12 @@ at-poised c s t answered p w here older k q f h =
     let never : true ≡ false = sym (at-again c s t answered p w here older k ∙ k.reread.1) ∙ h in cc
 
 -- the tokens that were kept before stay
-at-owned : (c : Cursor) (s : Session) (t : SpannedView) (a : Standing) (p : Bare) (w : Bool) (here : Text) (older : List SpannedView) → At c s t a p w here older
+pub at-owned : (c : Cursor) (s : Session) (t : SpannedView) (a : Standing) (p : Bare) (w : Bool) (here : Text) (older : List SpannedView) → At c s t a p w here older
     → owned_back c s ≡ own_in c (kept_of t) ∷ map (λ u. own_in c (kept_of u)) older
 at-owned c s t a p w here older k = ap (map (λ u. own_in c (kept_of u))) k.kept
 
 -- a step that reads nothing
-at-stage : (c : Cursor) (s : Session) (t : SpannedView) (a : Standing) (p : Bare) (w : Bool) (here : Text) (older : List SpannedView) → At c s t a p w here older
+pub at-stage : (c : Cursor) (s : Session) (t : SpannedView) (a : Standing) (p : Bare) (w : Bool) (here : Text) (older : List SpannedView) → At c s t a p w here older
     → stage_with s None ≡ stage_of (moment (bearing_of s) a None)
 at-stage c s t a p w here older k =
     ap (λ b. stage b s.errors.recorded) (at-rereads a k.again s.reread t k.reread) ∙ ap (stage (stands_again a)) k.sound.recorded
@@ -273,7 +273,7 @@ at-stage c s t a p w here older k =
     stage rereads recorded = record { bearing = bearing_of s; rereads = rereads; recorded = recorded; token = None }
 
 -- the same token in a session that reads and answers as before
-at-still : (c : Cursor) (s s2 : Session) (t : SpannedView) (a b : Standing) (p : Bare) (w : Bool) (here : Text) (older : List SpannedView) → s2.input ≡ s.input → s2.past ≡ s.past → Sound s2 w
+pub at-still : (c : Cursor) (s s2 : Session) (t : SpannedView) (a b : Standing) (p : Bare) (w : Bool) (here : Text) (older : List SpannedView) → s2.input ≡ s.input → s2.past ≡ s.past → Sound s2 w
     → (k : At c s t a p w here older) → StandsFor b k.again s2.reread t → At c s2 t b p w here older
 at-still c s s2 t a b p w here older input past sound k reread = record {
   start = ap (λ i. i.start) input ∙ k.start;

@@ -33,7 +33,6 @@ use Rattle.ecma_clean.specs.Clean.{is_plain_step, takes_none, was_again}
 use Rattle.ecma_clean.specs.Instance.{Change, InContext, Allowing, Nothing, changed, lexer_grammar, records_waiting, step_as, steps_as}
 use Rattle.ecma_clean.specs.Stages.{Stage, placeless, read_in, stage_with, stages, token_from}
 use Rattle.ecma_clean.proofs.Disposed.{some-recorded}
-use Rattle.ecma_clean.proofs.ReadsAs.{ReadsAs, Reads, RereadsAs, again-reads, at_end, good, good_again, reading-reads, refused, refused_again, spoilt, spoilt_again}
 use Rattle.ecma_clean.proofs.Spoiling.{IsPoised, good-step, is_good, is_unrefused, is_unspoilt, read-poised, spoilt-is-bad, unspoilt-left, unspoilt-right}
 use Rattle.ecma_clean.proofs.TokensRead.{Stands, own_of, stands-flag, stands-kind, token-back}
 
@@ -77,20 +76,20 @@ pub data IsWalked (c : Cursor) (s : Session) (steps : List Step) (before : List 
   unclean : is_good s steps ≡ false → IsWalked c s steps before None
 
 -- one more step, which is plain and takes no error
-walked-step : (c : Cursor) (s : Session) (step : Step) (steps : List Step) (before : List Own) (m : Moment Bearing TokenView) (o : Option (Walked Bearing TokenView)) → is_plain_step s step ≡ true → takes_none s step ≡ true
+pub walked-step : (c : Cursor) (s : Session) (step : Step) (steps : List Step) (before : List Own) (m : Moment Bearing TokenView) (o : Option (Walked Bearing TokenView)) → is_plain_step s step ≡ true → takes_none s step ≡ true
     → stage_with s (read_in (act s step).answer) ≡ stage_of m → IsWalked c (act_on s step) steps before o → IsWalked c s (step ∷ steps) before (with_moment m o)
-walked-step c s step steps before m (Some x) plain takes stage (clean x good kept through) =
+walked-step c s step steps before m o plain takes stage (clean x good kept through) =
     clean
     (record { kept = x.kept; moments = m ∷ x.moments })
     (good-step s step steps plain takes ∙ good)
     kept
     (ap (λ g. g ∷ stages (act_on s step) steps) stage ∙ ap (λ gs. stage_of m ∷ gs) through)
-walked-step c s step steps before m None plain takes stage (unclean bad) = unclean (good-step s step steps plain takes ∙ bad)
+walked-step c s step steps before m o plain takes stage (unclean bad) = unclean (good-step s step steps plain takes ∙ bad)
 
 -- one more token
-walked-token : (c : Cursor) (s : Session) (steps : List Step) (before : List Own) (own : Own) (p : Bare) (o : Option (Walked Bearing TokenView)) → own ≡ own_of p → IsWalked c s steps (own ∷ before) o
+pub walked-token : (c : Cursor) (s : Session) (steps : List Step) (before : List Own) (own : Own) (p : Bare) (o : Option (Walked Bearing TokenView)) → own ≡ own_of p → IsWalked c s steps (own ∷ before) o
     → IsWalked c s steps before (with_token p o)
-walked-token c s steps before own p (Some x) same (clean x good kept through) =
+walked-token c s steps before own p o same (clean x good kept through) =
     clean
     (record { kept = p ∷ x.kept; moments = x.moments })
     good
@@ -99,7 +98,7 @@ walked-token c s steps before own p (Some x) same (clean x good kept through) =
     ∙ sym (append_assoc (reverse (map own_of x.kept)) (own_of p ∷ []) before)
     ∙ ap (λ l. l ++ before) (sym (reverse_onto (map own_of x.kept) (own_of p) [])))
     through
-walked-token c s steps before own p None same (unclean bad) = unclean bad
+walked-token c s steps before own p o same (unclean bad) = unclean bad
 
 -- Sessions of clean runs
 
