@@ -4,8 +4,10 @@ use Rattle.std.proofs.lemmas.Bool.{or_parts}
 use Rattle.clean_runs.specs.Parts.{StartsGap, may_open}
 use Rattle.ecma_dispatch.proofs.FrontLemmas.{expression-front}
 use Rattle.ecma_joining.specs.PlainContexts.{are_plain}
+use Rattle.ecma_place.specs.Atom.{AtomView}
 use Rattle.ecma_place.specs.Text.{Text}
-use Rattle.ecma_scan.specs.Expressions.{body_cutter, body_pieces, closed_expression, flags, open_expression, opens_expression, regular_expression, regex_value}
+use Rattle.ecma_scan.proofs.ExpressionLaws.{expression_is_local}
+use Rattle.ecma_scan.specs.Expressions.{body_cutter, body_pieces, closed_expression, flags, open_expression, opens_expression, regex_value, regular_expression}
 use Rattle.ecma_scan.specs.Found.{Scanned}
 use Rattle.ecma_scan.specs.Fronts.{next_is}
 use Rattle.ecma_scan.specs.Locality.{is_clean, separates}
@@ -13,16 +15,14 @@ use Rattle.ecma_scan.specs.Pieces.{remainder, spelled}
 use Rattle.ecma_state.specs.State.{is_error, is_shebang, is_slash}
 use Rattle.ecma_state.specs.TokenAt.{token_of}
 use Rattle.ecma_token.specs.Kinds.{kind_of}
-use Rattle.ecma_token.specs.View.{TokenView, ErrorView}
+use Rattle.ecma_token.specs.View.{ErrorView, TokenView}
 use Rattle.ecma_token.specs.declared.kind.TokenKind.{TokenKind}
-use Rattle.ecma_token.specs.declared.kind.TokenKind.TheVariants.{BackQuote, RBrace, RParen, Shebang, Template, Regex}
+use Rattle.ecma_token.specs.declared.kind.TokenKind.TheVariants.{BackQuote, RBrace, RParen, Regex, Shebang, Template}
+use Rattle.ecma_clean.proofs.CodeReading.{clean_by}
+use Rattle.ecma_clean.proofs.PlainBearings.{IsPlain, expression_keeps, or_none, plain_behind}
 use Rattle.ecma_clean.specs.BareReads.{Bare, again_from, again_if, any_recorded, bare, bare_again, is_refused}
 use Rattle.ecma_clean.specs.Bearing.{Bearing, behind_kind, turned_in}
 use Rattle.ecma_clean.specs.Instance.{role_of}
-use Rattle.ecma_clean.proofs.CodeReading.{clean_by}
-use Rattle.ecma_place.specs.Atom.{AtomView}
-use Rattle.ecma_scan.proofs.ExpressionLaws.{expression_is_local}
-use Rattle.ecma_clean.proofs.PlainBearings.{IsPlain, expression_keeps, or_none, plain_behind}
 
 -- Expressions that are read again
 

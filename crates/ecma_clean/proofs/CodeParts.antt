@@ -1,7 +1,7 @@
 -- What code keeps as a part of the grammar: its tokens are read again behind one character, or none.
 use Rattle.std.proofs.Common.{◌≡◌, ℕ, Bool, true, false, ◌||◌, ◌==◌, [], ◌∷◌, ◌++◌, drop, length, take-append-drop, None, Result, Ok, Err, refl, sym, ap, ◌∙◌, subst, eqb-true}
 use Rattle.std.proofs.lemmas.Bool.{or_left}
-use Rattle.clean_runs.specs.Grammar.{Final, again, same, token, ended}
+use Rattle.clean_runs.specs.Grammar.{Final, again, ended, same, token}
 use Rattle.clean_runs.specs.Parts.{Again, Follows, is_text, joint, may_open}
 use Rattle.ecma_dispatch.proofs.FrontLemmas.{expression-front}
 use Rattle.ecma_joining.proofs.BoundariesLaws.{nothing_behind_the_gap}
@@ -15,31 +15,31 @@ use Rattle.ecma_joining.specs.PlainContexts.{opens_text}
 use Rattle.ecma_joining.specs.Separators.{CloserAgain, IsGap, SlashAgain, separator}
 use Rattle.ecma_place.specs.Text.{Text}
 use Rattle.ecma_scan.specs.Expressions.{opens_expression, regular_expression}
-use Rattle.ecma_scan.specs.Found.{Scanned, value_behind, token_behind}
-use Rattle.ecma_scan.specs.Gaps.{element, has_line_break, elements_under, faults_of, gap_cutter}
+use Rattle.ecma_scan.specs.Found.{Scanned, token_behind, value_behind}
+use Rattle.ecma_scan.specs.Gaps.{element, elements_under, faults_of, gap_cutter, has_line_break}
 use Rattle.ecma_scan.specs.Locality.{ends_template, is_clean, separates}
 use Rattle.ecma_scan.specs.Pieces.{spelled}
 use Rattle.ecma_scan.specs.Shebangs.{opens_shebang}
+use Rattle.ecma_scan.specs.Templates.{template_value}
 use Rattle.ecma_state.specs.Contexts.{innermost}
 use Rattle.ecma_state.specs.Mode.{is_template}
 use Rattle.ecma_state.specs.State.{is_shebang, is_slash}
-use Rattle.ecma_state.specs.TokenAt.{token_at, token_of, opening, placed}
+use Rattle.ecma_state.specs.TokenAt.{opening, placed, token_at, token_of}
 use Rattle.ecma_state.specs.Transition.{tpl_on_top}
-use Rattle.ecma_stream.proofs.SlashLemmas.{token-slash}
-use Rattle.ecma_token.specs.Kinds.{kind_of}
-use Rattle.ecma_token.specs.View.{TokenView, ErrorView, plain_token, refused_template, error_token}
-use Rattle.ecma_token.specs.declared.kind.TokenKind.{TokenKind}
-use Rattle.ecma_token.specs.declared.kind.TokenKind.TheVariants.{BackQuote, RBrace, RParen, Shebang, Template}
-use Rattle.ecma_clean.specs.BareReads.{Bare, code, found_behind}
-use Rattle.ecma_clean.specs.Bearing.{Bearing, bare_mode, behind_kind, turned_in, before_in}
-use Rattle.ecma_clean.specs.Instance.{lexer_grammar, role_of, was_shebang}
-use Rattle.ecma_clean.proofs.CodeReading.{CodeRead, IsFound, clean_by, code_read, gap_of, read_again, read_behind, value_is}
-use Rattle.ecma_scan.specs.Templates.{template_value}
 use Rattle.ecma_state.specs.declared.mode.Mode.{Mode}
 use Rattle.ecma_state.specs.declared.opening.Opening.{Opening}
 use Rattle.ecma_state.specs.declared.opening.Opening.TheVariants as opens
-use Rattle.ecma_clean.proofs.PlainBearings.{IsPlain, keeps_none, no_template, or_none, plain_behind}
+use Rattle.ecma_stream.proofs.SlashLemmas.{token-slash}
+use Rattle.ecma_token.specs.Kinds.{kind_of}
+use Rattle.ecma_token.specs.View.{ErrorView, TokenView, error_token, plain_token, refused_template}
+use Rattle.ecma_token.specs.declared.kind.TokenKind.{TokenKind}
+use Rattle.ecma_token.specs.declared.kind.TokenKind.TheVariants.{BackQuote, RBrace, RParen, Shebang, Template}
 use Rattle.ecma_clean.proofs.AgainParts.{IsAgain, is_again, slashed}
+use Rattle.ecma_clean.proofs.CodeReading.{CodeRead, IsFound, clean_by, code_read, gap_of, read_again, read_behind, value_is}
+use Rattle.ecma_clean.proofs.PlainBearings.{IsPlain, keeps_none, no_template, or_none, plain_behind}
+use Rattle.ecma_clean.specs.BareReads.{Bare, code, found_behind}
+use Rattle.ecma_clean.specs.Bearing.{Bearing, bare_mode, before_in, behind_kind, turned_in}
+use Rattle.ecma_clean.specs.Instance.{lexer_grammar, role_of, was_shebang}
 
 -- Texts before which a token is read again
 

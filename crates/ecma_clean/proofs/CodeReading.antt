@@ -1,19 +1,19 @@
 -- What a token of code was read from, and where the same is read again.
 use Rattle.std.proofs.Common.{◌≡◌, ℕ, ◌<◌, Bool, true, false, not, ◌||◌, List, [], ◌∷◌, ◌++◌, drop, length, take, take-append-drop, Result, Ok, Err, refl, sym, ap, ◌∙◌, subst, arith}
 use Rattle.std.proofs.lemmas.Bool.{and_from, or_from, or_parts}
-use Rattle.clean_runs.specs.Grammar.{token, WaitsWithin}
+use Rattle.clean_runs.specs.Grammar.{WaitsWithin, token}
 use Rattle.clean_runs.specs.Parts.{Again}
 use Rattle.ecma_dispatch.proofs.FrontLemmas.{token_at-front, token_at-some}
 use Rattle.ecma_joining.proofs.CodeLaws.{code_is_token}
 use Rattle.ecma_joining.specs.Code.{code_at, code_mode}
 use Rattle.ecma_joining.specs.Separators.{IsGap}
 use Rattle.ecma_place.specs.Text.{Text}
-use Rattle.ecma_scan.specs.declared.found.Blame.{Blame}
-use Rattle.ecma_scan.specs.declared.found.Blame.TheVariants.{Always, Strict, Module}
-use Rattle.ecma_scan.specs.declared.gap_mode.GapMode.{GapMode}
 use Rattle.ecma_scan.specs.Found.{Fault, Scanned}
 use Rattle.ecma_scan.specs.Gaps.{behind_gap, gap_faults, has_line_break}
 use Rattle.ecma_scan.specs.Locality.{has_clean_faults, is_accepted, is_always, is_clean}
+use Rattle.ecma_scan.specs.declared.found.Blame.{Blame}
+use Rattle.ecma_scan.specs.declared.found.Blame.TheVariants.{Always, Module, Strict}
+use Rattle.ecma_scan.specs.declared.gap_mode.GapMode.{GapMode}
 use Rattle.ecma_state.specs.Contexts.{innermost}
 use Rattle.ecma_state.specs.Mode.{gap_mode, is_template}
 use Rattle.ecma_state.specs.State.{is_error}

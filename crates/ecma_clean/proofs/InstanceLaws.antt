@@ -1,24 +1,23 @@
 -- The lexer's grammar keeps the laws of parts.
 use Rattle.std.proofs.Common.{[], ◌≡◌, Some, refl, ap}
-use Rattle.clean_runs.specs.Parts.{is_text, Keeps, is_line}
+use Rattle.clean_runs.specs.Parts.{Keeps, is_line, is_text}
+use Rattle.ecma_joining.proofs.TextsLaws.{texts_stand_alone}
 use Rattle.ecma_state.specs.Mode.{is_tpl_element}
+use Rattle.ecma_state.specs.Run.{start_of}
 use Rattle.ecma_state.specs.State.{is_slash}
 use Rattle.ecma_state.specs.Transition.{tpl_on_top}
+use Rattle.ecma_state.specs.declared.settings.Settings.{Settings}
 use Rattle.ecma_token.specs.Kinds.{kind_of}
 use Rattle.ecma_token.specs.declared.kind.TokenKind.{TokenKind}
 use Rattle.ecma_token.specs.declared.kind.TokenKind.TheVariants.{BackQuote, RBrace, RParen, Shebang, Template}
-use Rattle.ecma_clean.specs.BareReads.{bare_shebang}
-use Rattle.ecma_clean.specs.Bearing.{Bearing}
-use Rattle.ecma_clean.specs.Instance.{role_of, was_shebang, Allowing, Change, InContext, Nothing, PartsKeep, changed, lexer_parts}
-use Rattle.ecma_joining.proofs.TextsLaws.{texts_stand_alone}
-use Rattle.ecma_clean.proofs.PlainBearings.{IsPlain, shebang_keeps}
 use Rattle.ecma_clean.proofs.AgainParts.{again_kind, regex_again, regex_flag, regex_inside, regex_plain, slash_role}
 use Rattle.ecma_clean.proofs.CodeParts.{code_end, code_first, code_line, code_next, code_no_shebang, code_opens, code_plain, code_role}
+use Rattle.ecma_clean.proofs.PlainBearings.{IsPlain, shebang_keeps}
 use Rattle.ecma_clean.proofs.TextParts.{closing_again, closing_closes, closing_opens, closing_plain, closing_role, closing_slash, shebang_again, shebang_begins, shebang_plain, text_inside, text_kind, text_plain}
-use Rattle.ecma_clean.specs.Bearing.{bearing_of}
+use Rattle.ecma_clean.specs.BareReads.{bare_shebang}
+use Rattle.ecma_clean.specs.Bearing.{Bearing, bearing_of}
+use Rattle.ecma_clean.specs.Instance.{Allowing, Change, InContext, Nothing, PartsKeep, changed, lexer_parts, role_of, was_shebang}
 use Rattle.ecma_clean.specs.Sharing.{begin}
-use Rattle.ecma_state.specs.Run.{start_of}
-use Rattle.ecma_state.specs.declared.settings.Settings.{Settings}
 
 change_plain : (b : Bearing) (change : Change) → IsPlain b → IsPlain (changed change b)
 change_plain b (InContext context) plain = record { contexts = plain.contexts; start = plain.start; line = plain.line }

@@ -6,9 +6,9 @@ use Rattle.ecma_state.specs.Contexts.{Contexts, innermost}
 use Rattle.ecma_state.specs.Mode.{is_template, keeps_space}
 use Rattle.ecma_state.specs.State.{is_shebang}
 use Rattle.ecma_state.specs.Transition.{tpl_on_top, transition}
-use Rattle.ecma_state.specs.declared.token_context.TokenContext.TheVariants.{Tpl, JSXExpr}
+use Rattle.ecma_state.specs.declared.token_context.TokenContext.TheVariants.{JSXExpr, Tpl}
 use Rattle.ecma_token.specs.declared.kind.TokenKind.{TokenKind}
-use Rattle.ecma_token.specs.declared.kind.TokenKind.TheVariants.{Shebang, Template, Regex}
+use Rattle.ecma_token.specs.declared.kind.TokenKind.TheVariants.{Regex, Shebang, Template}
 use Rattle.ecma_clean.specs.Bearing.{Bearing, behind_kind, turned_in}
 use Rattle.ecma_clean.specs.Instance.{was_shebang}
 

@@ -1,35 +1,35 @@
 -- Inside a template what stands there is its text or what closes it.
 use Rattle.std.proofs.Common.{◌≡◌, ◌∙◌, ℕ, Bool, true, false, ◌||◌, ◌&&◌, ◌==◌, List, [], ◌∷◌, ◌++◌, length, drop, Option, Some, None, cond, refl, sym, ap}
-use Rattle.std.specs.Prelude.{codes}
 use Rattle.std.specs.List.{list_any}
+use Rattle.std.specs.Prelude.{codes}
 use Rattle.clean_runs.specs.Grammar.{Found, faulty, token}
 use Rattle.clean_runs.specs.Parts.{scan_tpl, tpl_found}
 use Rattle.ecma_joining.proofs.TextsLaws.{texts_stand_alone}
 use Rattle.ecma_joining.specs.Texts.{text_at, text_in}
-use Rattle.ecma_place.specs.Text.{Text}
 use Rattle.ecma_place.specs.Character.{is_line_terminator}
+use Rattle.ecma_place.specs.Text.{Text}
+use Rattle.ecma_scan.specs.Bars.{opens_bars}
 use Rattle.ecma_scan.specs.Found.{Scanned}
 use Rattle.ecma_scan.specs.Gaps.{elements_under, faults_of, gap_cutter}
+use Rattle.ecma_scan.specs.Numbers.{opens_number}
 use Rattle.ecma_scan.specs.Pieces.{pieces, remainder, spelled}
+use Rattle.ecma_scan.specs.Strings.{opens_string}
 use Rattle.ecma_scan.specs.Templates.{AtBackQuote, AtDollarBrace, AtEnd, TemplateEnd, TemplatePiece, is_break, last_refusal, mark_of, raw_text, template_cutter, template_end, template_of, template_text, template_token, text_of, token_of_refusal}
+use Rattle.ecma_scan.specs.Words.{opens_word}
 use Rattle.ecma_state.specs.Contexts.{Contexts, innermost}
 use Rattle.ecma_state.specs.Mode.{is_template, is_tpl_element}
 use Rattle.ecma_state.specs.State.{is_error}
 use Rattle.ecma_state.specs.TokenAt.{opening_from, read_opened, token_at}
 use Rattle.ecma_state.specs.Transition.{tpl_on_top}
 use Rattle.ecma_state.specs.declared.token_context.TokenContext.TheVariants.{Tpl}
-use Rattle.ecma_scan.specs.Bars.{opens_bars}
-use Rattle.ecma_scan.specs.Numbers.{opens_number}
-use Rattle.ecma_scan.specs.Strings.{opens_string}
-use Rattle.ecma_scan.specs.Words.{opens_word}
 use Rattle.ecma_token.specs.Kinds.{kind_of}
 use Rattle.ecma_token.specs.View.{ErrorView, TokenView}
-use Rattle.ecma_clean.specs.BareReads.{Bare, bare, bare_mark, bare_text, code, found_behind, mark_if, pieces_of, token_behind_gap, token_if}
-use Rattle.ecma_clean.specs.Bearing.{Bearing, bare_mode}
-use Rattle.ecma_clean.specs.Instance.{lexer_parts}
 use Rattle.ecma_clean.proofs.CodeParts.{code_end}
 use Rattle.ecma_clean.proofs.CodeReading.{gap_of}
 use Rattle.ecma_clean.proofs.PlainBearings.{or_none}
+use Rattle.ecma_clean.specs.BareReads.{Bare, bare, bare_mark, bare_text, code, found_behind, mark_if, pieces_of, token_behind_gap, token_if}
+use Rattle.ecma_clean.specs.Bearing.{Bearing, bare_mode}
+use Rattle.ecma_clean.specs.Instance.{lexer_parts}
 
 -- what is found where no gap stands
 abbrev found_as : Bearing → Text → Scanned TokenView → Found TokenView

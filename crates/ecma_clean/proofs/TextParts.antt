@@ -1,24 +1,24 @@
 -- What template text, what closes it, and a shebang keep as parts of the grammar.
 use Rattle.std.proofs.Common.{◌≡◌, Bool, true, false, [], ◌∷◌, ◌++◌, Option, Some, None, refl, ap, ◌∙◌}
-use Rattle.clean_runs.specs.Parts.{is_text, may_open, StartsLine}
+use Rattle.clean_runs.specs.Parts.{StartsLine, is_text, may_open}
 use Rattle.ecma_joining.proofs.BoundariesLaws.{shebang_stands_alone}
 use Rattle.ecma_joining.proofs.PlainContextsLemmas.{contexts_stay_plain}
 use Rattle.ecma_joining.specs.PlainContexts.{are_plain}
 use Rattle.ecma_place.specs.Text.{Text}
 use Rattle.ecma_scan.specs.Found.{scanned}
 use Rattle.ecma_scan.specs.Fronts.{next_is}
-use Rattle.ecma_scan.specs.Locality.{ends_template, ends_line}
+use Rattle.ecma_scan.specs.Locality.{ends_line, ends_template}
 use Rattle.ecma_scan.specs.Shebangs.{opens_shebang, shebang_of, shebang_spelling}
+use Rattle.ecma_scan.specs.Templates.{last_refusal, token_of_refusal}
 use Rattle.ecma_state.specs.State.{is_shebang, is_slash}
 use Rattle.ecma_state.specs.Transition.{tpl_on_top, transition}
 use Rattle.ecma_token.specs.Kinds.{kind_of}
 use Rattle.ecma_token.specs.View.{ErrorView, plain_token}
-use Rattle.ecma_token.specs.declared.kind.TokenKind.TheVariants.{BackQuote, Shebang, Template, DollarLBrace}
-use Rattle.ecma_clean.specs.BareReads.{Bare, bare, bare_mark, bare_shebang, bare_text, mark_if, pieces_of}
-use Rattle.ecma_clean.specs.Bearing.{Bearing, behind_kind, turned_in, before_in}
-use Rattle.ecma_clean.specs.Instance.{role_of}
-use Rattle.ecma_scan.specs.Templates.{last_refusal, token_of_refusal}
+use Rattle.ecma_token.specs.declared.kind.TokenKind.TheVariants.{BackQuote, DollarLBrace, Shebang, Template}
 use Rattle.ecma_clean.proofs.PlainBearings.{IsPlain, plain_behind, shebang_keeps, template_keeps}
+use Rattle.ecma_clean.specs.BareReads.{Bare, bare, bare_mark, bare_shebang, bare_text, mark_if, pieces_of}
+use Rattle.ecma_clean.specs.Bearing.{Bearing, before_in, behind_kind, turned_in}
+use Rattle.ecma_clean.specs.Instance.{role_of}
 
 -- Template text
 
