@@ -1,5 +1,5 @@
 -- What is neither refused nor has a fault that is recorded is read cleanly.
-use Rattle.std.proofs.Common.{◌≡◌, ◌∙◌, Bool, true, false, not, ◌&&◌, ◌||◌, List, [], ◌∷◌, Result, Ok, Err, refl, sym, ap}
+use Rattle.std.proofs.Common.{◌≡◌, ◌∙◌, Bool, true, false, not, ◌&&◌, ◌||◌, List, [], ◌∷◌, Result, Ok, Err, refl, ap}
 use Rattle.ecma_scan.specs.declared.found.Blame.{Blame}
 use Rattle.ecma_scan.specs.declared.found.Blame.TheVariants.{Always, Strict, Module}
 use Rattle.ecma_scan.specs.Found.{Fault, Scanned}

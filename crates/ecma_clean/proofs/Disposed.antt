@@ -3,7 +3,7 @@ use Rattle.std.proofs.Common.{◌≡◌, ◌∙◌, Bool, true, false, not, ◌|
 use Rattle.ecma_scan.specs.declared.found.Blame.{Blame}
 use Rattle.ecma_scan.specs.declared.found.Blame.TheVariants.{Always, Strict, Module}
 use Rattle.ecma_scan.specs.Found.{Fault}
-use Rattle.ecma_state.specs.Disposition.{Disposition, Dropped, Errors, Recorded, Waiting, disposed, disposition, of_module_mode, of_recorded, with_fault, with_faults}
+use Rattle.ecma_state.specs.Disposition.{Disposition, Dropped, Errors, Recorded, Waiting, disposed, disposition, of_recorded, with_fault, with_faults}
 use Rattle.ecma_state.specs.TokenAt.{is_empty}
 use Rattle.ecma_syntax.specs.declared.context.Context.{Context}
 use Rattle.ecma_token.specs.View.{ErrorView}

@@ -8,17 +8,16 @@ use Rattle.ecma_scan.specs.Expressions.{opens_expression, regular_expression}
 use Rattle.ecma_scan.specs.Found.{Fault, FoundView, Scanned, fault_behind, found_at, span_of, token_behind}
 use Rattle.ecma_scan.specs.GapViews.{GapView}
 use Rattle.ecma_scan.specs.Gaps as gaps
-use Rattle.ecma_scan.specs.Gaps.{gap_faults, gap_spelling, has_line_break}
+use Rattle.ecma_scan.specs.Gaps.{gap_faults, gap_spelling}
 use Rattle.ecma_scan.specs.Shebangs.{opens_shebang}
 use Rattle.ecma_scan.proofs.GapFaults.{gap_faults_move}
 use Rattle.ecma_dispatch.proofs.FrontLemmas.{expression-front, shebang-front, token_at-front}
 use Rattle.ecma_dispatch.proofs.ReadingLemmas.{placed-faults}
-use Rattle.ecma_joining.specs.Texts.{text_at}
 use Rattle.ecma_joining.proofs.FaultlessLaws.{expression_is_faultless}
 use Rattle.ecma_stream.proofs.EndLemmas.{token-extent}
 use Rattle.ecma_stream.proofs.SlashLemmas.{again-kind, expression-no-slash}
 use Rattle.ecma_state.specs.Mode.{gap_mode}
-use Rattle.ecma_state.specs.Reading.{Reading, behind_gap, gap_in, reading, reading_again, reading_behind, reading_code, reading_if, reading_token, shebang_reading, shebang_token, spanned, stands_shebang, token_reading}
+use Rattle.ecma_state.specs.Reading.{Reading, behind_gap, gap_in, reading, reading_again, reading_behind, reading_code, reading_if, shebang_reading, shebang_token, spanned, token_reading}
 use Rattle.ecma_state.specs.State.{is_error, is_slash}
 use Rattle.ecma_state.specs.TokenAt.{is_empty, opening, read_opened, token_at, token_comments, token_found, token_of}
 use Rattle.ecma_state.specs.declared.opening.Opening.{Opening}

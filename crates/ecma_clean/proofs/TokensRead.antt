@@ -1,6 +1,5 @@
 -- A token that was found at a place, and the same token by its own characters.
-use Rattle.std.proofs.Common.{◌≡◌, ◌∙◌, ℕ, ◌+◌, ◌-◌, Bool, true, false, ◌||◌, List, [], ◌∷◌, ◌++◌, Option, Some, None, Result, Ok, Err, append_assoc, drop, length, take, take-append-drop, refl, sym, ap, subst, arith}
-use Rattle.clean_runs.specs.Grammar.{Token}
+use Rattle.std.proofs.Common.{◌≡◌, ◌∙◌, ℕ, ◌+◌, ◌-◌, Bool, false, ◌||◌, ◌∷◌, ◌++◌, Result, Ok, Err, append_assoc, drop, length, take, take-append-drop, refl, sym, ap, subst, arith}
 use Rattle.ecma_place.specs.Cursor.{Cursor, place, rest}
 use Rattle.ecma_place.specs.Text.{Text, byte_len, place_of, slice_between}
 use Rattle.ecma_place.specs.declared.place.Span.{Span}

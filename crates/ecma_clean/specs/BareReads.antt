@@ -1,5 +1,5 @@
 -- What one read finds without places: a token by its own characters, where nothing is wrong that is recorded.
-use Rattle.std.specs.Prelude.{Bool, true, false, not, ◌||◌, ◌==◌, List, [], ◌∷◌, ◌++◌, codes, drop, Option, Some, None}
+use Rattle.std.specs.Prelude.{Bool, true, false, not, ◌||◌, List, [], ◌∷◌, ◌++◌, codes, Option, Some, None}
 use Rattle.std.specs.List.{list_any}
 use Rattle.clean_runs.specs.Grammar.{Token, Found, token, ended, faulty}
 use Rattle.ecma_place.specs.Text.{Text}

@@ -1,5 +1,5 @@
 -- The lexer's grammar, as clean runs see it.
-use Rattle.std.specs.Prelude.{Bool, true, false, List, [], ◌∷◌, Option, Some, None}
+use Rattle.std.specs.Prelude.{Bool, false, List, [], ◌∷◌, Option, Some, None}
 use Rattle.clean_runs.specs.Grammar.{Counting, Grammar, read, set, reread, withdraw}
 use Rattle.clean_runs.specs.Parts as parts
 use Rattle.clean_runs.specs.Parts.{Parts, PartLaws, Role, grammar}
