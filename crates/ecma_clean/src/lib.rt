@@ -1,2 +1,5 @@
-//! Clean runs and the canonical text of what they keep: definitions, and rows of them. No call makes the text yet.
+//! Clean runs and the canonical text of what they keep: definitions and laws, and the lexer's grammar as the theorem over
+//! any grammar sees it.
 #![tactic(auto)]
+
+pub mod laws;
