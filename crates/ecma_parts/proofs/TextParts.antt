@@ -15,10 +15,10 @@ use Rattle.ecma_state.specs.Transition.{tpl_on_top, transition}
 use Rattle.ecma_token.specs.Kinds.{kind_of}
 use Rattle.ecma_token.specs.View.{ErrorView, plain_token}
 use Rattle.ecma_token.specs.declared.kind.TokenKind.TheVariants.{BackQuote, DollarLBrace, Shebang, Template}
-use Rattle.ecma_clean.proofs.PlainBearings.{IsPlain, plain_behind, shebang_keeps, template_keeps}
-use Rattle.ecma_clean.specs.BareReads.{Bare, bare, bare_mark, bare_shebang, bare_text, mark_if, pieces_of}
-use Rattle.ecma_clean.specs.Bearing.{Bearing, before_in, behind_kind, turned_in}
-use Rattle.ecma_clean.specs.Instance.{role_of}
+use Rattle.ecma_parts.proofs.PlainBearings.{IsPlain, plain_behind, shebang_keeps, template_keeps}
+use Rattle.ecma_parts.specs.BareReads.{Bare, bare, bare_mark, bare_shebang, bare_text, mark_if, pieces_of}
+use Rattle.ecma_parts.specs.Bearing.{Bearing, before_in, behind_kind, turned_in}
+use Rattle.ecma_parts.specs.Instance.{role_of}
 
 -- Template text
 

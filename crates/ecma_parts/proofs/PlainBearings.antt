@@ -9,8 +9,8 @@ use Rattle.ecma_state.specs.Transition.{tpl_on_top, transition}
 use Rattle.ecma_state.specs.declared.token_context.TokenContext.TheVariants.{JSXExpr, Tpl}
 use Rattle.ecma_token.specs.declared.kind.TokenKind.{TokenKind}
 use Rattle.ecma_token.specs.declared.kind.TokenKind.TheVariants.{Regex, Shebang, Template}
-use Rattle.ecma_clean.specs.Bearing.{Bearing, behind_kind, turned_in}
-use Rattle.ecma_clean.specs.Instance.{was_shebang}
+use Rattle.ecma_parts.specs.Bearing.{Bearing, behind_kind, turned_in}
+use Rattle.ecma_parts.specs.Instance.{was_shebang}
 
 -- what plain steps keep: plain contexts, and that no token but a shebang was given at the start and behind a shebang
 pub record IsPlain (b : Bearing) : Type 0 where

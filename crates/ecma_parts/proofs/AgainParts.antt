@@ -18,11 +18,11 @@ use Rattle.ecma_token.specs.Kinds.{kind_of}
 use Rattle.ecma_token.specs.View.{ErrorView, TokenView}
 use Rattle.ecma_token.specs.declared.kind.TokenKind.{TokenKind}
 use Rattle.ecma_token.specs.declared.kind.TokenKind.TheVariants.{BackQuote, RBrace, RParen, Regex, Shebang, Template}
-use Rattle.ecma_clean.proofs.CodeReading.{clean_by}
-use Rattle.ecma_clean.proofs.PlainBearings.{IsPlain, expression_keeps, or_none, plain_behind}
-use Rattle.ecma_clean.specs.BareReads.{Bare, again_from, again_if, any_recorded, bare, bare_again, is_refused}
-use Rattle.ecma_clean.specs.Bearing.{Bearing, behind_kind, turned_in}
-use Rattle.ecma_clean.specs.Instance.{role_of}
+use Rattle.ecma_parts.proofs.CodeReading.{clean_by}
+use Rattle.ecma_parts.proofs.PlainBearings.{IsPlain, expression_keeps, or_none, plain_behind}
+use Rattle.ecma_parts.specs.BareReads.{Bare, again_from, again_if, any_recorded, bare, bare_again, is_refused}
+use Rattle.ecma_parts.specs.Bearing.{Bearing, behind_kind, turned_in}
+use Rattle.ecma_parts.specs.Instance.{role_of}
 
 -- Expressions that are read again
 

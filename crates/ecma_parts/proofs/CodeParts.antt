@@ -34,12 +34,12 @@ use Rattle.ecma_token.specs.Kinds.{kind_of}
 use Rattle.ecma_token.specs.View.{ErrorView, TokenView, error_token, plain_token, refused_template}
 use Rattle.ecma_token.specs.declared.kind.TokenKind.{TokenKind}
 use Rattle.ecma_token.specs.declared.kind.TokenKind.TheVariants.{BackQuote, RBrace, RParen, Shebang, Template}
-use Rattle.ecma_clean.proofs.AgainParts.{IsAgain, is_again, slashed}
-use Rattle.ecma_clean.proofs.CodeReading.{CodeRead, IsFound, clean_by, code_read, gap_of, read_again, read_behind, value_is}
-use Rattle.ecma_clean.proofs.PlainBearings.{IsPlain, keeps_none, no_template, or_none, plain_behind}
-use Rattle.ecma_clean.specs.BareReads.{Bare, code, found_behind}
-use Rattle.ecma_clean.specs.Bearing.{Bearing, bare_mode, before_in, behind_kind, turned_in}
-use Rattle.ecma_clean.specs.Instance.{lexer_grammar, role_of, was_shebang}
+use Rattle.ecma_parts.proofs.AgainParts.{IsAgain, is_again, slashed}
+use Rattle.ecma_parts.proofs.CodeReading.{CodeRead, IsFound, clean_by, code_read, gap_of, read_again, read_behind, value_is}
+use Rattle.ecma_parts.proofs.PlainBearings.{IsPlain, keeps_none, no_template, or_none, plain_behind}
+use Rattle.ecma_parts.specs.BareReads.{Bare, code, found_behind}
+use Rattle.ecma_parts.specs.Bearing.{Bearing, bare_mode, before_in, behind_kind, turned_in}
+use Rattle.ecma_parts.specs.Instance.{lexer_grammar, role_of, was_shebang}
 
 -- Texts before which a token is read again
 

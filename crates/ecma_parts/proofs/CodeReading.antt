@@ -21,8 +21,8 @@ use Rattle.ecma_state.specs.TokenAt.{is_empty, token_at, token_of}
 use Rattle.ecma_syntax.specs.declared.context.Context.{Context}
 use Rattle.ecma_token.specs.Kinds.{kind_of}
 use Rattle.ecma_token.specs.View.{ErrorView, TokenView}
-use Rattle.ecma_clean.specs.BareReads.{Bare, any_recorded, bare, code, end_if, found_behind, is_recorded, is_refused, token_behind_gap, token_if}
-use Rattle.ecma_clean.specs.Bearing.{Bearing, bare_mode}
+use Rattle.ecma_parts.specs.BareReads.{Bare, any_recorded, bare, code, end_if, found_behind, is_recorded, is_refused, token_behind_gap, token_if}
+use Rattle.ecma_parts.specs.Bearing.{Bearing, bare_mode}
 
 -- the gap of a read, and what it reads of code behind one
 abbrev pub gap_of : Bearing → GapMode

@@ -29,12 +29,12 @@ use Rattle.ecma_place.specs.declared.place.BytePos.{BytePos}
 use Rattle.ecma_place.specs.declared.comment.Comment.{Comment}
 use Rattle.ecma_token.specs.Kinds.{kind_of}
 use Rattle.ecma_token.specs.View.{SpannedView, TokenView}
-use Rattle.ecma_clean.specs.BareReads.{Bare, again_from, any_recorded, bare, bare_again, bare_shebang, code, end_if, found_behind, is_recorded, is_refused, again_if, token_if}
-use Rattle.ecma_clean.specs.Bearing.{Bearing, bare_mode, mode_at}
-use Rattle.ecma_clean.specs.Instance.{lexer_grammar, lexer_parts}
-use Rattle.ecma_clean.proofs.Cleanly.{reads-cleanly}
-use Rattle.ecma_clean.proofs.TemplateCode.{template_is_code}
-use Rattle.ecma_clean.proofs.TokensRead.{Stands, placed-break, placed-kind, placed-token, kind-behind, stands-found, value-token}
+use Rattle.ecma_parts.specs.BareReads.{Bare, again_from, any_recorded, bare, bare_again, bare_shebang, code, end_if, found_behind, is_recorded, is_refused, again_if, token_if}
+use Rattle.ecma_parts.specs.Bearing.{Bearing, bare_mode, mode_at}
+use Rattle.ecma_parts.specs.Instance.{lexer_grammar, lexer_parts}
+use Rattle.ecma_parts.proofs.Cleanly.{reads-cleanly}
+use Rattle.ecma_parts.proofs.TemplateCode.{template_is_code}
+use Rattle.ecma_clean_reads.proofs.TokensRead.{Stands, placed-break, placed-kind, placed-token, kind-behind, stands-found, value-token}
 
 -- Faults of a gap and of a token
 

@@ -7,8 +7,8 @@ use Rattle.ecma_state.specs.Disposition.{Disposition, Dropped, Errors, Recorded,
 use Rattle.ecma_state.specs.TokenAt.{is_empty}
 use Rattle.ecma_syntax.specs.declared.context.Context.{Context}
 use Rattle.ecma_token.specs.View.{ErrorView}
-use Rattle.ecma_clean.specs.BareReads.{any_recorded, is_recorded}
-use Rattle.ecma_clean.proofs.Spoiling.{faults-some}
+use Rattle.ecma_parts.specs.BareReads.{any_recorded, is_recorded}
+use Rattle.ecma_clean_reads.proofs.Spoiling.{faults-some}
 
 abbrev becomes : Bool → Disposition
 becomes true = Recorded

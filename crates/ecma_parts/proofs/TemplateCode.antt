@@ -24,12 +24,12 @@ use Rattle.ecma_state.specs.Transition.{tpl_on_top}
 use Rattle.ecma_state.specs.declared.token_context.TokenContext.TheVariants.{Tpl}
 use Rattle.ecma_token.specs.Kinds.{kind_of}
 use Rattle.ecma_token.specs.View.{ErrorView, TokenView}
-use Rattle.ecma_clean.proofs.CodeParts.{code_end}
-use Rattle.ecma_clean.proofs.CodeReading.{gap_of}
-use Rattle.ecma_clean.proofs.PlainBearings.{or_none}
-use Rattle.ecma_clean.specs.BareReads.{Bare, bare, bare_mark, bare_text, code, found_behind, mark_if, pieces_of, token_behind_gap, token_if}
-use Rattle.ecma_clean.specs.Bearing.{Bearing, bare_mode}
-use Rattle.ecma_clean.specs.Instance.{lexer_parts}
+use Rattle.ecma_parts.proofs.CodeParts.{code_end}
+use Rattle.ecma_parts.proofs.CodeReading.{gap_of}
+use Rattle.ecma_parts.proofs.PlainBearings.{or_none}
+use Rattle.ecma_parts.specs.BareReads.{Bare, bare, bare_mark, bare_text, code, found_behind, mark_if, pieces_of, token_behind_gap, token_if}
+use Rattle.ecma_parts.specs.Bearing.{Bearing, bare_mode}
+use Rattle.ecma_parts.specs.Instance.{lexer_parts}
 
 -- what is found where no gap stands
 abbrev found_as : Bearing → Text → Scanned TokenView → Found TokenView

@@ -1,5 +1,5 @@
 -- The lexer's grammar keeps the laws of parts.
-use Rattle.std.proofs.Common.{[], ◌≡◌, Some, refl, ap}
+use Rattle.std.proofs.Common.{◌≡◌, Some, refl, ap}
 use Rattle.clean_runs.specs.Parts.{Keeps, is_line, is_text}
 use Rattle.ecma_joining.proofs.TextsLaws.{texts_stand_alone}
 use Rattle.ecma_state.specs.Mode.{is_tpl_element}
@@ -10,14 +10,14 @@ use Rattle.ecma_state.specs.declared.settings.Settings.{Settings}
 use Rattle.ecma_token.specs.Kinds.{kind_of}
 use Rattle.ecma_token.specs.declared.kind.TokenKind.{TokenKind}
 use Rattle.ecma_token.specs.declared.kind.TokenKind.TheVariants.{BackQuote, RBrace, RParen, Shebang, Template}
-use Rattle.ecma_clean.proofs.AgainParts.{again_kind, regex_again, regex_flag, regex_inside, regex_plain, slash_role}
-use Rattle.ecma_clean.proofs.CodeParts.{code_end, code_first, code_line, code_next, code_no_shebang, code_opens, code_plain, code_role}
-use Rattle.ecma_clean.proofs.PlainBearings.{IsPlain, shebang_keeps}
-use Rattle.ecma_clean.proofs.TextParts.{closing_again, closing_closes, closing_opens, closing_plain, closing_role, closing_slash, shebang_again, shebang_begins, shebang_plain, text_inside, text_kind, text_plain}
-use Rattle.ecma_clean.specs.BareReads.{bare_shebang}
-use Rattle.ecma_clean.specs.Bearing.{Bearing, bearing_of}
-use Rattle.ecma_clean.specs.Instance.{Allowing, Change, InContext, Nothing, PartsKeep, changed, lexer_parts, role_of, was_shebang}
-use Rattle.ecma_clean.specs.Sharing.{begin}
+use Rattle.ecma_parts.proofs.AgainParts.{again_kind, regex_again, regex_flag, regex_inside, regex_plain, slash_role}
+use Rattle.ecma_parts.proofs.CodeParts.{code_end, code_first, code_line, code_next, code_no_shebang, code_opens, code_plain, code_role}
+use Rattle.ecma_parts.proofs.PlainBearings.{IsPlain, shebang_keeps}
+use Rattle.ecma_parts.proofs.TextParts.{closing_again, closing_closes, closing_opens, closing_plain, closing_role, closing_slash, shebang_again, shebang_begins, shebang_plain, text_inside, text_kind, text_plain}
+use Rattle.ecma_parts.specs.BareReads.{bare_shebang}
+use Rattle.ecma_parts.specs.Bearing.{Bearing, bearing_of}
+use Rattle.ecma_parts.specs.Instance.{Allowing, Change, InContext, Nothing, PartsKeep, changed, lexer_parts, role_of, was_shebang}
+use Rattle.ecma_place.specs.Cursor.{Cursor}
 
 change_plain : (b : Bearing) (change : Change) → IsPlain b → IsPlain (changed change b)
 change_plain b (InContext context) plain = record { contexts = plain.contexts; start = plain.start; line = plain.line }
@@ -97,6 +97,6 @@ lexer_parts_keep =
     }
 
 -- a session begins plainly
-pub start_is_plain : (settings : Settings) → lexer_parts_keep.Plainly (bearing_of (start_of settings (begin 0 [])))
+pub start_is_plain : (settings : Settings) (input : Cursor) → lexer_parts_keep.Plainly (bearing_of (start_of settings input))
 unfolding lexer_parts_keep
-start_is_plain settings = record { contexts = refl; start = λ none. refl; line = λ line. cc }
+start_is_plain settings input = record { contexts = refl; start = λ none. refl; line = λ line. cc }
