@@ -1,6 +1,13 @@
 //! The canonical text of a clean run.
-ghost use Rattle.std.specs.Prelude.{◌≡◌, ◌+◌, ◌<◌, ◌^◌, length, IfOk};
+ghost use Rattle.std.specs.Prelude.{◌≡◌, ◌+◌, ◌<◌, ◌^◌, not, length, IfOk};
+ghost use Rattle.std.specs.List.{list_all};
 ghost use Rattle.std.specs.Str.{chars};
+ghost use Rattle.ecma_place.specs.Cursor.{Cursor};
+ghost use Rattle.ecma_state.specs.Run.{start_of};
+ghost use Rattle.ecma_state.specs.State.{is_error};
+ghost use Rattle.ecma_state.specs.declared.settings.Settings.{Settings};
+ghost use Rattle.ecma_clean.specs.Clean as clean;
+ghost use Rattle.ecma_replay.specs.Replay.{Replays};
 ghost use Rattle.ecma_canonical.specs.Canonical.{IsCanon};
 
 use crate::joined::canonical_text;
@@ -27,17 +34,24 @@ pub enum Canon {
 }
 
 /// No kept token is an error.
-fn has_no_error(kept: &[Kept]) -> bool {
+fn has_no_error(kept: &[Kept]) -> bool
+    ensures { result ≡ list_all (λ k. not (is_error k.kind)) kept.now }
+{
     kept.iter().all(|token| token.kind != TokenKind::Error)
 }
 
 /// Whether the run that was played by these steps is clean.
-fn is_clean(alloc: Global, steps: &[Step], played: &Replay) -> Result<bool, AllocError> {
+fn is_clean(alloc: Global, steps: &[Step], played: &Replay) -> Result<bool, AllocError>
+    requires { length played.now.answers.items ≡ length steps.now }
+    ensures { (settings : Settings) (input : Cursor) → Replays (start_of settings input) steps.now played.now → IfOk result (λ b. b ≡ clean.is_clean settings input steps.now) }
+{
     let is_plain = steps_are_clean(alloc, steps, played.answers.as_slice())?;
-    Ok(is_plain
-        && played.ended
-        && has_no_error(played.kept.as_slice())
-        && played.errors.as_slice().is_empty())
+    Ok(
+        is_plain
+            && played.ended
+            && has_no_error(played.kept.as_slice())
+            && played.errors.as_slice().is_empty(),
+    )
 }
 
 /// The canonical text of a list of steps over a text that starts at a place.

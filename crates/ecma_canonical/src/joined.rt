@@ -2,7 +2,8 @@
 ghost use Rattle.std.specs.Prelude.{◌≡◌, ◌+◌, ◌<◌, ◌^◌, ◌++◌, length, map, string_bytes, encode_utf8_all, IfOk};
 ghost use Rattle.std.specs.List.{All};
 ghost use Rattle.std.specs.Str.{chars};
-ghost use Rattle.ecma_clean.specs.Canonical.{canonical_of, own_in};
+ghost use Rattle.clean_runs.specs.Parts.{joint};
+ghost use Rattle.ecma_clean.specs.Canonical.{canonical_of, is_template_text, own_in};
 ghost use Rattle.ecma_clean.specs.Sharing.{begin};
 ghost use Rattle.ecma_canonical.specs.Joined.{StandsIn, between_behind};
 
@@ -22,7 +23,9 @@ fn between(before: Option<TokenKind>, token: &Kept) -> &'static str
 }
 
 /// The same behind a token that isn't template text.
-fn before_token(token: &Kept) -> &'static str {
+fn before_token(token: &Kept) -> &'static str
+    ensures { result.now ≡ joint (is_template_text token.now.kind) token.now.flag }
+{
     if token.kind == TokenKind::Template {
         ""
     } else if token.flag {
