@@ -1,67 +1,90 @@
--- The canonical text, token by token.
-use Rattle.std.proofs.Common.{◌≡◌, ◌∙◌, ℕ, ◌+◌, ◌<◌, List, [], ◌∷◌, ◌++◌, append_assoc, append-nil, Option, Some, None, take, map, get_or, length, refl, sym, ap, encode_utf8_all}
+-- Joining one more token.
+use Rattle.std.proofs.Common.{◌≡◌, ◌∙◌, ℕ, ◌+◌, ◌<◌, Bool, true, false, ◌||◌, List, [], ◌∷◌, ◌++◌, Option, Some, None, append-nil, append_assoc, encode_utf8_all, get_or, length, map, take, refl, sym, ap, arith}
 use Rattle.std.proofs.lemmas.List.{map-append, take_more}
 use Rattle.std.proofs.lemmas.Str.{encodes-append}
+use Rattle.clean_runs.specs.Parts.{joint}
 use Rattle.ecma_place.specs.Cursor.{Cursor}
-use Rattle.ecma_place.specs.Text.{Text}
-use Rattle.ecma_clean.specs.Canonical.{Own, between, canonical_behind, canonical_of, own_in}
-use Rattle.ecma_canonical.specs.Joined.{between_behind, last_behind, last_kind}
+use Rattle.ecma_place.specs.Text.{Text, slice_between}
 use Rattle.ecma_state.specs.declared.kept.Kept.{Kept}
 use Rattle.ecma_token.specs.declared.kind.TokenKind.{TokenKind}
+use Rattle.ecma_clean.specs.Canonical.{Own, between, canonical_behind, canonical_of, is_template_text, own_in}
+use Rattle.ecma_canonical.specs.Joined.{between_behind, last_kind}
 
--- one more token behind those that stand behind a token
-behind-more : (input : Cursor) (p : Own) (us : List Own) (k : Kept) → canonical_behind p (us ++ own_in input k ∷ []) ≡ canonical_behind p us ++ (between_behind (Some (last_behind p.kind us)) k ++ (own_in input k).text)
-behind-more input p [] k = ap (λ more. between p (own_in input k) ++ more) (append-nil (own_in input k).text)
-behind-more input p (u ∷ us) k =
-    let more = between_behind (Some (last_behind u.kind us)) k ++ (own_in input k).text in
-    ap (λ x. between p u ++ (u.text ++ x)) (behind-more input u us k)
-    ∙ ap (λ x. between p u ++ x) (sym (append_assoc u.text (canonical_behind u us) more))
-    ∙ sym (append_assoc (between p u) (u.text ++ canonical_behind u us) more)
+-- what stands before a token without its place
+abbrev before_own : Option Own → Own → Text
+before_own None u = []
+before_own (Some p) u = between p u
 
-one-more : (input : Cursor) (us : List Own) (k : Kept) → canonical_of (us ++ own_in input k ∷ []) ≡ canonical_of us ++ (between_behind (last_kind us) k ++ (own_in input k).text)
-one-more input [] k = append-nil (own_in input k).text
-one-more input (u ∷ us) k =
-    ap (λ x. u.text ++ x) (behind-more input u us k)
-    ∙ sym (append_assoc u.text (canonical_behind u us) (between_behind (Some (last_behind u.kind us)) k ++ (own_in input k).text))
+abbrev last_own : List Own → Option Own
+last_own [] = None
+last_own (u ∷ []) = Some u
+last_own (u ∷ (v ∷ us)) = last_own (v ∷ us)
 
-behind-last : (kind : TokenKind) (us : List Own) (u : Own) → last_behind kind (us ++ u ∷ []) ≡ u.kind
-behind-last kind [] u = refl
-behind-last kind (v ∷ us) u = behind-last v.kind us u
+behind-more : (p : Own) (us : List Own) (u : Own) → canonical_behind p (us ++ u ∷ []) ≡ canonical_behind p us ++ (before_own (last_own (p ∷ us)) u ++ u.text)
+behind-more p [] u = ap (λ t. between p u ++ t) (append-nil u.text)
+behind-more p (v ∷ us) u =
+    let more : Text = before_own (last_own (v ∷ us)) u ++ u.text in
+    ap (λ t. between p v ++ (v.text ++ t)) (behind-more v us u)
+    ∙ sym (append_assoc (between p v) (v.text ++ canonical_behind v us) more ∙ ap (λ t. between p v ++ t) (append_assoc v.text (canonical_behind v us) more))
+
+joined-more : (us : List Own) (u : Own) → canonical_of (us ++ u ∷ []) ≡ canonical_of us ++ (before_own (last_own us) u ++ u.text)
+joined-more [] u = append-nil u.text
+joined-more (v ∷ us) u =
+    let more : Text = before_own (last_own (v ∷ us)) u ++ u.text in
+    ap (λ t. v.text ++ t) (behind-more v us u) ∙ sym (append_assoc v.text (canonical_behind v us) more)
+
+-- the kind of the last token is all that is asked of it
+before-kind : (c : Cursor) (us : List Own) (k : Kept) → before_own (last_own us) (own_in c k) ≡ between_behind (last_kind us) k
+before-kind c [] k = refl
+before-kind c (u ∷ []) k = refl
+before-kind c (u ∷ (v ∷ us)) k = before-kind c (v ∷ us) k
 
 last-more : (us : List Own) (u : Own) → last_kind (us ++ u ∷ []) ≡ Some u.kind
 last-more [] u = refl
-last-more (v ∷ us) u = ap (λ kind. Some kind) (behind-last v.kind us u)
+last-more (v ∷ []) u = refl
+last-more (v ∷ (w ∷ us)) u = last-more (w ∷ us) u
 
--- the tokens so far, without their places
-abbrev pub so_far : Cursor → List Kept → ℕ → List Own
-so_far input ks i = map (own_in input) (take i ks)
+-- the kept tokens up to one more
+owned-more : (c : Cursor) (ks : List Kept) (i : ℕ) (d : Kept) → i < length ks → map (own_in c) (take (i + 1) ks) ≡ map (own_in c) (take i ks) ++ own_in c (get_or ks i d) ∷ []
+owned-more c ks i d h = ap (map (own_in c)) (take_more ks i d h) ∙ map-append (own_in c) (take i ks) (get_or ks i d ∷ [])
 
-so_far-more : (input : Cursor) (ks : List Kept) (i : ℕ) (d : Kept) → i < length ks → so_far input ks (i + 1) ≡ so_far input ks i ++ own_in input (get_or ks i d) ∷ []
-so_far-more input ks i d h =
-    ap (map (own_in input)) (take_more ks i d h) ∙ map-append (own_in input) (take i ks) (get_or ks i d ∷ [])
+pub last_one-more : (c : Cursor) (ks : List Kept) (i : ℕ) (d : Kept) → i < length ks → last_kind (map (own_in c) (take (i + 1) ks)) ≡ Some (get_or ks i d).kind
+last_one-more c ks i d h = ap last_kind (owned-more c ks i d h) ∙ last-more (map (own_in c) (take i ks)) (own_in c (get_or ks i d))
 
--- the bytes with one more token
-pub joined-more : (input read : Cursor) → read ≡ input → (ks : List Kept) (i : ℕ) (d : Kept) → i < length ks
-    → (before : Option TokenKind) → before ≡ last_kind (so_far input ks i) → (old gap gapped own new : List ℕ) → old ≡ encode_utf8_all (canonical_of (so_far input ks i))
-    → gap ≡ encode_utf8_all (between_behind before (get_or ks i d)) → gapped ≡ old ++ gap → own ≡ encode_utf8_all (own_in read (get_or ks i d)).text → new ≡ gapped ++ own
-    → new ≡ encode_utf8_all (canonical_of (so_far input ks (i + 1)))
-joined-more input read reads ks i d below before last old gap gapped own new joined gap_is pushed own_is appended =
-    let us = so_far input ks i in
-    let k = get_or ks i d in
-    let text = canonical_of us in
-    let between : Text = between_behind (last_kind us) k in
-    let chars : Text = (own_in input k).text in
-    let gap_text : gap ≡ encode_utf8_all between = gap_is ∙ ap (λ kind. encode_utf8_all (between_behind kind k)) last in
-    let own_text : own ≡ encode_utf8_all chars = own_is ∙ ap (λ (c : Cursor). encode_utf8_all (own_in c k).text) reads in
-    appended
-    ∙ ap (λ x. x ++ own) (pushed ∙ ap (λ x. x ++ gap) joined ∙ ap (λ x. encode_utf8_all text ++ x) gap_text)
-    ∙ ap (λ x. (encode_utf8_all text ++ encode_utf8_all between) ++ x) own_text
-    ∙ append_assoc (encode_utf8_all text) (encode_utf8_all between) (encode_utf8_all chars)
-    ∙ ap (λ x. encode_utf8_all text ++ x) (sym (encodes-append between chars))
-    ∙ sym (encodes-append text (between ++ chars))
-    ∙ ap encode_utf8_all (sym (one-more input us k))
-    ∙ ap (λ us. encode_utf8_all (canonical_of us)) (sym (so_far-more input ks i d below))
+joined_one-more : (c : Cursor) (ks : List Kept) (i : ℕ) (d : Kept) → i < length ks
+    → let k = get_or ks i d in encode_utf8_all (canonical_of (map (own_in c) (take (i + 1) ks)))
+    ≡ (encode_utf8_all (canonical_of (map (own_in c) (take i ks))) ++ encode_utf8_all (between_behind (last_kind (map (own_in c) (take i ks))) k)) ++ encode_utf8_all (slice_between c.start c.text k.span.lo.0 k.span.hi.0)
+joined_one-more c ks i d h =
+    let k : Kept = get_or ks i d in
+    let us : List Own = map (own_in c) (take i ks) in
+    let u : Own = own_in c k in
+    let before : Text = between_behind (last_kind us) k in
+    ap (λ l. encode_utf8_all (canonical_of l)) (owned-more c ks i d h)
+    ∙ ap encode_utf8_all (joined-more us u ∙ ap (λ t. canonical_of us ++ (t ++ u.text)) (before-kind c us k))
+    ∙ encodes-append (canonical_of us) (before ++ u.text)
+    ∙ ap (λ bs. encode_utf8_all (canonical_of us) ++ bs) (encodes-append before u.text)
+    ∙ sym (append_assoc (encode_utf8_all (canonical_of us)) (encode_utf8_all before) (encode_utf8_all u.text))
 
-pub last_kind-more : (input : Cursor) (ks : List Kept) (i : ℕ) (d : Kept) → i < length ks → Some (get_or ks i d).kind ≡ last_kind (so_far input ks (i + 1))
-last_kind-more input ks i d h =
-    sym (ap last_kind (so_far-more input ks i d h) ∙ last-more (so_far input ks i) (own_in input (get_or ks i d)))
+-- a separator is written as its bytes
+joint_bytes : (b flag : Bool) → encode_utf8_all (joint b flag) ≡ joint b flag
+unfolding lib.Utf8.encode
+joint_bytes true flag = refl
+joint_bytes false true = refl
+joint_bytes false false = refl
+
+between_bytes : (before : Option TokenKind) (k : Kept) → encode_utf8_all (between_behind before k) ≡ between_behind before k
+between_bytes None k = refl
+between_bytes (Some kind) k = joint_bytes (is_template_text kind || is_template_text k.kind) k.flag
+
+-- what was joined so far, what stands between, and the token's own characters are what is joined with it
+pub joins_on : (c input : Cursor) (ks : List Kept) (i : ℕ) (d : Kept) (old mid new between own : List ℕ) (before : Option TokenKind) → input ≡ c → i < length ks → old ≡ encode_utf8_all (canonical_of (map (own_in c) (take i ks)))
+    → before ≡ last_kind (map (own_in c) (take i ks)) → between ≡ between_behind before (get_or ks i d) → mid ≡ old ++ between
+    → own ≡ encode_utf8_all (slice_between input.start input.text (get_or ks i d).span.lo.0 (get_or ks i d).span.hi.0) → new ≡ mid ++ own → new ≡ encode_utf8_all (canonical_of (map (own_in c) (take (i + 1) ks)))
+joins_on c input ks i d old mid new between own before same h so_far last stands first slice second =
+    let k : Kept = get_or ks i d in
+    let us : List Own = map (own_in c) (take i ks) in
+    let written : between ≡ encode_utf8_all (between_behind (last_kind us) k) = stands ∙ ap (λ kind. between_behind kind k) last ∙ sym (between_bytes (last_kind us) k) in
+    second
+    ∙ ap (λ bs. bs ++ own) (first ∙ ap (λ bs. bs ++ between) so_far ∙ ap (λ bs. encode_utf8_all (canonical_of us) ++ bs) written)
+    ∙ ap (λ bs. (encode_utf8_all (canonical_of us) ++ encode_utf8_all (between_behind (last_kind us) k)) ++ bs) (slice ∙ ap (λ (x : Cursor). encode_utf8_all (slice_between x.start x.text k.span.lo.0 k.span.hi.0)) same)
+    ∙ sym (joined_one-more c ks i d h)

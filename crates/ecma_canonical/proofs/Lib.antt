@@ -1,4 +1,4 @@
 pub mod CleanLemmas
 pub mod JoinedLemmas
-pub mod KeptLemmas
+pub mod KeptPlaces
 pub mod WatchLemmas

@@ -18,12 +18,8 @@ abbrev pub between_behind : Option TokenKind → Kept → Text
 between_behind None k = []
 between_behind (Some kind) k = joint (is_template_text kind || is_template_text k.kind) k.flag
 
--- the kind of the last of some tokens that stand behind one of a kind
-abbrev pub last_behind : TokenKind → List Own → TokenKind
-last_behind kind [] = kind
-last_behind kind (u ∷ us) = last_behind u.kind us
-
--- the kind of the last token, where there is one
+-- the kind of the last token
 abbrev pub last_kind : List Own → Option TokenKind
 last_kind [] = None
-last_kind (u ∷ us) = Some (last_behind u.kind us)
+last_kind (u ∷ []) = Some u.kind
+last_kind (u ∷ (v ∷ us)) = last_kind (v ∷ us)

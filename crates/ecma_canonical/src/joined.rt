@@ -14,7 +14,7 @@ use std::alloc::{AllocError, Global};
 
 /// What stands between the token of a kind, where there is one, and the token behind it.
 fn between(before: Option<TokenKind>, token: &Kept) -> &'static str
-    ensures { result.now ≡ encode_utf8_all (between_behind before token.now) }
+    ensures { result.now ≡ between_behind before token.now }
 {
     match before {
         None | Some(TokenKind::Template) => "",
@@ -24,7 +24,7 @@ fn between(before: Option<TokenKind>, token: &Kept) -> &'static str
 
 /// The same behind a token that isn't template text.
 fn before_token(token: &Kept) -> &'static str
-    ensures { result.now ≡ encode_utf8_all (joint (is_template_text token.now.kind) token.now.flag) }
+    ensures { result.now ≡ joint (is_template_text token.now.kind) token.now.flag }
 {
     if token.kind == TokenKind::Template {
         ""

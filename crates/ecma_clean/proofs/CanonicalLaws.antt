@@ -1,12 +1,12 @@
 -- The laws of canonical texts.
-use Rattle.std.proofs.Common.{◌≡◌, ◌∙◌, ℕ, Bool, true, false, not, ◌&&◌, ◌||◌, List, [], ◌∷◌, ◌++◌, Option, Some, None, append-nil, map, reverse, refl, sym, ap, subst}
+use Rattle.std.proofs.Common.{◌≡◌, ◌∙◌, ℕ, true, false, ◌&&◌, ◌||◌, List, [], ◌∷◌, ◌++◌, Option, Some, append-nil, map, reverse, refl, sym, ap, subst}
 use Rattle.std.proofs.lemmas.Bool.{and_parts}
 use Rattle.std.proofs.lemmas.List.{map-append, reverse-reverse}
 use Rattle.std.proofs.lemmas.Grind.{reverse_onto}
 use Rattle.std.specs.List.{list_all}
 use Rattle.clean_runs.specs.Clean.{canon, canon_behind}
-use Rattle.clean_runs.specs.Grammar.{Counting, Laws, first}
-use Rattle.clean_runs.specs.Moments.{Moment, moments}
+use Rattle.clean_runs.specs.Grammar.{Counting, Laws}
+use Rattle.clean_runs.specs.Moments.{Moment}
 use Rattle.clean_runs.specs.Parts.{is_text, joint}
 use Rattle.clean_runs.specs.Walk.{IsClean, Walked, walk_first}
 use Rattle.clean_runs.proofs.Alike.{run_alike}
@@ -15,27 +15,24 @@ use Rattle.clean_runs.proofs.WalkLemmas.{walk_first-clean, walk_first-complete}
 use Rattle.ecma_place.specs.Cursor.{Cursor}
 use Rattle.ecma_place.specs.Text.{Text}
 use Rattle.ecma_state.specs.Counting.{counting}
-use Rattle.ecma_state.specs.Run.{act_all, act_on, session, start_of}
+use Rattle.ecma_state.specs.Run.{act_on, session, start_of}
 use Rattle.ecma_state.specs.Session.{Session, kept_back, kept_of, kept_tokens}
 use Rattle.ecma_state.specs.TokenAt.{is_empty}
-use Rattle.ecma_state.specs.declared.kept.Kept.{Kept}
 use Rattle.ecma_state.specs.declared.settings.Settings.{Settings}
 use Rattle.ecma_state.specs.declared.step.Step.{Step}
 use Rattle.ecma_state.specs.declared.step.Step.TheVariants.{Read, SetCtx, SetExprAllowed, SetContexts, PopContext, Reread, Withdraw, Save, Back, TakeErrors}
 use Rattle.ecma_token.specs.Kinds.{kind_of}
-use Rattle.ecma_token.specs.View.{SpannedView, TokenView}
+use Rattle.ecma_token.specs.View.{TokenView}
 use Rattle.ecma_token.specs.declared.kind.TokenKind.{TokenKind}
 use Rattle.ecma_token.specs.declared.kind.TokenKind.TheVariants.{Template}
-use Rattle.ecma_clean.specs.BareReads.{Bare}
-use Rattle.ecma_clean.specs.Bearing.{Bearing, bearing_of}
-use Rattle.ecma_clean.specs.Canonical.{Own, between, canonical_behind, canonical_of, is_template_text, own_in}
-use Rattle.ecma_clean.specs.Clean.{each_step, is_clean, is_plain_step}
-use Rattle.ecma_clean.specs.Instance.{Change, lexer_grammar, lexer_parts, role_of, steps_as}
-use Rattle.ecma_clean.specs.Sharing.{CanonicalIsRead, CanonicalIsShared, CanonicalRunsAlike, IsCanonical, IsReadCleanly, begin, canonical_text_of, owned, stages_of}
-use Rattle.ecma_clean.specs.Stages.{Stage, stages}
-use Rattle.ecma_clean.proofs.InstanceLaws.{lexer_parts_keep, start_is_plain}
-use Rattle.ecma_clean.proofs.Spoiling.{is_good}
-use Rattle.ecma_clean.proofs.TokensRead.{own_of}
+use Rattle.ecma_parts.specs.BareReads.{Bare}
+use Rattle.ecma_parts.specs.Bearing.{Bearing, bearing_of}
+use Rattle.ecma_clean_reads.specs.Canonical.{Own, between, canonical_behind, canonical_of, is_template_text, own_in}
+use Rattle.ecma_clean_reads.specs.Clean.{each_step, is_plain_step}
+use Rattle.ecma_parts.specs.Instance.{Change, lexer_grammar, lexer_parts, role_of, steps_as}
+use Rattle.ecma_clean.specs.Sharing.{CanonicalIsRead, CanonicalIsShared, CanonicalRunsAlike, IsReadCleanly, begin, canonical_text_of, owned, stages_of}
+use Rattle.ecma_parts.proofs.InstanceLaws.{lexer_parts_keep, start_is_plain}
+use Rattle.ecma_clean_reads.proofs.TokensRead.{own_of}
 use Rattle.ecma_clean.proofs.WalkedRuns.{begins-start, walked-start}
 use Rattle.ecma_clean.proofs.Walking.{IsWalked, clean, is_plain_anywhere, owned_back, stage_of, unclean}
 
@@ -151,7 +148,7 @@ walked-again : (settings : Settings) (text : Text) (cs : List (Counting Change))
     → walk_first lexer_grammar (begins settings) false (canonical_of (map own_of x.kept)) cs ≡ Some x
 unfolding lexer_laws
 walked-again settings text cs x (d, is) =
-    let plain = start_holds lexer_parts lexer_parts_keep (begins settings) text (record { plain = start_is_plain settings; start = refl; outside = refl }) in
+    let plain = start_holds lexer_parts lexer_parts_keep (begins settings) text (record { plain = start_is_plain settings (begin 0 []); start = refl; outside = refl }) in
     let (d2, same) = run_alike lexer_grammar lexer_laws (λ e. e) plain d in
     ap (λ t. walk_first lexer_grammar (begins settings) false t cs) (sym (canon-is x.kept))
     ∙ walk_first-complete lexer_grammar d2
@@ -186,11 +183,10 @@ canonical_is_read settings start text steps good =
     record { clean = again.clean; agrees = same; itself = ap canonical_of same }
 
 pub canonical_is_shared : CanonicalIsShared
-canonical_is_shared settings start a b steps good good2 =
-    (
-      λ same. sym (canonical_is_read settings start a steps good).agrees ∙ ap (λ t. owned settings start t steps) same ∙ (canonical_is_read settings start b steps good2).agrees,
-      ap canonical_of,
-    )
+canonical_is_shared settings start a b steps good good2 = (
+  λ same. sym (canonical_is_read settings start a steps good).agrees ∙ ap (λ t. owned settings start t steps) same ∙ (canonical_is_read settings start b steps good2).agrees,
+  ap canonical_of,
+)
 
 none-recorded : (ms : List (Moment Bearing TokenView)) → list_all (λ stage. is_empty stage.recorded) (map stage_of ms) ≡ true
 none-recorded [] = refl

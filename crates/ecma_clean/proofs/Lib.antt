@@ -1,13 +1,4 @@
 pub mod CanonicalLaws
-mod CanonicalRows
-mod CleanRows
-pub mod Cleanly
-pub mod Disposed
-pub mod InstanceLaws
-pub mod ReadsAs
-pub mod Spoiling
-pub mod TemplateCode
-pub mod TokensRead
 pub mod WalkedEnd
 pub mod WalkedRuns
 pub mod WalkedTokens

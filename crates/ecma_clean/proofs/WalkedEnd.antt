@@ -1,11 +1,11 @@
 -- Behind the end a clean run goes on as the walk says: no token is kept, and no step records what waits.
-use Rattle.std.proofs.Common.{◌≡◌, ◌∙◌, Bool, true, false, not, ◌&&◌, ◌||◌, List, [], ◌∷◌, ◌++◌, Option, Some, None, refl, sym, ap, subst}
+use Rattle.std.proofs.Common.{◌≡◌, ◌∙◌, Bool, true, false, not, ◌&&◌, List, [], ◌∷◌, Option, Some, None, refl, sym, ap, subst}
 use Rattle.std.proofs.lemmas.Bool.{and_parts}
 use Rattle.std.specs.Prelude.{is_some, if◌then◌else◌}
 use Rattle.std.specs.List.{list_all}
-use Rattle.clean_runs.specs.Grammar.{Counting, nothing}
+use Rattle.clean_runs.specs.Grammar.{nothing}
 use Rattle.clean_runs.specs.Moments.{Moment, calm_moments, moment}
-use Rattle.clean_runs.specs.Walk.{Walked, calm_walk, is_calm, walked_if, with_moment}
+use Rattle.clean_runs.specs.Walk.{calm_walk, is_calm, walked_if, with_moment}
 use Rattle.ecma_place.specs.Cursor.{Cursor, rest}
 use Rattle.ecma_place.specs.declared.place.BytePos.{BytePos}
 use Rattle.ecma_scan.specs.Gaps.{has_line_break}
@@ -19,12 +19,12 @@ use Rattle.ecma_state.specs.TokenAt.{is_empty}
 use Rattle.ecma_state.specs.declared.step.Step.{Step}
 use Rattle.ecma_state.specs.declared.step.Step.TheVariants.{Read, SetCtx, SetExprAllowed, SetContexts, PopContext, Reread, Withdraw, Save, Back, TakeErrors}
 use Rattle.ecma_token.specs.View.{ErrorView, TokenView}
-use Rattle.ecma_clean.specs.Bearing.{Bearing, bearing_of}
-use Rattle.ecma_clean.specs.Canonical.{Own}
-use Rattle.ecma_clean.specs.Clean.{is_plain_step, takes_none, was_again}
-use Rattle.ecma_clean.specs.Instance.{Change, InContext, changed, lexer_grammar, steps_as}
-use Rattle.ecma_clean.specs.Stages.{Stage, read_in, stage_with}
-use Rattle.ecma_clean.proofs.Spoiling.{IsPoised, is_good, is_unrefused}
+use Rattle.ecma_parts.specs.Bearing.{Bearing, bearing_of}
+use Rattle.ecma_clean_reads.specs.Canonical.{Own}
+use Rattle.ecma_clean_reads.specs.Clean.{is_plain_step, takes_none, was_again}
+use Rattle.ecma_parts.specs.Instance.{InContext, changed, lexer_grammar, steps_as}
+use Rattle.ecma_clean_reads.specs.Stages.{Stage, read_in, stage_with}
+use Rattle.ecma_clean_reads.proofs.Spoiling.{is_good, is_unrefused}
 use Rattle.ecma_clean.proofs.Walking.{Acts, IsWalked, Sound, acts-plain, after-is, after_read, clean, is_plain_anywhere, owned_back, stage_of, still-sound, taken-sound, walked-context, walked-step}
 
 -- the end was answered, and no slash is read again
@@ -67,13 +67,12 @@ end-slash s e = ap (λ b. slash b) e
     slash b = if b then None else slash_in (seen_of s.past).last
 
 end-read : (s : Session) (w : Bool) → AtTheEnd s w → AtTheEnd (act_on s Read) w × (bearing_of (act_on s Read) ≡ bearing_of s) × ((c : Cursor) → owned_back c (act_on s Read) ≡ owned_back c s) × (read_in (act s Read).answer ≡ None)
-end-read s w k =
-    (
-      subst (λ t. AtTheEnd t w) (sym same) record { left = k.left; reread = k.reread; ended = refl; sound = record { recorded = k.sound.recorded; waits = k.sound.waits; obeys = k.sound.obeys; unspoilt = k.sound.unspoilt } },
-      ap bearing_of same,
-      λ c. ap (owned_back c) same,
-      ap (λ a. read_in a.answer) acts.acts ∙ ap (λ x. read_in (acted_on s x).answer) found,
-    )
+end-read s w k = (
+  subst (λ t. AtTheEnd t w) (sym same) record { left = k.left; reread = k.reread; ended = refl; sound = record { recorded = k.sound.recorded; waits = k.sound.waits; obeys = k.sound.obeys; unspoilt = k.sound.unspoilt } },
+  ap bearing_of same,
+  λ c. ap (owned_back c) same,
+  ap (λ a. read_in a.answer) acts.acts ∙ ap (λ x. read_in (acted_on s x).answer) found,
+)
   where
     r : Reading
     r = reading (mode_of (state_of s)) s.input

@@ -1,18 +1,18 @@
 -- Clean runs are walked, from the start on.
-use Rattle.std.proofs.Common.{◌≡◌, ◌∙◌, ℕ, Bool, true, false, not, ◌&&◌, ◌||◌, cond, List, [], ◌∷◌, ◌++◌, Option, Some, None, drop, length, map, take, refl, sym, ap, subst}
+use Rattle.std.proofs.Common.{◌≡◌, ◌∙◌, Bool, true, false, not, ◌&&◌, cond, List, [], ◌∷◌, Option, Some, None, drop, map, take, refl, sym, ap, subst}
 use Rattle.std.proofs.lemmas.Bool.{and_parts}
 use Rattle.std.specs.Prelude.{is_some}
 use Rattle.std.specs.List.{list_all}
-use Rattle.clean_runs.specs.Grammar.{Counting, Found, Standing, answered, asked, behind, nothing}
-use Rattle.clean_runs.specs.Moments.{Moment, moment}
-use Rattle.clean_runs.specs.Walk.{Walked, by_standing, walk, walk_again, walk_first, walk_found, walked_if, with_moment, with_token}
-use Rattle.ecma_place.specs.Cursor.{Cursor, HasPlace, place, place_at, rest}
+use Rattle.clean_runs.specs.Grammar.{Standing, answered, asked, behind, nothing}
+use Rattle.clean_runs.specs.Moments.{moment}
+use Rattle.clean_runs.specs.Walk.{Walked, walk, walk_again, walk_first, walk_found, with_moment}
+use Rattle.ecma_place.specs.Cursor.{Cursor, HasPlace, place, rest}
 use Rattle.ecma_place.specs.Text.{Text, place_of}
 use Rattle.ecma_place.specs.declared.place.BytePos.{BytePos}
 use Rattle.ecma_scan.specs.Expressions.{opens_expression}
 use Rattle.ecma_stream.proofs.SlashLemmas.{at-there, place-there}
 use Rattle.ecma_state.specs.Reading.{Reading, reading, reading_again}
-use Rattle.ecma_state.specs.Run.{NoSlash, act, act_on, acted_on, at_place, mode_of, reread_from, start_of}
+use Rattle.ecma_state.specs.Run.{NoSlash, act, act_on, at_place, mode_of, reread_from, start_of}
 use Rattle.ecma_state.specs.Session.{Session, has_ended, kept_back, kept_of, last_flag, seen_of, state_of}
 use Rattle.ecma_state.specs.State.{is_error, is_slash, last_slash}
 use Rattle.ecma_state.specs.TokenAt.{is_empty}
@@ -22,18 +22,18 @@ use Rattle.ecma_state.specs.declared.step.Step.{Step}
 use Rattle.ecma_state.specs.declared.step.Step.TheVariants.{Read, SetCtx, SetExprAllowed, SetContexts, PopContext, Reread, Withdraw, Save, Back, TakeErrors}
 use Rattle.ecma_token.specs.Kinds.{kind_of}
 use Rattle.ecma_token.specs.View.{SpannedView, TokenView}
-use Rattle.ecma_clean.specs.BareReads.{Bare, bare_again}
-use Rattle.ecma_clean.specs.Bearing.{Bearing, bearing_of}
-use Rattle.ecma_clean.specs.Canonical.{Own, own_in}
-use Rattle.ecma_clean.specs.Clean.{is_plain_step, takes_none, was_again}
-use Rattle.ecma_clean.specs.Instance.{InContext, changed, lexer_grammar, steps_as}
-use Rattle.ecma_clean.specs.Stages.{read_in, stage_with}
-use Rattle.ecma_clean.proofs.ReadsAs.{ReadsAs, RereadsAs, again-reads, good_again, reading-reads, refused_again, spoilt_again}
-use Rattle.ecma_clean.proofs.Spoiling.{IsPoised, is_good, is_unrefused, unplain-step}
-use Rattle.ecma_clean.proofs.TokensRead.{Stands, own_of, stands-flag, stands-kind}
+use Rattle.ecma_parts.specs.BareReads.{Bare, bare_again}
+use Rattle.ecma_parts.specs.Bearing.{Bearing, bearing_of}
+use Rattle.ecma_clean_reads.specs.Canonical.{Own, own_in}
+use Rattle.ecma_clean_reads.specs.Clean.{is_plain_step, takes_none, was_again}
+use Rattle.ecma_parts.specs.Instance.{InContext, changed, lexer_grammar, steps_as}
+use Rattle.ecma_clean_reads.specs.Stages.{read_in, stage_with}
+use Rattle.ecma_clean_reads.proofs.ReadsAs.{ReadsAs, RereadsAs, again-reads, good_again, reading-reads, refused_again, spoilt_again}
+use Rattle.ecma_clean_reads.proofs.Spoiling.{is_unrefused, unplain-step}
+use Rattle.ecma_clean_reads.proofs.TokensRead.{Stands, stands-kind}
 use Rattle.ecma_clean.proofs.WalkedEnd.{quiet-stage}
-use Rattle.ecma_clean.proofs.WalkedTokens.{AllWalked, At, Reading', StandsFor, at-again, at-ended, at-flag, at-given, at-owned, at-poised, at-rereads, at-slash, at-stage, at-still, bearing-behind, read-stage, token-told, walked-read}
-use Rattle.ecma_clean.proofs.Walking.{Acts, IsWalked, Sound, acts-again, after-is, after_read, clean, is_plain_anywhere, owned_back, read-records, read-refuses, stage_of, stands_again, still-sound, taken-sound, unclean, walked-context, walked-step, walked-token}
+use Rattle.ecma_clean.proofs.WalkedTokens.{AllWalked, At, at-again, at-ended, at-flag, at-given, at-owned, at-poised, at-slash, at-stage, at-still, bearing-behind, read-stage, token-told, walked-read}
+use Rattle.ecma_clean.proofs.Walking.{Acts, IsWalked, Sound, acts-again, after-is, after_read, is_plain_anywhere, read-records, read-refuses, still-sound, taken-sound, unclean, walked-context, walked-step, walked-token}
 
 -- A read from a slash
 

@@ -1,40 +1,38 @@
 -- Behind a token a clean run goes on as the walk says.
-use Rattle.std.proofs.Common.{◌≡◌, ◌∙◌, ℕ, Bool, true, false, not, ◌&&◌, ◌||◌, cond, List, [], ◌∷◌, ◌++◌, Option, Some, None, drop, length, map, take, refl, sym, ap, subst}
-use Rattle.std.proofs.lemmas.Bool.{and_parts}
+use Rattle.std.proofs.Common.{◌≡◌, ◌∙◌, Bool, true, false, not, ◌&&◌, ◌||◌, cond, List, ◌∷◌, Option, Some, None, drop, length, map, refl, sym, ap, subst}
 use Rattle.std.specs.Prelude.{is_some}
 use Rattle.std.specs.List.{list_all}
-use Rattle.clean_runs.specs.Grammar.{Counting, Found, Standing, answered, asked, behind, ended, faulty, nothing, token}
-use Rattle.clean_runs.specs.Moments.{Moment, moment}
-use Rattle.clean_runs.specs.Walk.{Walked, by_standing, calm_walk, walk, walk_again, walk_found, walked_if, with_moment, with_token}
-use Rattle.ecma_place.specs.Cursor.{Cursor, HasPlace, place, place_at, rest}
-use Rattle.ecma_place.specs.Text.{Text, place_of}
+use Rattle.clean_runs.specs.Grammar.{Found, Standing, answered, asked, nothing}
+use Rattle.clean_runs.specs.Moments.{moment}
+use Rattle.clean_runs.specs.Walk.{calm_walk, walk, walk_found}
+use Rattle.ecma_place.specs.Cursor.{Cursor, rest}
+use Rattle.ecma_place.specs.Text.{Text}
 use Rattle.ecma_place.specs.declared.place.BytePos.{BytePos}
 use Rattle.ecma_scan.specs.Expressions.{opens_expression}
 use Rattle.ecma_scan.specs.Found.{Fault}
-use Rattle.ecma_stream.proofs.SlashLemmas.{at-there, begins-reading, place-there}
-use Rattle.ecma_state.specs.Disposition.{with_faults}
-use Rattle.ecma_state.specs.Reading.{Reading, reading, reading_again}
-use Rattle.ecma_state.specs.Run.{NoSlash, act, act_on, acted_on, at_place, given_in, mode_of, reread_from}
-use Rattle.ecma_state.specs.Session.{Again, AtEnd, Past, Plain, Session, has_ended, kept_back, kept_of, last_flag, seen_of, state_of}
+use Rattle.ecma_stream.proofs.SlashLemmas.{at-there, begins-reading}
+use Rattle.ecma_state.specs.Reading.{Reading, reading}
+use Rattle.ecma_state.specs.Run.{act, act_on, acted_on, at_place, given_in, mode_of}
+use Rattle.ecma_state.specs.Session.{Past, Session, has_ended, kept_back, kept_of, last_flag, seen_of, state_of}
 use Rattle.ecma_state.specs.State.{is_error, is_slash, last_slash}
 use Rattle.ecma_state.specs.TokenAt.{is_empty}
 use Rattle.ecma_state.specs.Transition.{tpl_on_top}
 use Rattle.ecma_state.specs.declared.step.Step.{Step}
-use Rattle.ecma_state.specs.declared.step.Step.TheVariants.{Read, SetCtx, SetExprAllowed, SetContexts, PopContext, Reread, Withdraw, Save, Back, TakeErrors}
+use Rattle.ecma_state.specs.declared.step.Step.TheVariants.{Read}
 use Rattle.ecma_token.specs.Kinds.{kind_of}
 use Rattle.ecma_token.specs.View.{ErrorView, SpannedView, TokenView}
-use Rattle.ecma_clean.specs.BareReads.{Bare, any_recorded, bare_again}
-use Rattle.ecma_clean.specs.Bearing.{Bearing, bearing_of, behind_kind}
-use Rattle.ecma_clean.specs.Canonical.{Own, own_in}
-use Rattle.ecma_clean.specs.Clean.{is_plain_step, takes_none, was_again}
-use Rattle.ecma_clean.specs.Instance.{Change, InContext, changed, lexer_grammar, steps_as}
-use Rattle.ecma_clean.specs.Stages.{Stage, placeless, read_in, stage_with, token_from}
-use Rattle.ecma_clean.proofs.Disposed.{none-recorded, waits-so}
-use Rattle.ecma_clean.proofs.ReadsAs.{ReadsAs, Reads, RereadsAs, again-reads, at_end, good, good_again, reading-reads, refused, refused_again, spoilt, spoilt_again}
-use Rattle.ecma_clean.proofs.Spoiling.{AnsweredSlash, IsPoised, is_good, is_unrefused, unplain-step}
-use Rattle.ecma_clean.proofs.TokensRead.{Stands, own_of, stands-flag, stands-kind, token-back}
-use Rattle.ecma_clean.proofs.WalkedEnd.{AtTheEnd, quiet-stage, walked-end}
-use Rattle.ecma_clean.proofs.Walking.{Acts, IsWalked, Sound, acts-again, acts-plain, after-is, after_read, clean, is_plain_anywhere, owned_back, read-records, read-refuses, stage_of, stands_again, still-sound, taken-sound, told, unclean, walked-context, walked-step, walked-token}
+use Rattle.ecma_parts.specs.BareReads.{Bare, any_recorded}
+use Rattle.ecma_parts.specs.Bearing.{bearing_of, behind_kind}
+use Rattle.ecma_clean_reads.specs.Canonical.{own_in}
+use Rattle.ecma_clean_reads.specs.Clean.{is_plain_step, was_again}
+use Rattle.ecma_parts.specs.Instance.{lexer_grammar, steps_as}
+use Rattle.ecma_clean_reads.specs.Stages.{Stage, placeless, read_in, stage_with, token_from}
+use Rattle.ecma_clean_reads.proofs.Disposed.{none-recorded, waits-so}
+use Rattle.ecma_clean_reads.proofs.ReadsAs.{ReadsAs, at_end, good, refused, spoilt}
+use Rattle.ecma_clean_reads.proofs.Spoiling.{IsPoised, is_unrefused}
+use Rattle.ecma_clean_reads.proofs.TokensRead.{Stands, stands-flag, stands-kind, token-back}
+use Rattle.ecma_clean.proofs.WalkedEnd.{AtTheEnd, walked-end}
+use Rattle.ecma_clean.proofs.Walking.{Acts, IsWalked, Sound, acts-plain, after-is, after_read, is_plain_anywhere, owned_back, read-records, read-refuses, stage_of, stands_again, told, unclean, walked-step}
 
 -- what a standing reread says of the last answer
 abbrev pub StandsFor : Standing → Bool → Option BytePos → SpannedView → Type 0

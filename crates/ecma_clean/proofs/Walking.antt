@@ -1,40 +1,34 @@
 -- The run of a session, and the walk of the lexer's grammar: the one is clean where the other comes to an end, and they keep
 -- the same tokens and go through the same stages.
-use Rattle.std.proofs.Common.{◌≡◌, ◌∙◌, ℕ, Bool, true, false, not, ◌&&◌, ◌||◌, cond, List, [], ◌∷◌, ◌++◌, append_assoc, Option, Some, None, drop, length, map, reverse, refl, sym, ap, subst}
+use Rattle.std.proofs.Common.{◌≡◌, ◌∙◌, Bool, true, false, not, ◌&&◌, cond, List, [], ◌∷◌, ◌++◌, append_assoc, Option, Some, None, map, reverse, refl, sym, ap, subst}
 use Rattle.std.proofs.lemmas.Grind.{reverse_onto}
 use Rattle.std.specs.Prelude.{is_some}
 use Rattle.std.specs.List.{list_all}
-use Rattle.clean_runs.specs.Grammar.{Counting, Found, Standing, answered, asked, behind, ended, faulty, nothing, read, reread, set, token, withdraw}
-use Rattle.clean_runs.specs.Moments.{Moment, calm_moments, moment}
-use Rattle.clean_runs.specs.Walk.{Walked, calm_walk, is_calm, walk, walk_again, walk_first, walk_found, walked_if, with_moment, with_token}
-use Rattle.ecma_place.specs.Cursor.{Cursor, place, rest}
-use Rattle.ecma_place.specs.Text.{Text}
+use Rattle.clean_runs.specs.Grammar.{Standing, answered, asked, nothing}
+use Rattle.clean_runs.specs.Moments.{Moment}
+use Rattle.clean_runs.specs.Walk.{Walked, walked_if, with_moment, with_token}
+use Rattle.ecma_place.specs.Cursor.{Cursor}
 use Rattle.ecma_place.specs.declared.place.BytePos.{BytePos}
-use Rattle.ecma_scan.specs.Expressions.{opens_expression}
 use Rattle.ecma_scan.specs.Found.{Fault}
-use Rattle.ecma_stream.proofs.EndLemmas.{reading-end}
-use Rattle.ecma_stream.proofs.SlashLemmas.{at-there, begins-reading}
-use Rattle.ecma_state.specs.Disposition.{Disposition, Dropped, Errors, Recorded, Waiting, disposed, disposition, of_module_mode, of_recorded, with_context, with_fault, with_faults}
+use Rattle.ecma_state.specs.Disposition.{Errors}
 use Rattle.ecma_state.specs.Reading.{Reading, reading, reading_again}
-use Rattle.ecma_state.specs.Run.{Token', act, act_all, act_on, acted_on, answer_in, at_place, given_in, mode_of, reading_from, reread_from, start_of}
-use Rattle.ecma_state.specs.Session.{Again, AtEnd, Past, Plain, Session, has_ended, kept_back, kept_of, last_flag, seen_of, state_of}
-use Rattle.ecma_state.specs.State.{is_error, is_slash, last_slash}
+use Rattle.ecma_state.specs.Run.{act, act_all, act_on, acted_on, at_place, given_in, mode_of, reading_from}
+use Rattle.ecma_state.specs.Session.{Past, Session, kept_back, kept_of, last_flag, state_of}
+use Rattle.ecma_state.specs.State.{is_error}
 use Rattle.ecma_state.specs.TokenAt.{is_empty}
-use Rattle.ecma_state.specs.declared.settings.Settings.{Settings}
 use Rattle.ecma_state.specs.declared.step.Step.{Step}
 use Rattle.ecma_state.specs.declared.step.Step.TheVariants.{Read, SetCtx, SetExprAllowed, SetContexts, PopContext, Reread, Withdraw, Save, Back, TakeErrors}
 use Rattle.ecma_syntax.specs.declared.context.Context.{Context}
 use Rattle.ecma_token.specs.Kinds.{kind_of}
 use Rattle.ecma_token.specs.View.{ErrorView, SpannedView, TokenView}
-use Rattle.ecma_clean.specs.BareReads.{Bare, any_recorded}
-use Rattle.ecma_clean.specs.Bearing.{Bearing, bearing_of, behind_kind}
-use Rattle.ecma_clean.specs.Canonical.{Own, own_in}
-use Rattle.ecma_clean.specs.Clean.{is_plain_step, takes_none, was_again}
-use Rattle.ecma_clean.specs.Instance.{Change, InContext, Allowing, Nothing, changed, lexer_grammar, records_waiting, step_as, steps_as}
-use Rattle.ecma_clean.specs.Stages.{Stage, placeless, read_in, stage_with, stages, token_from}
-use Rattle.ecma_clean.proofs.Disposed.{some-recorded}
-use Rattle.ecma_clean.proofs.Spoiling.{IsPoised, good-step, is_good, is_unrefused, is_unspoilt, read-poised, spoilt-is-bad, unspoilt-left, unspoilt-right}
-use Rattle.ecma_clean.proofs.TokensRead.{Stands, own_of, stands-flag, stands-kind, token-back}
+use Rattle.ecma_parts.specs.BareReads.{Bare, any_recorded}
+use Rattle.ecma_parts.specs.Bearing.{Bearing}
+use Rattle.ecma_clean_reads.specs.Canonical.{Own, own_in}
+use Rattle.ecma_clean_reads.specs.Clean.{is_plain_step, takes_none}
+use Rattle.ecma_clean_reads.specs.Stages.{Stage, read_in, stage_with, stages}
+use Rattle.ecma_clean_reads.proofs.Disposed.{some-recorded}
+use Rattle.ecma_clean_reads.proofs.Spoiling.{IsPoised, good-step, is_good, is_unrefused, is_unspoilt, read-poised, spoilt-is-bad, unspoilt-left, unspoilt-right}
+use Rattle.ecma_clean_reads.proofs.TokensRead.{own_of}
 
 -- Stages
 

@@ -1,2 +1,4 @@
-//! Clean runs and the canonical text of what they keep: definitions, and rows of them. No call makes the text yet.
+//! Laws of clean runs and of the canonical text of what they keep: each run of a session is a walk of the lexer's grammar.
 #![tactic(auto)]
+
+pub mod laws;

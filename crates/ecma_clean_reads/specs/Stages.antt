@@ -6,7 +6,7 @@ use Rattle.ecma_state.specs.Run.{Answer, Token', End, Done, Errors', NoSlash, No
 use Rattle.ecma_state.specs.Session.{Session}
 use Rattle.ecma_state.specs.declared.step.Step.{Step}
 use Rattle.ecma_token.specs.View.{ErrorView, SpannedView, TokenView, error_token, plain_token, refused_template}
-use Rattle.ecma_clean.specs.Bearing.{Bearing, bearing_of}
+use Rattle.ecma_parts.specs.Bearing.{Bearing, bearing_of}
 
 -- A token with its places counted from its first byte
 

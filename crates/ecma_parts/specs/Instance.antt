@@ -1,5 +1,5 @@
 -- The lexer's grammar, as clean runs see it.
-use Rattle.std.specs.Prelude.{Bool, true, false, List, [], ◌∷◌, Option, Some, None}
+use Rattle.std.specs.Prelude.{Bool, false, List, [], ◌∷◌, Option, Some, None}
 use Rattle.clean_runs.specs.Grammar.{Counting, Grammar, read, set, reread, withdraw}
 use Rattle.clean_runs.specs.Parts as parts
 use Rattle.clean_runs.specs.Parts.{Parts, PartLaws, Role, grammar}
@@ -16,8 +16,8 @@ use Rattle.ecma_token.specs.Kinds.{kind_of}
 use Rattle.ecma_token.specs.View.{TokenView}
 use Rattle.ecma_token.specs.declared.kind.TokenKind.{TokenKind}
 use Rattle.ecma_token.specs.declared.kind.TokenKind.TheVariants.{BackQuote, RBrace, RParen, Shebang, Template}
-use Rattle.ecma_clean.specs.BareReads.{bare_again, bare_mark, bare_shebang, bare_text, code}
-use Rattle.ecma_clean.specs.Bearing.{Bearing, behind_kind}
+use Rattle.ecma_parts.specs.BareReads.{bare_again, bare_mark, bare_shebang, bare_text, code}
+use Rattle.ecma_parts.specs.Bearing.{Bearing, behind_kind}
 
 -- what may stand behind a token of a kind
 abbrev pub role_of : TokenKind → Role

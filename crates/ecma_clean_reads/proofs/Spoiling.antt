@@ -1,6 +1,6 @@
 -- A run that went wrong stays so: an error that is recorded is never taken by clean steps, and a token that is an error is kept.
 use Rattle.std.proofs.Common.{◌≡◌, ◌∙◌, Bool, true, false, not, ◌&&◌, cond, List, [], ◌∷◌, ◌++◌, drop, Option, Some, None, refl, sym, ap, subst}
-use Rattle.std.specs.Prelude.{fold, is_some}
+use Rattle.std.specs.Prelude.{is_some}
 use Rattle.std.specs.List.{list_all}
 use Rattle.ecma_place.specs.declared.place.BytePos.{BytePos}
 use Rattle.ecma_scan.specs.Found.{Fault}
@@ -18,7 +18,7 @@ use Rattle.ecma_token.specs.Kinds.{kind_of}
 use Rattle.ecma_token.specs.View.{ErrorView, SpannedView}
 use Rattle.ecma_token.specs.declared.kind.TokenKind.{TokenKind}
 use Rattle.ecma_token.specs.declared.kind.TokenKind.TheVariants.{Error}
-use Rattle.ecma_clean.specs.Clean.{each_step, ends_clean, is_plain_step, takes_none, was_again}
+use Rattle.ecma_clean_reads.specs.Clean.{each_step, ends_clean, is_plain_step, takes_none, was_again}
 
 -- From a session, steps are plain, take no error, and end cleanly
 abbrev pub is_good : Session → List Step → Bool

@@ -4,7 +4,7 @@ use Rattle.std.specs.Prelude.{codes}
 use Rattle.ecma_place.specs.Text.{Text}
 use Rattle.ecma_token.specs.declared.kind.TokenKind.{TokenKind}
 use Rattle.ecma_token.specs.declared.kind.TokenKind.TheVariants.{BackQuote, DollarLBrace, Dot, QuestionMark, RBrace, RParen, Semi, Template}
-use Rattle.ecma_clean.specs.Canonical.{Own, canonical_of}
+use Rattle.ecma_clean_reads.specs.Canonical.{Own, canonical_of}
 
 own : TokenKind → Text → Bool → Own
 own kind text flag = record { kind = kind; text = text; flag = flag }

@@ -1,5 +1,5 @@
 -- What one read finds without places: a token by its own characters, where nothing is wrong that is recorded.
-use Rattle.std.specs.Prelude.{Bool, true, false, not, ◌||◌, ◌==◌, List, [], ◌∷◌, ◌++◌, codes, drop, Option, Some, None}
+use Rattle.std.specs.Prelude.{Bool, true, false, not, ◌||◌, List, [], ◌∷◌, ◌++◌, codes, Option, Some, None}
 use Rattle.std.specs.List.{list_any}
 use Rattle.clean_runs.specs.Grammar.{Token, Found, token, ended, faulty}
 use Rattle.ecma_place.specs.Text.{Text}
@@ -18,7 +18,7 @@ use Rattle.ecma_state.specs.TokenAt.{is_empty, token_at, token_of}
 use Rattle.ecma_syntax.specs.declared.context.Context.{Context}
 use Rattle.ecma_token.specs.Kinds.{kind_of}
 use Rattle.ecma_token.specs.View.{TokenView}
-use Rattle.ecma_clean.specs.Bearing.{Bearing, bare_mode}
+use Rattle.ecma_parts.specs.Bearing.{Bearing, bare_mode}
 
 -- a token with its own characters; places in it are counted from its first byte
 abbrev pub Bare : Type 0

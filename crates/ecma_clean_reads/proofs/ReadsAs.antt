@@ -8,17 +8,16 @@ use Rattle.ecma_scan.specs.Expressions.{opens_expression, regular_expression}
 use Rattle.ecma_scan.specs.Found.{Fault, FoundView, Scanned, fault_behind, found_at, span_of, token_behind}
 use Rattle.ecma_scan.specs.GapViews.{GapView}
 use Rattle.ecma_scan.specs.Gaps as gaps
-use Rattle.ecma_scan.specs.Gaps.{gap_faults, gap_spelling, has_line_break}
+use Rattle.ecma_scan.specs.Gaps.{gap_faults, gap_spelling}
 use Rattle.ecma_scan.specs.Shebangs.{opens_shebang}
 use Rattle.ecma_scan.proofs.GapFaults.{gap_faults_move}
 use Rattle.ecma_dispatch.proofs.FrontLemmas.{expression-front, shebang-front, token_at-front}
 use Rattle.ecma_dispatch.proofs.ReadingLemmas.{placed-faults}
-use Rattle.ecma_joining.specs.Texts.{text_at}
 use Rattle.ecma_joining.proofs.FaultlessLaws.{expression_is_faultless}
 use Rattle.ecma_stream.proofs.EndLemmas.{token-extent}
 use Rattle.ecma_stream.proofs.SlashLemmas.{again-kind, expression-no-slash}
 use Rattle.ecma_state.specs.Mode.{gap_mode}
-use Rattle.ecma_state.specs.Reading.{Reading, behind_gap, gap_in, reading, reading_again, reading_behind, reading_code, reading_if, reading_token, shebang_reading, shebang_token, spanned, stands_shebang, token_reading}
+use Rattle.ecma_state.specs.Reading.{Reading, behind_gap, gap_in, reading, reading_again, reading_behind, reading_code, reading_if, shebang_reading, shebang_token, spanned, token_reading}
 use Rattle.ecma_state.specs.State.{is_error, is_slash}
 use Rattle.ecma_state.specs.TokenAt.{is_empty, opening, read_opened, token_at, token_comments, token_found, token_of}
 use Rattle.ecma_state.specs.declared.opening.Opening.{Opening}
@@ -30,12 +29,12 @@ use Rattle.ecma_place.specs.declared.place.BytePos.{BytePos}
 use Rattle.ecma_place.specs.declared.comment.Comment.{Comment}
 use Rattle.ecma_token.specs.Kinds.{kind_of}
 use Rattle.ecma_token.specs.View.{SpannedView, TokenView}
-use Rattle.ecma_clean.specs.BareReads.{Bare, again_from, any_recorded, bare, bare_again, bare_shebang, code, end_if, found_behind, is_recorded, is_refused, again_if, token_if}
-use Rattle.ecma_clean.specs.Bearing.{Bearing, bare_mode, mode_at}
-use Rattle.ecma_clean.specs.Instance.{lexer_grammar, lexer_parts}
-use Rattle.ecma_clean.proofs.Cleanly.{reads-cleanly}
-use Rattle.ecma_clean.proofs.TemplateCode.{template_is_code}
-use Rattle.ecma_clean.proofs.TokensRead.{Stands, placed-break, placed-kind, placed-token, kind-behind, stands-found, value-token}
+use Rattle.ecma_parts.specs.BareReads.{Bare, again_from, any_recorded, bare, bare_again, bare_shebang, code, end_if, found_behind, is_recorded, is_refused, again_if, token_if}
+use Rattle.ecma_parts.specs.Bearing.{Bearing, bare_mode, mode_at}
+use Rattle.ecma_parts.specs.Instance.{lexer_grammar, lexer_parts}
+use Rattle.ecma_parts.proofs.Cleanly.{reads-cleanly}
+use Rattle.ecma_parts.proofs.TemplateCode.{template_is_code}
+use Rattle.ecma_clean_reads.proofs.TokensRead.{Stands, placed-break, placed-kind, placed-token, kind-behind, stands-found, value-token}
 
 -- Faults of a gap and of a token
 

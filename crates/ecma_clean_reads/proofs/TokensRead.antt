@@ -1,6 +1,5 @@
 -- A token that was found at a place, and the same token by its own characters.
-use Rattle.std.proofs.Common.{◌≡◌, ◌∙◌, ℕ, ◌+◌, ◌-◌, Bool, true, false, ◌||◌, List, [], ◌∷◌, ◌++◌, Option, Some, None, Result, Ok, Err, append_assoc, drop, length, take, take-append-drop, refl, sym, ap, subst, arith}
-use Rattle.clean_runs.specs.Grammar.{Token}
+use Rattle.std.proofs.Common.{◌≡◌, ◌∙◌, ℕ, ◌+◌, ◌-◌, Bool, false, ◌||◌, ◌∷◌, ◌++◌, Result, Ok, Err, append_assoc, drop, length, take, take-append-drop, refl, sym, ap, subst, arith}
 use Rattle.ecma_place.specs.Cursor.{Cursor, place, rest}
 use Rattle.ecma_place.specs.Text.{Text, byte_len, place_of, slice_between}
 use Rattle.ecma_place.specs.declared.place.Span.{Span}
@@ -17,9 +16,9 @@ use Rattle.ecma_state.specs.declared.opening.Opening.TheVariants as opens
 use Rattle.ecma_token.specs.Kinds.{kind_of}
 use Rattle.ecma_token.specs.View.{ErrorView, SpannedView, TokenView, error_token, plain_token, refused_template}
 use Rattle.ecma_token.specs.declared.kind.TokenKind.{TokenKind}
-use Rattle.ecma_clean.specs.BareReads.{Bare, bare, is_refused}
-use Rattle.ecma_clean.specs.Canonical.{Own, own_in}
-use Rattle.ecma_clean.specs.Stages.{token_from}
+use Rattle.ecma_parts.specs.BareReads.{Bare, bare, is_refused}
+use Rattle.ecma_clean_reads.specs.Canonical.{Own, own_in}
+use Rattle.ecma_clean_reads.specs.Stages.{token_from}
 
 abbrev pub own_of : Bare → Own
 own_of p = record { kind = kind_of p.kind; text = p.bytes; flag = p.flag }

@@ -3,12 +3,12 @@ use Rattle.std.proofs.Common.{◌≡◌, ◌∙◌, Bool, true, false, not, ◌|
 use Rattle.ecma_scan.specs.declared.found.Blame.{Blame}
 use Rattle.ecma_scan.specs.declared.found.Blame.TheVariants.{Always, Strict, Module}
 use Rattle.ecma_scan.specs.Found.{Fault}
-use Rattle.ecma_state.specs.Disposition.{Disposition, Dropped, Errors, Recorded, Waiting, disposed, disposition, of_module_mode, of_recorded, with_fault, with_faults}
+use Rattle.ecma_state.specs.Disposition.{Disposition, Dropped, Errors, Recorded, Waiting, disposed, disposition, of_recorded, with_fault, with_faults}
 use Rattle.ecma_state.specs.TokenAt.{is_empty}
 use Rattle.ecma_syntax.specs.declared.context.Context.{Context}
 use Rattle.ecma_token.specs.View.{ErrorView}
-use Rattle.ecma_clean.specs.BareReads.{any_recorded, is_recorded}
-use Rattle.ecma_clean.proofs.Spoiling.{faults-some}
+use Rattle.ecma_parts.specs.BareReads.{any_recorded, is_recorded}
+use Rattle.ecma_clean_reads.proofs.Spoiling.{faults-some}
 
 abbrev becomes : Bool → Disposition
 becomes true = Recorded

@@ -1,5 +1,5 @@
 -- What is neither refused nor has a fault that is recorded is read cleanly.
-use Rattle.std.proofs.Common.{◌≡◌, ◌∙◌, Bool, true, false, not, ◌&&◌, ◌||◌, List, [], ◌∷◌, Result, Ok, Err, refl, sym, ap}
+use Rattle.std.proofs.Common.{◌≡◌, ◌∙◌, Bool, true, false, not, ◌&&◌, ◌||◌, List, [], ◌∷◌, Result, Ok, Err, refl, ap}
 use Rattle.ecma_scan.specs.declared.found.Blame.{Blame}
 use Rattle.ecma_scan.specs.declared.found.Blame.TheVariants.{Always, Strict, Module}
 use Rattle.ecma_scan.specs.Found.{Fault, Scanned}
@@ -9,7 +9,7 @@ use Rattle.ecma_state.specs.TokenAt.{token_of}
 use Rattle.ecma_syntax.specs.declared.context.Context.{Context}
 use Rattle.ecma_token.specs.Kinds.{kind_of}
 use Rattle.ecma_token.specs.View.{ErrorView, TokenView}
-use Rattle.ecma_clean.specs.BareReads.{any_recorded, is_recorded, is_refused}
+use Rattle.ecma_parts.specs.BareReads.{any_recorded, is_recorded, is_refused}
 
 accepted : (v : Result TokenView ErrorView) → is_error (kind_of (token_of v)) ≡ false → is_accepted v ≡ true
 accepted (Ok token) h = refl
