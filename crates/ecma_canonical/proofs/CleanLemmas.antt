@@ -1,15 +1,19 @@
 -- What a replay tells is whether its run is clean.
-use Rattle.std.proofs.Common.{◌≡◌, ◌∙◌, ◌==◌, ℕ, Bool, true, false, not, ◌&&◌, List, [], ◌∷◌, ◌++◌, length, map, refl, sym, ap, arith, reverse}
+use Rattle.std.proofs.Common.{◌≡◌, ◌∙◌, ◌==◌, ◌+◌, ◌<◌, ◌≤◌, ◌^◌, ℕ, Bool, true, false, not, ◌&&◌, List, [], ◌∷◌, length, map, encode_utf8_all, suc, lt_of_not-le, refl, sym, subst, ap, arith, reverse}
 use mathlib.Core.List.{reverse_aux}
 use Rattle.std.specs.List.{list_all}
 use Rattle.std.proofs.lemmas.Bool.Decides.{nat_tests}
-use Rattle.std.proofs.Math.ListN.{length-map}
+use Rattle.std.proofs.lemmas.List.{length-map}
 use Rattle.std.proofs.lemmas.List.Folds.{list_all-map}
 use Rattle.ecma_place.specs.Cursor.{Cursor}
 use Rattle.ecma_token.specs.Kinds.{kind_of}
 use Rattle.ecma_token.specs.View.{SpannedView, error_view}
 use Rattle.ecma_clean.specs.Clean.{each_step, is_clean, is_plain_step, takes_none}
-use Rattle.ecma_clean.specs.Sharing.{CanonicalIsRead}
+use Rattle.ecma_clean.specs.Canonical.{canonical_of, own_in}
+use Rattle.ecma_clean.specs.Sharing.{IsReadCleanly, begin, canonical_text_of}
+use Rattle.ecma_clean.proofs.CanonicalLaws.{canonical_is_read}
+use Rattle.ecma_place.specs.Text.{Text}
+use Rattle.ecma_canonical.specs.Canonical.{IsCanonicalText, IsTooLong}
 use Rattle.ecma_replay.specs.Replay.{Replays, answer_view}
 use Rattle.ecma_replay.specs.declared.replayed.Replay.{Replay}
 use Rattle.ecma_canonical.specs.Watching.{followed_all, none_kept}
@@ -55,7 +59,7 @@ mapped-empty f (x ∷ xs) = grind (arith, nat_tests)
 -- one answer was given for each step
 pub one-each : (settings : Settings) (input : Cursor) (steps : List Step) (r : Replay) → Replays (start_of settings input) steps r → length r.answers.items ≡ length steps
 one-each settings input steps r replays =
-    sym (length-map answer_view r.answers.items) ∙ ap length replays.answers ∙ answers-length (start_of settings input) none_yet steps
+    sym (length-map r.answers.items answer_view) ∙ ap length replays.answers ∙ answers-length (start_of settings input) none_yet steps
 
 pub told-clean : (settings : Settings) (input : Cursor) (steps : List Step) (r : Replay) (b : Bool) → Replays (start_of settings input) steps r
     → b ≡ (followed_all none_kept steps (map answer_view r.answers.items)).watch.is_clean
@@ -77,6 +81,25 @@ told-clean settings input steps r b replays told =
     ∙ ap (λ m. (plain && none) && (has_ended s.past && (list_all (λ t. not (is_error (kind_of t.token))) (kept_back s.past) && m))) errors
     ∙ and-over plain none (has_ended s.past && (list_all (λ t. not (is_error (kind_of t.token))) (kept_back s.past) && is_empty s.errors.recorded))
 
--- TODO: the law of ecma_clean stands for this
-pub read_again : CanonicalIsRead
-read_again = ?
+-- the bytes of what is joined are those of the canonical text
+pub text-is : (settings : Settings) (start : ℕ) (text : Text) (steps : List Step) (r : Replay) → Replays (start_of settings (begin start text)) steps r
+    → (kept : List Kept) (bytes : List ℕ) → kept ≡ r.kept.items → bytes ≡ encode_utf8_all (canonical_of (map (own_in (begin start text)) kept))
+    → bytes ≡ encode_utf8_all (canonical_text_of settings start text steps)
+text-is settings start text steps r replays kept bytes whole joined =
+    joined ∙ ap (λ ks. encode_utf8_all (canonical_of (map (own_in (begin start text)) ks))) (whole ∙ replays.kept)
+
+pub text-fits : (settings : Settings) (start : ℕ) (text : Text) (steps : List Step) → IsReadCleanly settings start text steps
+    → (bytes seen : List ℕ) → bytes ≡ encode_utf8_all (canonical_text_of settings start text steps) → seen ≡ bytes → start + length seen < 2 ^ 32 → IsCanonicalText settings start text steps bytes
+text-fits settings start text steps clean bytes seen are same below =
+    record {
+      clean = clean;
+      bytes_are = are;
+      fits = subst (λ l. start + length l < 2 ^ 32) (same ∙ are) below;
+      read_again = canonical_is_read settings start text steps clean;
+    }
+
+pub text-too_long : (settings : Settings) (start : ℕ) (text : Text) (steps : List Step) → IsReadCleanly settings start text steps
+    → (bytes seen : List ℕ) → bytes ≡ encode_utf8_all (canonical_text_of settings start text steps) → seen ≡ bytes → (start + length seen < 2 ^ 32 → ⊥) → IsTooLong settings start text steps
+text-too_long settings start text steps clean bytes seen are same never =
+    let above : 2 ^ 32 < suc (start + length seen) = lt_of_not-le never in
+    record { clean = clean; too_long = subst (λ l. 2 ^ 32 ≤ start + length l) (same ∙ are) (omega (arith, above)) }

@@ -1,20 +1,24 @@
--- The tokens that a run keeps lie in its text.
-use Rattle.std.proofs.Common.{◌≡◌, ◌∙◌, ℕ, ◌≤◌, Bool, true, false, List, [], ◌∷◌, ◌++◌, Option, Some, None, drop, map, reverse, take, refl, sym, ap, subst, arith}
-use Rattle.std.proofs.lemmas.Grind.{reverse_onto}
-use Rattle.std.proofs.lemmas.List.Elements.{All-append}
-use Rattle.std.specs.List.{All}
+-- The tokens that a list of steps keeps of a text lie in it, between its places.
+use Rattle.std.proofs.Common.{◌≡◌, ◌∙◌, ℕ, ◌+◌, Bool, true, false, List, [], ◌∷◌, drop, map, Option, Some, None, refl, sym, subst, ap, arith}
 use Rattle.std.specs.Prelude.{fold, is_some}
+use mathlib.Core.List.{reverse_aux}
+use Rattle.std.specs.List.{All}
+use Rattle.std.proofs.lemmas.List.Elements.{All-cons, All-nil}
 use Rattle.ecma_place.specs.Cursor.{Cursor, HasPlace, place, rest}
-use Rattle.ecma_place.specs.Text.{byte_len, place_of}
-use Rattle.ecma_place.specs.declared.place.BytePos.{BytePos}
+use Rattle.ecma_place.specs.Text.{byte_len}
 use Rattle.ecma_scan.specs.Expressions.{regular_expression}
 use Rattle.ecma_scan.specs.Found.{found_at, token_behind}
+use Rattle.ecma_place.specs.declared.place.BytePos.{BytePos}
 use Rattle.ecma_token.specs.View.{SpannedView}
+use Rattle.ecma_laws.proofs.TilingLemmas.{Standing, act_standing, again-ends, begins_standing}
+use Rattle.ecma_replay.specs.Replay.{Replays}
+use Rattle.ecma_replay.specs.declared.replayed.Replay.{Replay}
+use Rattle.ecma_canonical.specs.Joined.{StandsIn}
 use Rattle.ecma_state.specs.Contexts.{Contexts}
 use Rattle.ecma_state.specs.Counting.{counting}
-use Rattle.ecma_state.specs.Reading.{Reading, reading, reading_again, spanned}
-use Rattle.ecma_state.specs.Run.{act_on, acted_on, at_place, given_in, mode_of, popped_from, reading_from, reread_from, session, start_of}
-use Rattle.ecma_state.specs.Session.{Session, kept_back, kept_of, kept_tokens, last_flag, seen_of, state_of}
+use Rattle.ecma_state.specs.Reading.{reading, reading_again, spanned}
+use Rattle.ecma_state.specs.Run.{act_on, at_place, given_in, mode_of, popped_from, reading_from, reread_from, session, start_of}
+use Rattle.ecma_state.specs.Session.{Past, Session, kept_back, kept_of, kept_tokens, last_flag, seen_of, state_of}
 use Rattle.ecma_state.specs.State.{last_slash}
 use Rattle.ecma_state.specs.declared.kept.Kept.{Kept}
 use Rattle.ecma_state.specs.declared.settings.Settings.{Settings}
@@ -22,111 +26,106 @@ use Rattle.ecma_state.specs.declared.step.Step.{Step}
 use Rattle.ecma_state.specs.declared.step.Step.TheVariants.{Read, SetCtx, SetExprAllowed, SetContexts, PopContext, Reread, Withdraw, Save, Back, TakeErrors}
 use Rattle.ecma_stream.proofs.EndLemmas.{ReadsOn, reading-on}
 use Rattle.ecma_stream.proofs.SlashLemmas.{begins-reading}
-use Rattle.ecma_laws.proofs.TilingLemmas.{Standing, act_standing, again-ends, begins_standing}
-use Rattle.ecma_canonical.specs.Joined.{StandsIn}
 
--- Places of the same text
+-- each token lies in the text
+abbrev AllLie : Cursor → List SpannedView → Type 0
+AllLie input [] = Unit {0}
+AllLie input (t ∷ ts) = StandsIn input (kept_of t) × AllLie input ts
 
-has-place : (a c : Cursor) → a.start ≡ c.start → a.text ≡ c.text → (p : ℕ) → HasPlace a p → HasPlace c p
-has-place a c start text p (n, e) = (n, e ∙ ap (λ s. place_of s (take n a.text)) start ∙ ap (λ t. place_of c.start (take n t)) text)
+all-drop : (input : Cursor) (ts : List SpannedView) → AllLie input ts → AllLie input (drop 1 ts)
+all-drop input [] all = all
+all-drop input (t ∷ ts) all = all.1
 
-own-place : (a c : Cursor) → a.start ≡ c.start → a.text ≡ c.text → HasPlace c (place a)
-own-place a c start text = has-place a c start text (place a) (a.at, refl)
+-- a place of a cursor in the same text is one of the text
+moved-place : (input c : Cursor) (p : ℕ) → c.start ≡ input.start → c.text ≡ input.text → HasPlace c p → HasPlace input p
+moved-place input c p start text has =
+    let whole : Cursor = record { start = input.start; text = input.text; at = c.at } in
+    let same : c ≡ whole = ap (λ s. record { start = s; text = c.text; at = c.at }) start ∙ ap (λ t. record { start = input.start; text = t; at = c.at }) text in
+    subst (λ (d : Cursor). HasPlace d p) same has
 
--- Each token that is kept stands in the text
+own-place : (c : Cursor) → HasPlace c (place c)
+own-place c = (c.at, refl)
 
-abbrev AllStand : Cursor → List SpannedView → Type 0
-AllStand c ts = All (λ t. StandsIn c (kept_of t)) ts
+given-lies : (input : Cursor) (again flag : Bool) (found : Option SpannedView) (past : Past) → AllLie input (kept_back past)
+    → ((t : SpannedView) → found ≡ Some t → StandsIn input (kept_of t)) → AllLie input (kept_back (given_in again flag found ∷ past))
+given-lies input true flag (Some t) past all lies = (lies t refl, all-drop input (kept_back past) all)
+given-lies input false flag (Some t) past all lies = (lies t refl, all)
+given-lies input again flag None past all lies = all
 
-behind-first : (c : Cursor) (ts : List SpannedView) → AllStand c ts → AllStand c (drop 1 ts)
-behind-first c [] h = h
-behind-first c (t ∷ ts) h = h.1
-
--- a token that was found by a read
-read-stands : (c : Cursor) (s : Session) (t : SpannedView) → Standing c s → (reading (mode_of (state_of s)) s.input).found ≡ Some t → StandsIn c (kept_of t)
-read-stands c s t k found =
-    let r : Reading = reading (mode_of (state_of s)) s.input in
-    let on : ReadsOn s.input r = reading-on (mode_of (state_of s)) s.input in
-    let at = on.token t found in
+-- what a read answers lies in the text
+read-lies : (input : Cursor) (s : Session) → Standing input s → (r : Option BytePos) → s.reread ≡ r
+    → (t : SpannedView) → (reading_from r (state_of s)).found ≡ Some t → StandsIn input (kept_of t)
+read-lies input s k None plain t e =
+    let mode = mode_of (state_of s) in
+    let on : ReadsOn s.input (reading mode s.input) = reading-on mode s.input in
+    let at = on.token t e in
+    let behind = (reading mode s.input).input in
+    let ends : HasPlace input (place behind) = moved-place input behind (place behind) (on.start ∙ k.start) (on.text ∙ k.text) (own-place behind) in
     record {
-      from = has-place s.input c k.start k.text t.span.lo.0 (begins-reading (mode_of (state_of s)) s.input t found).has_place;
-      to = subst (HasPlace c) (sym at.2) (own-place r.input c (on.start ∙ k.start) (on.text ∙ k.text));
+      from = moved-place input s.input t.span.lo.0 k.start k.text (begins-reading mode s.input t e).has_place;
+      to = subst (HasPlace input) (sym at.2) ends;
       in_order = at.1;
     }
+read-lies input s k (Some slash) again t e = subst (λ u. StandsIn input (kept_of u)) (some-same e) lies
+  where
+    here : Cursor
+    here = at_place slash s.input
 
--- a token that was read again from a slash
-again-stands : (c : Cursor) (s : Session) (p : BytePos) → Standing c s → s.reread ≡ Some p
-    → let here = at_place p s.input in StandsIn c (kept_of (spanned (last_flag s.past) (found_at token_behind (place here) (regular_expression (rest here)))))
-again-stands c s p k e =
-    let here : Cursor = at_place p s.input in
-    let r : Reading = reading_again (last_flag s.past) here in
-    let ends = again-ends (last_flag s.past) here (k.reread p e).opens in
-    record {
-      from = own-place here c k.start k.text;
-      to = subst (HasPlace c) (sym ends) (own-place r.input c k.start k.text);
+    found : SpannedView
+    found = spanned (last_flag s.past) (found_at token_behind (place here) (regular_expression (rest here)))
+
+    some-same : Some found ≡ Some t → found ≡ t
+    some-same e = cc
+
+    behind : Cursor
+    behind = (reading_again (last_flag s.past) here).input
+
+    ends : place here + byte_len (regular_expression (rest here)).spelling ≡ place behind
+    ends = again-ends (last_flag s.past) here (k.reread slash again).opens
+
+    lies : StandsIn input (kept_of found)
+    lies = record {
+      from = moved-place input here (place here) k.start k.text (own-place here);
+      to = subst (HasPlace input) (sym ends) (moved-place input behind (place behind) k.start k.text (own-place behind));
       in_order = omega arith;
     }
 
-kept-by-read : (c : Cursor) (s : Session) → Standing c s → AllStand c (kept_back s.past) → AllStand c (kept_back (act_on s Read).past)
-kept-by-read c s k all = go s.reread refl
-  where
-    once : (flag : Bool) (found : Option SpannedView) (again : Bool) → again ≡ false → ((t : SpannedView) → found ≡ Some t → StandsIn c (kept_of t)) → AllStand c (kept_back (given_in again flag found ∷ s.past))
-    once flag None again e stands = all
-    once flag (Some t) false e stands = (stands t refl, all)
-    once flag (Some t) true e stands = cc
+popped-lies : (input : Cursor) (s : Session) (contexts : Contexts) → AllLie input (kept_back s.past) → AllLie input (kept_back (popped_from s contexts).after.past)
+popped-lies input s [] all = all
+popped-lies input s (top ∷ below) all = all
 
-    twice : (flag : Bool) (t : SpannedView) (again : Bool) → again ≡ true → StandsIn c (kept_of t) → AllStand c (kept_back (given_in again flag (Some t) ∷ s.past))
-    twice flag t true e stands = (stands, behind-first c (kept_back s.past) all)
-    twice flag t false e stands = cc
+reread-lies : (input : Cursor) (s : Session) (slash : Option BytePos) → AllLie input (kept_back s.past) → AllLie input (kept_back (reread_from s slash).after.past)
+reread-lies input s None all = all
+reread-lies input s (Some p) all = all
 
-    go : (reread : Option BytePos) → s.reread ≡ reread → AllStand c (kept_back (acted_on s (reading_from reread (state_of s))).after.past)
-    go None e =
-        let r : Reading = reading (mode_of (state_of s)) s.input in
-        once r.end_flag r.found (is_some s.reread) (ap is_some e) (λ t found. read-stands c s t k found)
-    go (Some p) e = twice (last_flag s.past) _ (is_some s.reread) (ap is_some e) (again-stands c s p k e)
+step-lies : (input : Cursor) (s : Session) (x : Step) → Standing input s → AllLie input (kept_back s.past) → AllLie input (kept_back (act_on s x).past)
+step-lies input s Read k all =
+    let r = reading_from s.reread (state_of s) in
+    given-lies input (is_some s.reread) r.end_flag r.found s.past all (read-lies input s k s.reread refl)
+step-lies input s (SetCtx context) k all = all
+step-lies input s (SetExprAllowed allowed) k all = all
+step-lies input s (SetContexts contexts) k all = all
+step-lies input s PopContext k all = popped-lies input s s.contexts all
+step-lies input s Reread k all = reread-lies input s (last_slash (seen_of s.past)) all
+step-lies input s Withdraw k all = all
+step-lies input s TakeErrors k all = all
+step-lies input s Save k all = all
+step-lies input s (Back n) k all = all
 
-popped-kept : (c : Cursor) (s : Session) (contexts : Contexts) → AllStand c (kept_back s.past) → AllStand c (kept_back (popped_from s contexts).after.past)
-popped-kept c s [] all = all
-popped-kept c s (top ∷ below) all = all
+all-lie : (input : Cursor) (s : Session) (steps : List Step) → Standing input s → AllLie input (kept_back s.past) → AllLie input (kept_back (fold act_on s steps).past)
+all-lie input s [] k all = all
+all-lie input s (x ∷ xs) k all = all-lie input (act_on s x) xs (act_standing input s x k) (step-lies input s x k all)
 
-reread-kept : (c : Cursor) (s : Session) (slash : Option BytePos) → AllStand c (kept_back s.past) → AllStand c (kept_back (reread_from s slash).after.past)
-reread-kept c s None all = all
-reread-kept c s (Some p) all = all
+onto : (input : Cursor) (ts : List SpannedView) (ks : List Kept) → AllLie input ts → All (StandsIn input) ks → All (StandsIn input) (reverse_aux (map kept_of ts) ks)
+onto input [] ks all behind = behind
+onto input (t ∷ ts) ks all behind = onto input ts (kept_of t ∷ ks) all.1 (All-cons (StandsIn input) (kept_of t) ks all.0 behind)
 
-kept-by-step : (c : Cursor) (s : Session) (step : Step) → Standing c s → AllStand c (kept_back s.past) → AllStand c (kept_back (act_on s step).past)
-kept-by-step c s Read k all = kept-by-read c s k all
-kept-by-step c s (SetCtx context) k all = all
-kept-by-step c s (SetExprAllowed allowed) k all = all
-kept-by-step c s (SetContexts contexts) k all = all
-kept-by-step c s PopContext k all = popped-kept c s s.contexts all
-kept-by-step c s Reread k all = reread-kept c s (last_slash (seen_of s.past)) all
-kept-by-step c s Withdraw k all = all
-kept-by-step c s Save k all = all
-kept-by-step c s (Back n) k all = all
-kept-by-step c s TakeErrors k all = all
-
-kept-by-steps : (c : Cursor) (s : Session) (steps : List Step) → Standing c s → AllStand c (kept_back s.past) → AllStand c (kept_back (fold act_on s steps).past)
-kept-by-steps c s [] k all = all
-kept-by-steps c s (step ∷ steps) k all = kept-by-steps c (act_on s step) steps (act_standing c s step k) (kept-by-step c s step k all)
-
--- In order
-
-all-mapped : (c : Cursor) (ts : List SpannedView) → AllStand c ts → All (StandsIn c) (map kept_of ts)
-all-mapped c [] h = h
-all-mapped c (t ∷ ts) h = (h.0, all-mapped c ts h.1)
-
-all-reversed : (c : Cursor) (ks : List Kept) → All (StandsIn c) ks → All (StandsIn c) (reverse ks)
-all-reversed c [] h = h
-all-reversed c (k ∷ ks) h =
-    subst (All (StandsIn c)) (sym (reverse_onto ks k [])) (All-append (StandsIn c) (reverse ks) (k ∷ []) (all-reversed c ks h.1) (h.0, tt))
-
--- The tokens that steps keep of a text lie in it, from a session on in which those that are kept do
-pub steps_keep_places : (c : Cursor) (s : Session) (steps : List Step) → Standing c s → AllStand c (kept_back s.past) → All (StandsIn c) (kept_tokens (fold act_on s steps))
-steps_keep_places c s steps k all =
-    let t : Session = fold act_on s steps in
-    all-reversed c (map kept_of (kept_back t.past)) (all-mapped c (kept_back t.past) (kept-by-steps c s steps k all))
-
--- so those of each list of steps do
+-- the tokens that any list of steps keeps
 pub kept_tokens_stand : (settings : Settings) (input : Cursor) (steps : List Step) → All (StandsIn input) (kept_tokens (session settings input steps))
 kept_tokens_stand settings input steps =
-    steps_keep_places input (start_of settings input) (counting steps) (begins_standing settings input) tt
+    onto input (kept_back (session settings input steps).past) [] (all-lie input (start_of settings input) (counting steps) (begins_standing settings input) tt) (All-nil (StandsIn input))
+
+-- the tokens that a replay keeps
+pub replayed_tokens_stand : (settings : Settings) (input : Cursor) (steps : List Step) (r : Replay) → Replays (start_of settings input) steps r → All (StandsIn input) r.kept.items
+replayed_tokens_stand settings input steps r replays =
+    subst (All (StandsIn input)) (sym replays.kept) (kept_tokens_stand settings input steps)

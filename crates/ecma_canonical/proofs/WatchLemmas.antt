@@ -1,5 +1,5 @@
 -- The watch over steps and their answers tells what holds behind the steps that count.
-use Rattle.std.proofs.Common.{◌≡◌, ◌∙◌, ℕ, ◌+◌, ◌<◌, ◌≤◌, Bool, true, false, not, ◌&&◌, ◌||◌, List, [], ◌∷◌, ◌++◌, length, suc, map, drop, get_or, arith, Option, Some, None, refl, sym, subst, ap}
+use Rattle.std.proofs.Common.{◌≡◌, ◌∙◌, ℕ, ◌+◌, ◌<◌, ◌≤◌, Bool, true, false, not, ◌&&◌, ◌||◌, List, [], ◌∷◌, ◌++◌, length, suc, map, drop, get_or, arith, Option, Some, None, refl, sym, ap}
 use Rattle.std.specs.Prelude.{is_some, option_map, slice_get}
 use Rattle.std.proofs.Math.Bool.{and-true}
 use Rattle.std.proofs.lemmas.List.{drop_all, drop_more, map-append}
@@ -11,7 +11,7 @@ use Rattle.ecma_token.specs.View.{SpannedView}
 use Rattle.ecma_clean.specs.Clean.{each_step, is_plain_step, takes_none, was_again}
 use Rattle.ecma_replay.specs.Replay.{answer_view}
 use Rattle.ecma_replay.specs.declared.answer.Answer.{Answer as GivenAnswer}
-use Rattle.ecma_canonical.specs.Watching.{WatcherKept, back_to, behind_step, followed, followed_all, is_done, is_token, none_kept, none_watched, watch_of, watcher_of, with_step}
+use Rattle.ecma_canonical.specs.Watching.{WatcherKept, back_to, behind_step, followed, followed_all, is_done, is_token, none_kept, watch_of, watcher_of, with_step}
 use Rattle.ecma_canonical.specs.declared.watch.Watch.{Watch}
 use Rattle.ecma_state.specs.Contexts.{Contexts}
 use Rattle.ecma_state.specs.Counting.{Counted, count_all, count_step, counted, gone_back, none_yet}
@@ -185,7 +185,7 @@ followed-more w now steps given i x answer below each is answered told =
     drop_more given i answer (omega (arith, below, each)) ∙ ap (λ a. a ∷ drop (i + 1) given) (sym answered) in
     ap (λ v. followed_all v (drop (i + 1) steps) (map answer_view (drop (i + 1) given))) told
     ∙ sym (ap (λ xs. followed_all w xs (map answer_view (drop i given))) next
-        ∙ ap (λ gs. followed_all w (x ∷ drop (i + 1) steps) (map answer_view gs)) next_answer)
+    ∙ ap (λ gs. followed_all w (x ∷ drop (i + 1) steps) (map answer_view gs)) next_answer)
 
 -- nothing is left behind the last step
 pub followed-end : (w all : WatcherKept) (steps : List Step) (answers : List Answer) (i : ℕ) → length steps ≤ i → followed_all w (drop i steps) answers ≡ all → w ≡ all

@@ -1,5 +1,5 @@
 -- Kept tokens joined one by one.
-use Rattle.std.specs.Prelude.{◌≤◌, Bool, ◌||◌, List, [], ◌∷◌, Option, Some, None}
+use Rattle.std.specs.Prelude.{◌≤◌, ◌||◌, List, [], ◌∷◌, Option, Some, None}
 use Rattle.clean_runs.specs.Parts.{joint}
 use Rattle.ecma_clean.specs.Canonical.{Own, is_template_text}
 use Rattle.ecma_place.specs.Cursor.{Cursor, HasPlace}
