@@ -25,14 +25,14 @@ use Rattle.ecma_token.specs.Kinds.{kind_of}
 use Rattle.ecma_token.specs.View.{TokenView}
 use Rattle.ecma_token.specs.declared.kind.TokenKind.{TokenKind}
 use Rattle.ecma_token.specs.declared.kind.TokenKind.TheVariants.{Template}
-use Rattle.ecma_clean.specs.BareReads.{Bare}
-use Rattle.ecma_clean.specs.Bearing.{Bearing, bearing_of}
-use Rattle.ecma_clean.specs.Canonical.{Own, between, canonical_behind, canonical_of, is_template_text, own_in}
-use Rattle.ecma_clean.specs.Clean.{each_step, is_plain_step}
-use Rattle.ecma_clean.specs.Instance.{Change, lexer_grammar, lexer_parts, role_of, steps_as}
+use Rattle.ecma_parts.specs.BareReads.{Bare}
+use Rattle.ecma_parts.specs.Bearing.{Bearing, bearing_of}
+use Rattle.ecma_clean_reads.specs.Canonical.{Own, between, canonical_behind, canonical_of, is_template_text, own_in}
+use Rattle.ecma_clean_reads.specs.Clean.{each_step, is_plain_step}
+use Rattle.ecma_parts.specs.Instance.{Change, lexer_grammar, lexer_parts, role_of, steps_as}
 use Rattle.ecma_clean.specs.Sharing.{CanonicalIsRead, CanonicalIsShared, CanonicalRunsAlike, IsReadCleanly, begin, canonical_text_of, owned, stages_of}
-use Rattle.ecma_clean.proofs.InstanceLaws.{lexer_parts_keep, start_is_plain}
-use Rattle.ecma_clean.proofs.TokensRead.{own_of}
+use Rattle.ecma_parts.proofs.InstanceLaws.{lexer_parts_keep, start_is_plain}
+use Rattle.ecma_clean_reads.proofs.TokensRead.{own_of}
 use Rattle.ecma_clean.proofs.WalkedRuns.{begins-start, walked-start}
 use Rattle.ecma_clean.proofs.Walking.{IsWalked, clean, is_plain_anywhere, owned_back, stage_of, unclean}
 
@@ -148,7 +148,7 @@ walked-again : (settings : Settings) (text : Text) (cs : List (Counting Change))
     → walk_first lexer_grammar (begins settings) false (canonical_of (map own_of x.kept)) cs ≡ Some x
 unfolding lexer_laws
 walked-again settings text cs x (d, is) =
-    let plain = start_holds lexer_parts lexer_parts_keep (begins settings) text (record { plain = start_is_plain settings; start = refl; outside = refl }) in
+    let plain = start_holds lexer_parts lexer_parts_keep (begins settings) text (record { plain = start_is_plain settings (begin 0 []); start = refl; outside = refl }) in
     let (d2, same) = run_alike lexer_grammar lexer_laws (λ e. e) plain d in
     ap (λ t. walk_first lexer_grammar (begins settings) false t cs) (sym (canon-is x.kept))
     ∙ walk_first-complete lexer_grammar d2

@@ -19,12 +19,12 @@ use Rattle.ecma_state.specs.TokenAt.{is_empty}
 use Rattle.ecma_state.specs.declared.step.Step.{Step}
 use Rattle.ecma_state.specs.declared.step.Step.TheVariants.{Read, SetCtx, SetExprAllowed, SetContexts, PopContext, Reread, Withdraw, Save, Back, TakeErrors}
 use Rattle.ecma_token.specs.View.{ErrorView, TokenView}
-use Rattle.ecma_clean.specs.Bearing.{Bearing, bearing_of}
-use Rattle.ecma_clean.specs.Canonical.{Own}
-use Rattle.ecma_clean.specs.Clean.{is_plain_step, takes_none, was_again}
-use Rattle.ecma_clean.specs.Instance.{InContext, changed, lexer_grammar, steps_as}
-use Rattle.ecma_clean.specs.Stages.{Stage, read_in, stage_with}
-use Rattle.ecma_clean.proofs.Spoiling.{is_good, is_unrefused}
+use Rattle.ecma_parts.specs.Bearing.{Bearing, bearing_of}
+use Rattle.ecma_clean_reads.specs.Canonical.{Own}
+use Rattle.ecma_clean_reads.specs.Clean.{is_plain_step, takes_none, was_again}
+use Rattle.ecma_parts.specs.Instance.{InContext, changed, lexer_grammar, steps_as}
+use Rattle.ecma_clean_reads.specs.Stages.{Stage, read_in, stage_with}
+use Rattle.ecma_clean_reads.proofs.Spoiling.{is_good, is_unrefused}
 use Rattle.ecma_clean.proofs.Walking.{Acts, IsWalked, Sound, acts-plain, after-is, after_read, clean, is_plain_anywhere, owned_back, stage_of, still-sound, taken-sound, walked-context, walked-step}
 
 -- the end was answered, and no slash is read again

@@ -22,15 +22,15 @@ use Rattle.ecma_state.specs.declared.step.Step.{Step}
 use Rattle.ecma_state.specs.declared.step.Step.TheVariants.{Read, SetCtx, SetExprAllowed, SetContexts, PopContext, Reread, Withdraw, Save, Back, TakeErrors}
 use Rattle.ecma_token.specs.Kinds.{kind_of}
 use Rattle.ecma_token.specs.View.{SpannedView, TokenView}
-use Rattle.ecma_clean.specs.BareReads.{Bare, bare_again}
-use Rattle.ecma_clean.specs.Bearing.{Bearing, bearing_of}
-use Rattle.ecma_clean.specs.Canonical.{Own, own_in}
-use Rattle.ecma_clean.specs.Clean.{is_plain_step, takes_none, was_again}
-use Rattle.ecma_clean.specs.Instance.{InContext, changed, lexer_grammar, steps_as}
-use Rattle.ecma_clean.specs.Stages.{read_in, stage_with}
-use Rattle.ecma_clean.proofs.ReadsAs.{ReadsAs, RereadsAs, again-reads, good_again, reading-reads, refused_again, spoilt_again}
-use Rattle.ecma_clean.proofs.Spoiling.{is_unrefused, unplain-step}
-use Rattle.ecma_clean.proofs.TokensRead.{Stands, stands-kind}
+use Rattle.ecma_parts.specs.BareReads.{Bare, bare_again}
+use Rattle.ecma_parts.specs.Bearing.{Bearing, bearing_of}
+use Rattle.ecma_clean_reads.specs.Canonical.{Own, own_in}
+use Rattle.ecma_clean_reads.specs.Clean.{is_plain_step, takes_none, was_again}
+use Rattle.ecma_parts.specs.Instance.{InContext, changed, lexer_grammar, steps_as}
+use Rattle.ecma_clean_reads.specs.Stages.{read_in, stage_with}
+use Rattle.ecma_clean_reads.proofs.ReadsAs.{ReadsAs, RereadsAs, again-reads, good_again, reading-reads, refused_again, spoilt_again}
+use Rattle.ecma_clean_reads.proofs.Spoiling.{is_unrefused, unplain-step}
+use Rattle.ecma_clean_reads.proofs.TokensRead.{Stands, stands-kind}
 use Rattle.ecma_clean.proofs.WalkedEnd.{quiet-stage}
 use Rattle.ecma_clean.proofs.WalkedTokens.{AllWalked, At, at-again, at-ended, at-flag, at-given, at-owned, at-poised, at-slash, at-stage, at-still, bearing-behind, read-stage, token-told, walked-read}
 use Rattle.ecma_clean.proofs.Walking.{Acts, IsWalked, Sound, acts-again, after-is, after_read, is_plain_anywhere, read-records, read-refuses, still-sound, taken-sound, unclean, walked-context, walked-step, walked-token}

@@ -21,16 +21,16 @@ use Rattle.ecma_state.specs.declared.step.Step.{Step}
 use Rattle.ecma_state.specs.declared.step.Step.TheVariants.{Read}
 use Rattle.ecma_token.specs.Kinds.{kind_of}
 use Rattle.ecma_token.specs.View.{ErrorView, SpannedView, TokenView}
-use Rattle.ecma_clean.specs.BareReads.{Bare, any_recorded}
-use Rattle.ecma_clean.specs.Bearing.{bearing_of, behind_kind}
-use Rattle.ecma_clean.specs.Canonical.{own_in}
-use Rattle.ecma_clean.specs.Clean.{is_plain_step, was_again}
-use Rattle.ecma_clean.specs.Instance.{lexer_grammar, steps_as}
-use Rattle.ecma_clean.specs.Stages.{Stage, placeless, read_in, stage_with, token_from}
-use Rattle.ecma_clean.proofs.Disposed.{none-recorded, waits-so}
-use Rattle.ecma_clean.proofs.ReadsAs.{ReadsAs, at_end, good, refused, spoilt}
-use Rattle.ecma_clean.proofs.Spoiling.{IsPoised, is_unrefused}
-use Rattle.ecma_clean.proofs.TokensRead.{Stands, stands-flag, stands-kind, token-back}
+use Rattle.ecma_parts.specs.BareReads.{Bare, any_recorded}
+use Rattle.ecma_parts.specs.Bearing.{bearing_of, behind_kind}
+use Rattle.ecma_clean_reads.specs.Canonical.{own_in}
+use Rattle.ecma_clean_reads.specs.Clean.{is_plain_step, was_again}
+use Rattle.ecma_parts.specs.Instance.{lexer_grammar, steps_as}
+use Rattle.ecma_clean_reads.specs.Stages.{Stage, placeless, read_in, stage_with, token_from}
+use Rattle.ecma_clean_reads.proofs.Disposed.{none-recorded, waits-so}
+use Rattle.ecma_clean_reads.proofs.ReadsAs.{ReadsAs, at_end, good, refused, spoilt}
+use Rattle.ecma_clean_reads.proofs.Spoiling.{IsPoised, is_unrefused}
+use Rattle.ecma_clean_reads.proofs.TokensRead.{Stands, stands-flag, stands-kind, token-back}
 use Rattle.ecma_clean.proofs.WalkedEnd.{AtTheEnd, walked-end}
 use Rattle.ecma_clean.proofs.Walking.{Acts, IsWalked, Sound, acts-plain, after-is, after_read, is_plain_anywhere, owned_back, read-records, read-refuses, stage_of, stands_again, told, unclean, walked-step}
 

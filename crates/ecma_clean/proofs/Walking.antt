@@ -21,14 +21,14 @@ use Rattle.ecma_state.specs.declared.step.Step.TheVariants.{Read, SetCtx, SetExp
 use Rattle.ecma_syntax.specs.declared.context.Context.{Context}
 use Rattle.ecma_token.specs.Kinds.{kind_of}
 use Rattle.ecma_token.specs.View.{ErrorView, SpannedView, TokenView}
-use Rattle.ecma_clean.specs.BareReads.{Bare, any_recorded}
-use Rattle.ecma_clean.specs.Bearing.{Bearing}
-use Rattle.ecma_clean.specs.Canonical.{Own, own_in}
-use Rattle.ecma_clean.specs.Clean.{is_plain_step, takes_none}
-use Rattle.ecma_clean.specs.Stages.{Stage, read_in, stage_with, stages}
-use Rattle.ecma_clean.proofs.Disposed.{some-recorded}
-use Rattle.ecma_clean.proofs.Spoiling.{IsPoised, good-step, is_good, is_unrefused, is_unspoilt, read-poised, spoilt-is-bad, unspoilt-left, unspoilt-right}
-use Rattle.ecma_clean.proofs.TokensRead.{own_of}
+use Rattle.ecma_parts.specs.BareReads.{Bare, any_recorded}
+use Rattle.ecma_parts.specs.Bearing.{Bearing}
+use Rattle.ecma_clean_reads.specs.Canonical.{Own, own_in}
+use Rattle.ecma_clean_reads.specs.Clean.{is_plain_step, takes_none}
+use Rattle.ecma_clean_reads.specs.Stages.{Stage, read_in, stage_with, stages}
+use Rattle.ecma_clean_reads.proofs.Disposed.{some-recorded}
+use Rattle.ecma_clean_reads.proofs.Spoiling.{IsPoised, good-step, is_good, is_unrefused, is_unspoilt, read-poised, spoilt-is-bad, unspoilt-left, unspoilt-right}
+use Rattle.ecma_clean_reads.proofs.TokensRead.{own_of}
 
 -- Stages
 

@@ -1,7 +1,5 @@
-pub mod BareReads
-pub mod Bearing
-pub mod Canonical
-pub mod Clean
-pub mod Instance
 pub mod Sharing
-pub mod Stages
+pub use Rattle.ecma_parts.specs.Bearing
+pub use Rattle.ecma_clean_reads.specs.Canonical
+pub use Rattle.ecma_clean_reads.specs.Clean
+pub use Rattle.ecma_clean_reads.specs.Stages

@@ -9,9 +9,9 @@ use Rattle.ecma_state.specs.Session.{kept_tokens}
 use Rattle.ecma_state.specs.TokenAt.{is_empty}
 use Rattle.ecma_state.specs.declared.settings.Settings.{Settings}
 use Rattle.ecma_state.specs.declared.step.Step.{Step}
-use Rattle.ecma_clean.specs.Canonical.{Agree, Own, canonical_of, own_in}
-use Rattle.ecma_clean.specs.Clean.{is_clean}
-use Rattle.ecma_clean.specs.Stages.{Stage, stages}
+use Rattle.ecma_clean_reads.specs.Canonical.{Agree, Own, canonical_of, own_in}
+use Rattle.ecma_clean_reads.specs.Clean.{is_clean}
+use Rattle.ecma_clean_reads.specs.Stages.{Stage, stages}
 
 -- a text from its beginning on
 abbrev pub begin : ℕ → Text → Cursor

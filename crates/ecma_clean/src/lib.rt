@@ -1,5 +1,4 @@
-//! Clean runs and the canonical text of what they keep: definitions and laws, and the lexer's grammar as the theorem over
-//! any grammar sees it.
+//! Laws of clean runs and of the canonical text of what they keep: each run of a session is a walk of the lexer's grammar.
 #![tactic(auto)]
 
 pub mod laws;

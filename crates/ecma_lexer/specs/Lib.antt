@@ -27,6 +27,12 @@ pub use Rattle.ecma_laws.specs.NothingBehind
 pub use Rattle.ecma_laws.specs.Order
 pub use Rattle.ecma_laws.specs.Tiling
 pub use Rattle.ecma_laws.specs.ToldComments
+pub use Rattle.ecma_clean.specs.Bearing
+pub use Rattle.ecma_clean.specs.Canonical
+pub use Rattle.ecma_clean.specs.Clean
+pub use Rattle.ecma_clean.specs.Sharing
+pub use Rattle.ecma_clean.specs.Stages
+pub use Rattle.ecma_canonical.specs.Joined
 pub use Rattle.ecma_place.specs.Atom
 pub use Rattle.ecma_place.specs.Cursor
 pub use Rattle.ecma_place.specs.Text

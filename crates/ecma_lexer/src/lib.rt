@@ -1,7 +1,9 @@
 //! The lexer layer: the lexer, lists of steps played over a text, and the laws of both.
 #![tactic(auto)]
 
-pub use ecma_laws::laws;
+pub mod laws;
+
+pub use ecma_canonical::{Canon, canonical, canonical_text, clean_text, joined};
 pub use ecma_replay::{Answer, Replay, answer, replay, replayed, runner};
 pub use ecma_state::{
     BufferedComment, BufferedCommentKind, CommentsBuffer, ErrorList, Kept, Settings, State, Step,

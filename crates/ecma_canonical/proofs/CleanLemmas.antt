@@ -1,0 +1,105 @@
+-- What a replay tells is whether its run is clean.
+use Rattle.std.proofs.Common.{◌≡◌, ◌∙◌, ◌==◌, ◌+◌, ◌<◌, ◌≤◌, ◌^◌, ℕ, Bool, true, false, not, ◌&&◌, List, [], ◌∷◌, length, map, encode_utf8_all, suc, lt_of_not-le, refl, sym, subst, ap, arith, reverse}
+use mathlib.Core.List.{reverse_aux}
+use Rattle.std.specs.List.{list_all}
+use Rattle.std.proofs.lemmas.Bool.Decides.{nat_tests}
+use Rattle.std.proofs.lemmas.List.{length-map}
+use Rattle.std.proofs.lemmas.List.Folds.{list_all-map}
+use Rattle.ecma_place.specs.Cursor.{Cursor}
+use Rattle.ecma_token.specs.Kinds.{kind_of}
+use Rattle.ecma_token.specs.View.{SpannedView, error_view}
+use Rattle.ecma_clean.specs.Clean.{each_step, is_clean, is_plain_step, takes_none}
+use Rattle.ecma_clean.specs.Canonical.{canonical_of, own_in}
+use Rattle.ecma_clean.specs.Sharing.{IsReadCleanly, begin, canonical_text_of}
+use Rattle.ecma_clean.proofs.CanonicalLaws.{canonical_is_read}
+use Rattle.ecma_place.specs.Text.{Text}
+use Rattle.ecma_canonical.specs.Canonical.{IsCanonicalText, IsTooLong}
+use Rattle.ecma_replay.specs.Replay.{Replays, answer_view}
+use Rattle.ecma_replay.specs.declared.replayed.Replay.{Replay}
+use Rattle.ecma_canonical.specs.Watching.{followed_all, none_kept}
+use Rattle.ecma_canonical.proofs.WatchLemmas.{answers-length, run-watched}
+use Rattle.ecma_state.specs.Counting.{counting, none_yet}
+use Rattle.ecma_state.specs.Run.{session, start_of}
+use Rattle.ecma_state.specs.Session.{has_ended, kept_back, kept_of}
+use Rattle.ecma_state.specs.State.{is_error}
+use Rattle.ecma_state.specs.TokenAt.{is_empty}
+use Rattle.ecma_state.specs.declared.kept.Kept.{Kept}
+use Rattle.ecma_state.specs.declared.settings.Settings.{Settings}
+use Rattle.ecma_state.specs.declared.step.Step.{Step}
+
+and-over : (a b c : Bool) → ((a && b) && c) ≡ (a && (b && c))
+and-over true b c = refl
+and-over false b c = refl
+
+and-swap : (a b : Bool) → (a && b) ≡ (b && a)
+and-swap true true = refl
+and-swap true false = refl
+and-swap false true = refl
+and-swap false false = refl
+
+-- in any order
+all-onto : {A : Type 0} (p : A → Bool) (xs ys : List A) → list_all p (reverse_aux xs ys) ≡ (list_all p xs && list_all p ys)
+all-onto p [] ys = refl
+all-onto p (x ∷ xs) ys =
+    all-onto p xs (x ∷ ys)
+    ∙ sym (and-over (list_all p xs) (p x) (list_all p ys))
+    ∙ ap (λ b. b && list_all p ys) (and-swap (list_all p xs) (p x))
+
+all-reversed : {A : Type 0} (p : A → Bool) (xs : List A) → list_all p (reverse xs) ≡ list_all p xs
+all-reversed p xs = all-onto p xs [] ∙ and-swap (list_all p xs) true
+
+none-error : (ts : List SpannedView) → list_all (λ (k : Kept). not (is_error k.kind)) (reverse (map kept_of ts)) ≡ list_all (λ t. not (is_error (kind_of t.token))) ts
+none-error ts =
+    all-reversed (λ (k : Kept). not (is_error k.kind)) (map kept_of ts) ∙ list_all-map (λ (k : Kept). not (is_error k.kind)) kept_of ts
+
+mapped-empty : {A B : Type 0} (f : A → B) (xs : List A) → is_empty (map f xs) ≡ (length xs == 0)
+mapped-empty f [] = refl
+mapped-empty f (x ∷ xs) = grind (arith, nat_tests)
+
+-- one answer was given for each step
+pub one-each : (settings : Settings) (input : Cursor) (steps : List Step) (r : Replay) → Replays (start_of settings input) steps r → length r.answers.items ≡ length steps
+one-each settings input steps r replays =
+    sym (length-map r.answers.items answer_view) ∙ ap length replays.answers ∙ answers-length (start_of settings input) none_yet steps
+
+pub told-clean : (settings : Settings) (input : Cursor) (steps : List Step) (r : Replay) (b : Bool) → Replays (start_of settings input) steps r
+    → b ≡ (followed_all none_kept steps (map answer_view r.answers.items)).watch.is_clean
+    → (b && (r.ended && (list_all (λ (k : Kept). not (is_error k.kind)) r.kept.items && (length r.errors == 0)))) ≡ is_clean settings input steps
+told-clean settings input steps r b replays told =
+    let begin = start_of settings input in
+    let s = session settings input steps in
+    let plain = each_step is_plain_step begin (counting steps) in
+    let none = each_step takes_none begin (counting steps) in
+    let watched : b ≡ (plain && none) =
+    told ∙ ap (λ answers. (followed_all none_kept steps answers).watch.is_clean) replays.answers ∙ ap (λ w. w.watch.is_clean) (run-watched settings input steps) in
+    let kept : list_all (λ (k : Kept). not (is_error k.kind)) r.kept.items ≡ list_all (λ t. not (is_error (kind_of t.token))) (kept_back s.past) =
+    ap (list_all (λ (k : Kept). not (is_error k.kind))) replays.kept ∙ none-error (kept_back s.past) in
+    let errors : (length r.errors == 0) ≡ is_empty s.errors.recorded =
+    sym (mapped-empty error_view r.errors) ∙ ap is_empty replays.errors in
+    ap (λ w. w && (r.ended && (list_all (λ (k : Kept). not (is_error k.kind)) r.kept.items && (length r.errors == 0)))) watched
+    ∙ ap (λ e. (plain && none) && (e && (list_all (λ (k : Kept). not (is_error k.kind)) r.kept.items && (length r.errors == 0)))) replays.ended
+    ∙ ap (λ l. (plain && none) && (has_ended s.past && (l && (length r.errors == 0)))) kept
+    ∙ ap (λ m. (plain && none) && (has_ended s.past && (list_all (λ t. not (is_error (kind_of t.token))) (kept_back s.past) && m))) errors
+    ∙ and-over plain none (has_ended s.past && (list_all (λ t. not (is_error (kind_of t.token))) (kept_back s.past) && is_empty s.errors.recorded))
+
+-- the bytes of what is joined are those of the canonical text
+pub text-is : (settings : Settings) (start : ℕ) (text : Text) (steps : List Step) (r : Replay) → Replays (start_of settings (begin start text)) steps r
+    → (kept : List Kept) (bytes : List ℕ) → kept ≡ r.kept.items → bytes ≡ encode_utf8_all (canonical_of (map (own_in (begin start text)) kept))
+    → bytes ≡ encode_utf8_all (canonical_text_of settings start text steps)
+text-is settings start text steps r replays kept bytes whole joined =
+    joined ∙ ap (λ ks. encode_utf8_all (canonical_of (map (own_in (begin start text)) ks))) (whole ∙ replays.kept)
+
+pub text-fits : (settings : Settings) (start : ℕ) (text : Text) (steps : List Step) → IsReadCleanly settings start text steps
+    → (bytes seen : List ℕ) → bytes ≡ encode_utf8_all (canonical_text_of settings start text steps) → seen ≡ bytes → start + length seen < 2 ^ 32 → IsCanonicalText settings start text steps bytes
+text-fits settings start text steps clean bytes seen are same below =
+    record {
+      clean = clean;
+      bytes_are = are;
+      fits = subst (λ l. start + length l < 2 ^ 32) (same ∙ are) below;
+      read_again = canonical_is_read settings start text steps clean;
+    }
+
+pub text-too_long : (settings : Settings) (start : ℕ) (text : Text) (steps : List Step) → IsReadCleanly settings start text steps
+    → (bytes seen : List ℕ) → bytes ≡ encode_utf8_all (canonical_text_of settings start text steps) → seen ≡ bytes → (start + length seen < 2 ^ 32 → ⊥) → IsTooLong settings start text steps
+text-too_long settings start text steps clean bytes seen are same never =
+    let above : 2 ^ 32 < suc (start + length seen) = lt_of_not-le never in
+    record { clean = clean; too_long = subst (λ l. 2 ^ 32 ≤ start + length l) (same ∙ are) (omega (arith, above)) }

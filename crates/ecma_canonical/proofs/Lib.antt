@@ -1,0 +1,4 @@
+pub mod CleanLemmas
+pub mod JoinedLemmas
+pub mod KeptPlaces
+pub mod WatchLemmas

@@ -1,0 +1,10 @@
+//! The canonical text of a list of steps over a text: the characters of the tokens that they keep, with as little between
+//! them as keeps them apart. Where the run is clean, it is read to the same tokens.
+#![tactic(auto)]
+
+pub mod clean_text;
+pub mod joined;
+mod watch;
+
+pub use clean_text::{Canon, canonical};
+pub use joined::canonical_text;

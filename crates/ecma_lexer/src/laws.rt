@@ -1,0 +1,11 @@
+//! What holds of the grammar and of every run: each call does nothing, and its contract is the law.
+
+pub use ecma_clean::laws::{canonical_is_read, canonical_is_shared, canonical_runs_alike};
+pub use ecma_joining::laws as joining;
+pub use ecma_laws::laws::{
+    answers_are_in_order, collecting_changes_nothing, comments_are_kept, comments_are_told,
+    empty_tokens_stand_alone, expressions, gaps, going_back_undoes, kept_and_gaps_tile,
+    nested_excursions_are_undone, no_gap_in_templates, nothing_behind_the_end, numbers,
+    punctuators, reading_is_determined, reads_are_free, reads_end, strings, templates,
+    tokens_are_few, tokens_are_in_order, tokens_run_out, words,
+};

@@ -1,0 +1,3 @@
+pub mod BareReads
+pub mod Bearing
+pub mod Instance
