@@ -1,7 +1,8 @@
 -- What a replay tells is whether its run is clean.
-use Rattle.std.proofs.Common.{◌≡◌, ◌∙◌, ◌==◌, ◌+◌, ◌<◌, ◌≤◌, ◌^◌, ℕ, Bool, true, false, not, ◌&&◌, List, [], ◌∷◌, length, map, encode_utf8_all, suc, lt_of_not-le, refl, sym, subst, ap, arith, reverse}
+use Rattle.std.proofs.Common.{◌≡◌, ◌∙◌, ◌==◌, ◌+◌, ◌<◌, ◌≤◌, ◌^◌, ℕ, Bool, true, not, ◌&&◌, List, [], ◌∷◌, length, map, encode_utf8_all, suc, lt_of_not-le, refl, sym, subst, ap, arith, reverse}
 use mathlib.Core.List.{reverse_aux}
 use Rattle.std.specs.List.{list_all}
+use Rattle.std.proofs.Math.Bool.{and_assoc, and_comm}
 use Rattle.std.proofs.lemmas.Bool.Decides.{nat_tests}
 use Rattle.std.proofs.lemmas.List.{length-map}
 use Rattle.std.proofs.lemmas.List.Folds.{list_all-map}
@@ -27,26 +28,16 @@ use Rattle.ecma_state.specs.declared.kept.Kept.{Kept}
 use Rattle.ecma_state.specs.declared.settings.Settings.{Settings}
 use Rattle.ecma_state.specs.declared.step.Step.{Step}
 
-and-over : (a b c : Bool) → ((a && b) && c) ≡ (a && (b && c))
-and-over true b c = refl
-and-over false b c = refl
-
-and-swap : (a b : Bool) → (a && b) ≡ (b && a)
-and-swap true true = refl
-and-swap true false = refl
-and-swap false true = refl
-and-swap false false = refl
-
 -- in any order
 all-onto : {A : Type 0} (p : A → Bool) (xs ys : List A) → list_all p (reverse_aux xs ys) ≡ (list_all p xs && list_all p ys)
 all-onto p [] ys = refl
 all-onto p (x ∷ xs) ys =
     all-onto p xs (x ∷ ys)
-    ∙ sym (and-over (list_all p xs) (p x) (list_all p ys))
-    ∙ ap (λ b. b && list_all p ys) (and-swap (list_all p xs) (p x))
+    ∙ sym (and_assoc (list_all p xs) (p x) (list_all p ys))
+    ∙ ap (λ b. b && list_all p ys) (and_comm (list_all p xs) (p x))
 
 all-reversed : {A : Type 0} (p : A → Bool) (xs : List A) → list_all p (reverse xs) ≡ list_all p xs
-all-reversed p xs = all-onto p xs [] ∙ and-swap (list_all p xs) true
+all-reversed p xs = all-onto p xs [] ∙ and_comm (list_all p xs) true
 
 none-error : (ts : List SpannedView) → list_all (λ (k : Kept). not (is_error k.kind)) (reverse (map kept_of ts)) ≡ list_all (λ t. not (is_error (kind_of t.token))) ts
 none-error ts =
@@ -79,7 +70,7 @@ told-clean settings input steps r b replays told =
     ∙ ap (λ e. (plain && none) && (e && (list_all (λ (k : Kept). not (is_error k.kind)) r.kept.items && (length r.errors == 0)))) replays.ended
     ∙ ap (λ l. (plain && none) && (has_ended s.past && (l && (length r.errors == 0)))) kept
     ∙ ap (λ m. (plain && none) && (has_ended s.past && (list_all (λ t. not (is_error (kind_of t.token))) (kept_back s.past) && m))) errors
-    ∙ and-over plain none (has_ended s.past && (list_all (λ t. not (is_error (kind_of t.token))) (kept_back s.past) && is_empty s.errors.recorded))
+    ∙ and_assoc plain none (has_ended s.past && (list_all (λ t. not (is_error (kind_of t.token))) (kept_back s.past) && is_empty s.errors.recorded))
 
 -- the bytes of what is joined are those of the canonical text
 pub text-is : (settings : Settings) (start : ℕ) (text : Text) (steps : List Step) (r : Replay) → Replays (start_of settings (begin start text)) steps r

@@ -17,7 +17,7 @@ use Rattle.ecma_canonical.specs.Joined.{StandsIn}
 use Rattle.ecma_state.specs.Contexts.{Contexts}
 use Rattle.ecma_state.specs.Counting.{counting}
 use Rattle.ecma_state.specs.Reading.{reading, reading_again, spanned}
-use Rattle.ecma_state.specs.Run.{act_on, at_place, given_in, mode_of, popped_from, reading_from, reread_from, session, start_of}
+use Rattle.ecma_state.specs.Run.{act_all, act_on, at_place, given_in, mode_of, popped_from, reading_from, reread_from, session, start_of}
 use Rattle.ecma_state.specs.Session.{Past, Session, kept_back, kept_of, kept_tokens, last_flag, seen_of, state_of}
 use Rattle.ecma_state.specs.State.{last_slash}
 use Rattle.ecma_state.specs.declared.kept.Kept.{Kept}
@@ -120,10 +120,14 @@ onto : (input : Cursor) (ts : List SpannedView) (ks : List Kept) → AllLie inpu
 onto input [] ks all behind = behind
 onto input (t ∷ ts) ks all behind = onto input ts (kept_of t ∷ ks) all.1 (All-cons (StandsIn input) (kept_of t) ks all.0 behind)
 
+-- the tokens that are kept where steps lead, all of which count
+pub steps_keep_places : (settings : Settings) (input : Cursor) (steps : List Step) → All (StandsIn input) (kept_tokens (act_all (start_of settings input) steps))
+steps_keep_places settings input steps =
+    onto input (kept_back (act_all (start_of settings input) steps).past) [] (all-lie input (start_of settings input) steps (begins_standing settings input) tt) (All-nil (StandsIn input))
+
 -- the tokens that any list of steps keeps
 pub kept_tokens_stand : (settings : Settings) (input : Cursor) (steps : List Step) → All (StandsIn input) (kept_tokens (session settings input steps))
-kept_tokens_stand settings input steps =
-    onto input (kept_back (session settings input steps).past) [] (all-lie input (start_of settings input) (counting steps) (begins_standing settings input) tt) (All-nil (StandsIn input))
+kept_tokens_stand settings input steps = steps_keep_places settings input (counting steps)
 
 -- the tokens that a replay keeps
 pub replayed_tokens_stand : (settings : Settings) (input : Cursor) (steps : List Step) (r : Replay) → Replays (start_of settings input) steps r → All (StandsIn input) r.kept.items

@@ -1,7 +1,7 @@
 -- The watch over steps and their answers tells what holds behind the steps that count.
 use Rattle.std.proofs.Common.{◌≡◌, ◌∙◌, ℕ, ◌+◌, ◌<◌, ◌≤◌, Bool, true, false, not, ◌&&◌, ◌||◌, List, [], ◌∷◌, ◌++◌, length, suc, map, drop, get_or, arith, Option, Some, None, refl, sym, ap}
 use Rattle.std.specs.Prelude.{is_some, option_map, slice_get}
-use Rattle.std.proofs.Math.Bool.{and-true}
+use Rattle.std.proofs.Math.Bool.{and-true, and_assoc, or-false, or-true}
 use Rattle.std.proofs.lemmas.List.{drop_all, drop_more, map-append}
 use Rattle.std.proofs.lemmas.List.Sums.{fold-append}
 use Rattle.std.proofs.lemmas.Option.{slice_get-map}
@@ -25,23 +25,11 @@ use Rattle.ecma_state.specs.declared.step.Step.TheVariants.{Read, SetCtx, SetExp
 
 -- Tests
 
-and-over : (a b c : Bool) → (a && (b && c)) ≡ ((a && b) && c)
-and-over true b c = refl
-and-over false b c = refl
-
 and-swap : (a b c d : Bool) → ((a && b) && (c && d)) ≡ ((a && c) && (b && d))
 and-swap true true c d = refl
 and-swap true false true d = refl
 and-swap true false false d = refl
 and-swap false b c d = refl
-
-or-true : (a : Bool) → true ≡ (a || true)
-or-true true = refl
-or-true false = refl
-
-or-false : (a : Bool) → a ≡ (a || false)
-or-false true = refl
-or-false false = refl
 
 -- One more step that counts
 
@@ -49,7 +37,7 @@ each-more : (holds : Session → Step → Bool) (s : Session) (steps : List Step
 each-more holds s [] x = and-true (holds s x)
 each-more holds s (y ∷ ys) x =
     ap (λ more. holds s y && more) (each-more holds (act_on s y) ys x)
-    ∙ and-over (holds s y) (each_step holds (act_on s y) ys) (holds (act_all (act_on s y) ys) x)
+    ∙ sym (and_assoc (holds s y) (each_step holds (act_on s y) ys) (holds (act_all (act_on s y) ys) x))
 
 -- what holds at a session, where the steps before it were clean or not
 abbrev seen_at : Session → Bool → Watch
@@ -69,9 +57,9 @@ reread-seen : (s : Session) (slash : Option BytePos) (is_clean : Bool)
     → seen_at (reread_from s slash).after (is_clean && true) ≡ record (seen_at s is_clean) { rereads = is_some s.reread || is_done (reread_from s slash).answer }
 reread-seen s (Some p) is_clean =
     ap (λ b. seen_at (record s { reread = Some p }) b) (and-true is_clean)
-    ∙ ap (λ b. record (seen_at s is_clean) { rereads = b }) (or-true (is_some s.reread))
+    ∙ ap (λ b. record (seen_at s is_clean) { rereads = b }) (sym (or-true (is_some s.reread)))
 reread-seen s None is_clean =
-    ap (seen_at s) (and-true is_clean) ∙ ap (λ b. record (seen_at s is_clean) { rereads = b }) (or-false (is_some s.reread))
+    ap (seen_at s) (and-true is_clean) ∙ ap (λ b. record (seen_at s is_clean) { rereads = b }) (sym (or-false (is_some s.reread)))
 
 step-seen : (s : Session) (is_clean : Bool) (x : Step) → seen_at (act_on s x) (is_clean && (is_plain_step s x && takes_none s x)) ≡ behind_step (seen_at s is_clean) x (act s x).answer
 step-seen s is_clean Read =

@@ -1,4 +1,5 @@
 -- The laws of canonical texts.
+use mathlib.Core.List.{map-map}
 use Rattle.std.proofs.Common.{◌≡◌, ◌∙◌, ℕ, true, false, ◌&&◌, ◌||◌, List, [], ◌∷◌, ◌++◌, Option, Some, append-nil, map, reverse, refl, sym, ap, subst}
 use Rattle.std.proofs.lemmas.Bool.{and_parts}
 use Rattle.std.proofs.lemmas.List.{map-append, reverse-reverse}
@@ -95,10 +96,6 @@ map-reverse f (x ∷ xs) =
     ∙ map-append f (reverse xs) (x ∷ [])
     ∙ ap (λ l. l ++ (f x ∷ [])) (map-reverse f xs)
     ∙ sym (reverse_onto (map f xs) (f x) [])
-
-map-map : {A B C : Type 0} (f : B → C) (g : A → B) (xs : List A) → map f (map g xs) ≡ map (λ x. f (g x)) xs
-map-map f g [] = refl
-map-map f g (x ∷ xs) = ap (λ l. f (g x) ∷ l) (map-map f g xs)
 
 owned-is : (c : Cursor) (s : Session) (us : List Own) → owned_back c s ≡ reverse us ++ [] → map (own_in c) (kept_tokens s) ≡ us
 owned-is c s us e =

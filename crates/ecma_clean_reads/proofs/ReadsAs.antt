@@ -1,5 +1,6 @@
 -- One read of a text at a place, and what the grammar finds there.
 use Rattle.std.proofs.Common.{◌≡◌, ◌∙◌, ℕ, ◌+◌, Bool, true, false, not, ◌&&◌, ◌||◌, List, [], ◌∷◌, ◌++◌, Option, Some, None, drop, drop-drop, length, map, take, refl, sym, ap, subst}
+use Rattle.std.proofs.Math.Bool.{or_assoc}
 use Rattle.clean_runs.specs.Grammar.{Found, token, ended, faulty}
 use Rattle.clean_runs.specs.Parts.{code_found, scan_in}
 use Rattle.ecma_place.specs.Cursor.{Cursor, passed, place, rest}
@@ -38,15 +39,11 @@ use Rattle.ecma_clean_reads.proofs.TokensRead.{Stands, placed-break, placed-kind
 
 -- Faults of a gap and of a token
 
-or-assoc : (a b c : Bool) → (a || b) || c ≡ a || (b || c)
-or-assoc true b c = refl
-or-assoc false b c = refl
-
 recorded-append : (context : Context) (xs ys : List Fault) → any_recorded context (xs ++ ys) ≡ any_recorded context xs || any_recorded context ys
 recorded-append context [] ys = refl
 recorded-append context (x ∷ xs) ys =
     ap (λ b. is_recorded context x.blame || b) (recorded-append context xs ys)
-    ∙ sym (or-assoc (is_recorded context x.blame) (any_recorded context xs) (any_recorded context ys))
+    ∙ sym (or_assoc (is_recorded context x.blame) (any_recorded context xs) (any_recorded context ys))
 
 recorded-behind : (context : Context) (n : ℕ) (xs : List Fault) → any_recorded context (map (fault_behind n) xs) ≡ any_recorded context xs
 recorded-behind context n [] = refl

@@ -1,5 +1,6 @@
 -- A run that went wrong stays so: an error that is recorded is never taken by clean steps, and a token that is an error is kept.
 use Rattle.std.proofs.Common.{◌≡◌, ◌∙◌, Bool, true, false, not, ◌&&◌, cond, List, [], ◌∷◌, ◌++◌, drop, Option, Some, None, refl, sym, ap, subst}
+use Rattle.std.proofs.Math.Bool.{and-false}
 use Rattle.std.specs.Prelude.{is_some}
 use Rattle.std.specs.List.{list_all}
 use Rattle.ecma_place.specs.declared.place.BytePos.{BytePos}
@@ -35,10 +36,6 @@ pub unplain-step : (s : Session) (step : Step) (steps : List Step) → is_plain_
 unplain-step s step steps plain =
     let after = act_on s step in
     ap (λ b. (b && each_step is_plain_step after steps) && ((takes_none s step && each_step takes_none after steps) && ends_clean (act_all after steps))) plain
-
-and-false : (b : Bool) → b && false ≡ false
-and-false true = refl
-and-false false = refl
 
 taking-step : (s : Session) (step : Step) (steps : List Step) → takes_none s step ≡ false → is_good s (step ∷ steps) ≡ false
 taking-step s step steps takes =

@@ -10,6 +10,7 @@ pub use Rattle.ecma_dispatch.proofs.FrontLemmas
 pub use Rattle.ecma_laws.proofs.GapTiling
 pub use Rattle.ecma_laws.proofs.GoingBack
 pub use Rattle.ecma_stream.proofs.ItemLemmas
+pub use Rattle.ecma_canonical.proofs.KeptPlaces
 pub use Rattle.ecma_laws.proofs.NestedLemmas
 pub use Rattle.ecma_laws.proofs.NothingLemmas
 pub use Rattle.ecma_state.proofs.OpeningLemmas

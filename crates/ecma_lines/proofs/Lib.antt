@@ -1,4 +1,5 @@
 pub mod Gathering
+pub mod Keeping
 pub mod Listing
 pub mod Messages
 pub mod Openings

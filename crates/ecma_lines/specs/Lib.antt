@@ -1,4 +1,5 @@
 pub mod Begin
+pub mod CanonText
 pub mod Command
 pub mod CommentLines
 pub mod ErrorLines

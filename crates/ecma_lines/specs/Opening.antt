@@ -1,5 +1,5 @@
 -- The tokens whose slashes are read again, and what is read behind them.
-use Rattle.std.specs.Prelude.{◌≡◌, ◌≤◌, ℕ, ◌-◌, ◌⊎◌, ⊤, Bool, true, false, List, [], ◌∷◌, Option, Some, None, if◌then◌else◌, is_some, map, reverse}
+use Rattle.std.specs.Prelude.{◌≡◌, ◌≤◌, ℕ, ◌-◌, ◌⊎◌, ⊤, Bool, true, false, List, [], ◌∷◌, Option, Some, None, Result, Ok, Err, if◌then◌else◌, is_some, map, reverse}
 use Rattle.ecma_token.specs.View.{SpannedView, spanned_view}
 use Rattle.ecma_lexer.specs.Ending.{behind_reads}
 use Rattle.ecma_lexer.specs.Run.{act_all}
@@ -42,6 +42,15 @@ CameTo s false o = slash_answered (state_of s) ≡ None
 -- why there is nothing: a token that is to be read again is no slash or isn't there, or memory was wanted
 abbrev pub Lacks : {T : Type 0} → Option T → Fault → Type 0
 Lacks wanted fault = ((wanted ≡ None) × (fault ≡ NoSlash)) ⊎ (fault ≡ OutOfMemory)
+
+-- the same as a reply
+abbrev pub unless_no_slash : {T : Type 0} → Option T → Result T Fault
+unless_no_slash None = Err NoSlash
+unless_no_slash (Some wanted) = Ok wanted
+
+-- why there is nothing: that fault, or memory was wanted
+abbrev pub Fails : {T : Type 0} → Result T Fault → Fault → Type 0
+Fails wanted fault = (wanted ≡ Err fault) ⊎ (fault ≡ OutOfMemory)
 
 -- each of these tokens stands in the first n bytes of a text that starts at the place 0
 abbrev pub AllWithin : ℕ → List SpannedView → Type 0

@@ -1,33 +1,31 @@
 -- What is answered to the words and the input, where memory is ample.
 use Rattle.std.specs.Prelude.{ℕ, List, Option, Some, None, Result, Ok, Err}
 use Rattle.ecma_lines.specs.declared.command.Command.{Command}
-use Rattle.ecma_lines.specs.declared.command.Command.TheVariants.{Tokens, Errors, Comments}
+use Rattle.ecma_lines.specs.declared.command.Command.TheVariants.{Tokens, Errors, Comments, Canon}
 use Rattle.ecma_lines.specs.declared.command.Options.{Options}
 use Rattle.ecma_stdio.specs.declared.fault.Fault.{Fault}
-use Rattle.ecma_stdio.specs.declared.fault.Fault.TheVariants.{BadWords, NoSlash}
+use Rattle.ecma_stdio.specs.declared.fault.Fault.TheVariants.{BadWords}
 use Rattle.ecma_stdio.specs.Faults.{text_reply}
+use Rattle.ecma_lines.specs.CanonText.{canon_text}
 use Rattle.ecma_lines.specs.Command.{Asked, request_of}
 use Rattle.ecma_lines.specs.CommentLines.{comments_text}
 use Rattle.ecma_lines.specs.ErrorLines.{errors_text}
 use Rattle.ecma_lines.specs.Lines.{tokens_text}
+use Rattle.ecma_lines.specs.Opening.{unless_no_slash}
 
--- what is written for a text
-abbrev pub command_text : Command → Options → List ℕ → List ℕ → Option (List ℕ)
-command_text Tokens options rereads bytes = tokens_text options rereads bytes
-command_text Errors options rereads bytes = errors_text options rereads bytes
-command_text Comments options rereads bytes = comments_text options rereads bytes
+-- what is written for a text, or what is wrong with it
+abbrev pub command_text : Command → Options → List ℕ → List ℕ → Result (List ℕ) Fault
+command_text Tokens options rereads bytes = unless_no_slash (tokens_text options rereads bytes)
+command_text Errors options rereads bytes = unless_no_slash (errors_text options rereads bytes)
+command_text Comments options rereads bytes = unless_no_slash (comments_text options rereads bytes)
+command_text Canon options rereads bytes = canon_text options rereads bytes
 
-abbrev pub program_text : Asked → List ℕ → Option (List ℕ)
+abbrev pub program_text : Asked → List ℕ → Result (List ℕ) Fault
 program_text request bytes = command_text request.command request.options request.rereads bytes
-
--- there is none where a token that is to be read again is no slash or isn't there
-abbrev pub written_reply : Option (List ℕ) → Result (List ℕ) Fault
-written_reply None = Err NoSlash
-written_reply (Some text) = Ok text
 
 -- the text of the input is judged before the tokens that are read again
 abbrev pub reply_with : Asked → Result (List ℕ) Fault → Result (List ℕ) Fault
-reply_with request (Ok text) = written_reply (program_text request text)
+reply_with request (Ok text) = program_text request text
 reply_with request (Err fault) = Err fault
 
 abbrev pub reply_to : Option Asked → List ℕ → Result (List ℕ) Fault

@@ -1,9 +1,10 @@
 //! The words of the command line, and what they ask for.
-ghost use Rattle.std.specs.Prelude.{◌≡◌, ◌^◌, ◌<◌, true, Some, MatchResult, is_some, length, map, option_map, string_bytes};
+ghost use Rattle.std.specs.Prelude.{◌≡◌, ◌^◌, ◌<◌, true, Ok, MatchResult, is_some, length, map, option_map, string_bytes};
 ghost use Rattle.ecma_lines.specs.Command.{named_command, once, request_of, request_view, with_option};
-ghost use Rattle.ecma_lines.specs.Opening.{Lacks};
+ghost use Rattle.ecma_lines.specs.Opening.{Fails};
 ghost use Rattle.ecma_lines.specs.Reply.{program_text};
 
+use crate::canon::canon_text;
 use crate::comments::comments_text;
 use crate::errors::errors_text;
 use crate::lines::tokens_text;
@@ -20,6 +21,8 @@ pub enum Command {
     Errors,
     /// The comments, a line each.
     Comments,
+    /// The canonical text.
+    Canon,
 }
 
 impl Command {
@@ -31,6 +34,7 @@ impl Command {
             "tokens" => Some(Command::Tokens),
             "errors" => Some(Command::Errors),
             "comments" => Some(Command::Comments),
+            "canon" => Some(Command::Canon),
             _ => None,
         }
     }
@@ -120,18 +124,20 @@ impl Request {
     ///
     /// # Errors
     ///
-    /// `NoSlash` where a token that is to be read again is no slash or isn't there; `OutOfMemory`.
+    /// `NoSlash` where a token that is to be read again is no slash or isn't there; `NotClean` and `TooLong` of the canonical
+    /// text, as [`canon_text`] says; `OutOfMemory`.
     pub fn text(&self, alloc: Global, text: &str) -> Result<Vec<u8>, Fault>
         requires { length text.now < 2 ^ 32 }
         ensures { MatchResult result
-            (λ written. program_text (request_view self.now) text.now ≡ Some written.items)
-            (λ fault. Lacks (program_text (request_view self.now) text.now) fault) }
+            (λ written. program_text (request_view self.now) text.now ≡ Ok written.items)
+            (λ fault. Fails (program_text (request_view self.now) text.now) fault) }
     {
         let rereads = self.rereads.as_slice();
         match self.command {
             Command::Tokens => tokens_text(alloc, self.options, rereads, text),
             Command::Errors => errors_text(alloc, self.options, rereads, text),
             Command::Comments => comments_text(alloc, self.options, rereads, text),
+            Command::Canon => canon_text(alloc, self.options, rereads, text),
         }
     }
 }

@@ -125,7 +125,7 @@ fn push_line(alloc: Global, out: &mut Vec<u8>, bytes: &[u8], token: Kept) -> Res
 }
 
 /// What is kept of the next token, or nothing at the end.
-fn next_kept(lexer: &mut Lexer) -> Result<Option<Kept>, AllocError>
+pub fn next_kept(lexer: &mut Lexer) -> Result<Option<Kept>, AllocError>
     ensures kept { IfOk result (λ kept. kept ≡ option_map kept_of (reading_of (lexer_state lexer.old)).found) }
     ensures after { OnOk result (lexer_state lexer.new ≡ state_behind (lexer_state lexer.old) (reading_of (lexer_state lexer.old))) }
 {

@@ -2,7 +2,7 @@
 use Rattle.std.specs.Prelude.{ℕ, List, [], ◌∷◌, ◌++◌, Result, Ok, Err, nat_lt, if◌then◌else◌, length, codes}
 use Rattle.std.specs.Str.{is_utf8}
 use Rattle.ecma_stdio.specs.declared.fault.Fault.{Fault}
-use Rattle.ecma_stdio.specs.declared.fault.Fault.TheVariants.{BadWords, NotUtf8, TooLong, NoSlash, OutOfMemory}
+use Rattle.ecma_stdio.specs.declared.fault.Fault.TheVariants.{BadWords, NotUtf8, TooLong, NoSlash, NotClean, OutOfMemory}
 
 -- the one line that a fault writes
 abbrev pub fault_line : Fault → List ℕ
@@ -10,6 +10,7 @@ fault_line BadWords = codes "bad words" ++ 10 ∷ []
 fault_line NotUtf8 = codes "not UTF-8" ++ 10 ∷ []
 fault_line TooLong = codes "too long" ++ 10 ∷ []
 fault_line NoSlash = codes "no slash" ++ 10 ∷ []
+fault_line NotClean = codes "not clean" ++ 10 ∷ []
 fault_line OutOfMemory = codes "out of memory" ++ 10 ∷ []
 
 abbrev pub fault_status : Fault → ℕ
@@ -17,6 +18,7 @@ fault_status BadWords = 2
 fault_status NotUtf8 = 3
 fault_status TooLong = 3
 fault_status NoSlash = 2
+fault_status NotClean = 4
 fault_status OutOfMemory = 5
 
 -- the text of an input; UTF-8 is judged before the length

@@ -12,6 +12,8 @@ pub enum Fault {
     TooLong,
     /// A token that is to be read again is no slash, or isn't there.
     NoSlash,
+    /// An error was recorded, or a token is one.
+    NotClean,
     OutOfMemory,
 }
 
@@ -23,6 +25,7 @@ impl Fault {
         match self {
             Fault::BadWords | Fault::NoSlash => 2,
             Fault::NotUtf8 | Fault::TooLong => 3,
+            Fault::NotClean => 4,
             Fault::OutOfMemory => 5,
         }
     }
@@ -36,6 +39,7 @@ impl Fault {
             Fault::NotUtf8 => b"not UTF-8\n",
             Fault::TooLong => b"too long\n",
             Fault::NoSlash => b"no slash\n",
+            Fault::NotClean => b"not clean\n",
             Fault::OutOfMemory => b"out of memory\n",
         }
     }

@@ -444,6 +444,58 @@ fn writes_comments_escaped(rt: HostRuntime) -> Result<(), Fail> {
     )
 }
 
+/// Asserts that this is the canonical text of an input, and that its own is itself.
+fn assert_canonical(
+    rt: &impl Abort,
+    alloc: Global,
+    words: &[&str],
+    input: &[u8],
+    output: &[u8],
+) -> Result<(), Fail> {
+    assert_words(rt, alloc, words, input, 0, output)?;
+    assert_words(rt, alloc, words, output, 0, output)
+}
+
+#[test]
+fn writes_canonical_texts(rt: HostRuntime) -> Result<(), Fail> {
+    let rows: [(&[&str], &[u8], &[u8]); 10] = [
+        (&["canon"], b"`a${b}c`", b"`a${ b }c`"),
+        (&["canon"], b"", b""),
+        (&["canon"], b"a\n-->x\nb", b"a\nb"),
+        (&["canon"], b"0b12", b"0b1 2"),
+        (&["canon", "reread", "3"], b"a / /b/g", b"a / /b/g"),
+        (&["canon"], b" #!x", b"# ! x"),
+        (&["canon", "ts"], b"a/*x*/+b\nc", b"a + b\nc"),
+        (&["canon"], b"a?.b", b"a ? . b"),
+        (&["canon"], b"`${)x`", b"`${ )x`"),
+        (&["canon", "module", "strict"], b"\r'a\\\n' ;", b"'a\\\n' ;"),
+    ];
+    for (words, input, output) in rows {
+        assert_canonical(&rt, rt.alloc(), words, input, output)?;
+    }
+    Ok(())
+}
+
+#[test]
+fn tells_of_texts_that_are_not_clean(rt: HostRuntime) -> Result<(), Fail> {
+    assert_rows(
+        &rt,
+        rt.alloc(),
+        &[
+            (&["canon"], b"1__2", 4, b"not clean\n"),
+            (&["canon"], b"3in", 4, b"not clean\n"),
+            (&["canon"], b"\\", 4, b"not clean\n"),
+            (&["canon", "reread", "2"], b"a /b\n", 4, b"not clean\n"),
+            (&["canon", "module"], b"a\n-->x\nb", 4, b"not clean\n"),
+            (&["canon"], b"08.1", 0, b"08.1"),
+            (&["canon", "strict"], b"08.1", 4, b"not clean\n"),
+            (&["canon", "reread", "1"], b"1__2", 2, b"no slash\n"),
+            (&["canon"], b"\xff", 3, b"not UTF-8\n"),
+            (&["canon", "canon"], b"", 2, b"bad words\n"),
+        ],
+    )
+}
+
 #[test]
 fn fails_where_a_read_fails(rt: HostRuntime) {
     for kind in [io::ErrorKind::Other, io::ErrorKind::Interrupted] {

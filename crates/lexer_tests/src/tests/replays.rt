@@ -10,7 +10,7 @@ use std::test::Fail;
 
 /// A step, as a table can hold it.
 #[derive(Clone, Copy)]
-enum Command {
+pub(super) enum Command {
     Read,
     /// Sets the flags of a module.
     Module,
@@ -186,11 +186,20 @@ fn write_replay(out: &mut String, found: &Replay) -> Result<(), AllocError> {
     Ok(())
 }
 
-fn steps_of(alloc: Global, commands: &[Command]) -> Result<Vec<Step>, AllocError> {
-    let mut steps = Vec::new(alloc);
+pub(super) fn push_commands(
+    alloc: Global,
+    steps: &mut Vec<Step>,
+    commands: &[Command],
+) -> Result<(), AllocError> {
     for command in commands {
         steps.push(step_of(alloc, *command))?;
     }
+    Ok(())
+}
+
+fn steps_of(alloc: Global, commands: &[Command]) -> Result<Vec<Step>, AllocError> {
+    let mut steps = Vec::new(alloc);
+    push_commands(alloc, &mut steps, commands)?;
     Ok(steps)
 }
 
