@@ -182,7 +182,6 @@ fn canon_of(alloc: Global, start: u32, text: &str, steps: Steps) -> Result<Canon
 }
 
 /// What `canonical_text` makes of the tokens that a replay keeps.
-#[tactic(auto, using(ecma_lexer::proofs::KeptPlaces::replayed_tokens_stand))]
 fn joined(alloc: Global, text: &str, start: BytePos, steps: &[Step]) -> Result<String, AllocError> {
     if !StringInput::fits(text, start) {
         return Err(AllocError);
