@@ -1,11 +1,13 @@
 -- What the bytes and the offset of an input say of its characters.
-use Rattle.std.proofs.Common.{◌≡◌, ℕ, ◌+◌, ◌-◌, ◌<◌, ◌≤◌, List, [], ◌∷◌, ◌++◌, length, take, drop, refl, sym, ap, subst, ◌∙◌, arith, length-append, take-append-drop, take_at, drop_at, length-take-le, length-drop, drop-cons, nat_le, nat_eq, append_assoc, encode_utf8, encode_utf8_all, Option, None, Some, is_some, IfSome, slice_get, get_or, ◌↔◌, slice_range, zero, suc, Bool, true, false, ◌&&◌, take-add, IsUtf8, IsCharBoundary, ⊎_elim, if◌then◌else◌, nat_lt}
+use Rattle.std.proofs.Common.{◌≡◌, Bor, ℕ, ◌+◌, ◌-◌, ◌<◌, ◌≤◌, List, [], ◌∷◌, ◌++◌, length, take, drop, refl, sym, ap, subst, ◌∙◌, arith, length-append, take-append-drop, take_at, drop_at, length-take-le, length-drop, drop-cons, nat_le, nat_eq, append_assoc, encode_utf8, encode_utf8_all, Option, None, Some, is_some, IfSome, slice_get, get_or, ◌↔◌, slice_range, zero, suc, Bool, true, false, ◌&&◌, take-add, IsUtf8, IsCharBoundary, ⊎_elim, if◌then◌else◌, nat_lt}
 use Rattle.std.specs.Str.{chars, all_scalars}
 use Rattle.std.specs.Char.{len_utf8, IsScalar}
 use Rattle.std.proofs.lemmas.Str.{chars-nil, chars-append, encode_ascii, char_from_byte, cons_from_encodes, IsCharBoundary-from_take, encodes-append, scalars-chars, IsCharBoundary-at_seam, IsUtf8-between, length-encode, len_utf8_bounds, encodes-chars, chars_past_char, IsUtf8-take, IsUtf8-drop, IsUtf8-from_is_utf8, drop_past_char, IsCharBoundary-past_char}
 use Rattle.std.proofs.lemmas.Bool.Decides.{nat_tests, Decides-eqb, leb_tells}
 use Rattle.std.proofs.lemmas.Slice.Eq.{starts_is}
-use Rattle.std.specs.List.{starts_with}
+use Rattle.std.specs.List.{starts_with, HoldsAt}
+use Rattle.std.specs.Option.{option_copied, MatchOption}
+use Rattle.std.proofs.lemmas.Option.{slice_get_past, slice_get_read}
 use Rattle.ecma_place.specs.Cursor.{Cursor, rest, place, passed, cursor_at, IsInput, HasPlace, count_within, moved_to, index_of, ascii_of}
 use Rattle.ecma_place.specs.Text.{byte_len}
 
@@ -293,3 +295,8 @@ ascii-past t s o c e i h =
     let bytes : drop o t ≡ encode_utf8 k ++ encode_utf8_all r = bytes-seen t s o c e i ∙ ap encode_utf8_all first.2 in
     let one : len_utf8 k ≡ 1 = sym (length-encode k) ∙ ap length (encode_ascii k first.3) in
     (rw one at (IsInput-past t (encode_utf8_all r) s o k i bytes), rw one at (cursor-past t (encode_utf8_all r) s o k c e i bytes))
+
+-- what `get` and `copied` give is the element, if there is one
+pub copied_get : (o : Option (Bor ℕ)) (xs : List ℕ) (i : ℕ) → IfSome o (λ x. x.now ≡ get_or xs i x.now) → MatchOption o (length xs ≤ i) (λ x. (i < length xs) × HoldsAt (λ y. x.now ≡ y) xs i) → option_copied o ≡ slice_get xs i
+copied_get None xs i is there = sym (slice_get_past xs i there)
+copied_get (Some x) xs i is there = sym (slice_get_read xs (length xs) i x.now refl there.0 is)
