@@ -1,5 +1,5 @@
 -- A word of fewer than 16 part bytes, seen in the 16 bytes at a cursor.
-use Rattle.std.proofs.Common.{◌≡◌, ℕ, ◌+◌, ◌<◌, ◌≤◌, Bool, true, false, List, [], ◌∷◌, take, drop, take-take, drop-drop, length, slice_index_or, slice_get, refl, sym, ap, ◌∙◌, one-add, ⊎_elim, Some, is_some, nat_lt, arith, encode_utf8_all}
+use Rattle.std.proofs.Common.{◌≡◌, ℕ, ◌<◌, ◌≤◌, true, false, List, [], ◌∷◌, take, drop, take-take, drop-drop, length, slice_index_or, slice_get, refl, sym, ap, ◌∙◌, one-add, ⊎_elim, Some, is_some, nat_lt, arith, encode_utf8_all}
 use Rattle.std.specs.List.{prefix_len, take_while}
 use Rattle.std.proofs.lemmas.Bool.{cases_Bool, ne_eqb}
 use Rattle.std.proofs.lemmas.Bool.Decides.{nat_tests}

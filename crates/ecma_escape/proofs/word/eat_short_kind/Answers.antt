@@ -1,4 +1,4 @@
-use Rattle.std.proofs.Common.{◌≤◌, ◌<◌, ap, sym, ◌∙◌, arith, encode_utf8_all}
+use Rattle.std.proofs.Common.{◌<◌, ap, sym, ◌∙◌, arith, encode_utf8_all}
 use Rattle.ecma_place.specs.Cursor.{rest}
 use Rattle.ecma_place.specs.Run.{is_in_class}
 use Rattle.ecma_place.specs.declared.run.ByteClass.TheVariants.{Part}
