@@ -1,5 +1,5 @@
 -- What a row at the place of a text says of it, and equal fronts by lanes.
-use Rattle.std.proofs.Common.{◌≡◌, ℕ, ◌+◌, ◌-◌, ◌*◌, ◌%◌, ◌^◌, ◌<◌, ◌≤◌, Bool, true, false, ◌&&◌, not, List, [], ◌∷◌, map, find, filter, cond, length, take, slice_index_or, zero, suc, refl, sym, ◌∙◌, ap, nat_eq, arith, one-add, Option, None, Some, unwrap_or, true≢false, bit_or, leb, eqb}
+use Rattle.std.proofs.Common.{◌≡◌, ℕ, ◌+◌, ◌-◌, ◌*◌, ◌%◌, ◌^◌, ◌<◌, ◌≤◌, Bool, true, false, ◌&&◌, not, List, [], ◌∷◌, map, find, cond, length, take, slice_index_or, zero, suc, refl, sym, ◌∙◌, ap, nat_eq, arith, one-add, Option, None, Some, unwrap_or, true≢false, bit_or, leb, eqb}
 use Rattle.std.specs.List.{list_all, prefix_len}
 use Rattle.std.specs.Cmp.Lexicographic.{pointwise}
 use Rattle.std.proofs.Math.Dec.{leb-zero, leb-suc-zero, leb-suc-suc}
@@ -12,15 +12,14 @@ use Rattle.std.proofs.lemmas.Simd.{length-zip2, mask_l-mod}
 use Rattle.std.proofs.lemmas.List.{length-map}
 use Rattle.ecma_place.specs.Atom.{borrowed_atom}
 use Rattle.ecma_place.proofs.LaneLemmas.{first_of_16}
-use Rattle.ecma_word.specs.ShortWords.{hash, no_row, row_text, row_kind, row_word, row_for, holds, is_placed}
-use Rattle.ecma_word.specs.Table.{table_of_words, has_text, words_with}
+use Rattle.ecma_word.specs.ShortWords.{hash, no_row, row_kind, row_word, row_for, holds, is_placed}
+use Rattle.ecma_word.specs.Table.{table_of_words, has_text}
 use Rattle.ecma_word.specs.Word.{word_of, word_text, word_kind}
 use Rattle.ecma_word.proofs.TableLemmas.{looked_up, words_with-none}
 use Rattle.ecma_word.proofs.Words.{words_are_looked_up, find-holds}
 use Rattle.ecma_word.specs.declared.short_words.Row.{Row}
 use Rattle.ecma_word.specs.declared.word.IdentLike.TheVariants.{Other}
 use Rattle.ecma_word.specs.declared.word.IdentKind.TheVariants as ident_kind
-use Rattle.ecma_word.specs.declared.word.WordKind.{WordKind}
 use Rattle.ecma_word.specs.declared.word.WordKind.TheVariants as kind
 use Rattle.ecma_word.specs.declared.word.Word.{Word}
 use Rattle.ecma_word.specs.declared.word.Word.TheVariants as w
