@@ -23,6 +23,7 @@ pub struct Measure {
     pub times: u64,
     /// Whether it is read as TypeScript.
     pub typescript: bool,
+    pub kept: bool,
     /// Behind which tokens the last one is read again as a regular expression.
     pub rereads: Vec<u64>,
 }
@@ -41,7 +42,12 @@ impl Measure {
             [ts, behind @ ..] if ts.as_str() == "ts" => (true, behind),
             _ => (false, behind),
         };
+        let (kept, behind) = match behind {
+            [word, behind @ ..] if word.as_str() == "kept" => (true, behind),
+            _ => (false, behind),
+        };
         Ok(Measure {
+            kept,
             times,
             typescript,
             rereads: rereads(alloc, behind)?,

@@ -8,6 +8,7 @@ ghost use Rattle.ecma_bench.specs.Reply.{count_line, count_text};
 
 use crate::begin::begin;
 use ecma_lexer::Lexer;
+use ecma_token::TokenAndSpan;
 use std::alloc::{AllocError, Global};
 
 /// Reads the next token, and says whether there was one.
@@ -16,6 +17,13 @@ pub fn pass_next(lexer: &mut Lexer) -> Result<bool, AllocError>
     ensures after { OnOk result (lexer_state lexer.new ≡ state_behind (lexer_state lexer.old) (reading_of (lexer_state lexer.old))) }
 {
     Ok(lexer.read()?.is_some())
+}
+
+#[inline(never)]
+pub fn keep_next<'a>(lexer: &mut Lexer<'a>, slot: &mut Option<TokenAndSpan<'a>>) -> Result<bool, AllocError>
+{
+    lexer.read_into(slot)?;
+    Ok(slot.is_some())
 }
 
 /// How many tokens the text has.

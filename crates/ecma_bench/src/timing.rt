@@ -3,40 +3,45 @@ ghost use Rattle.std.specs.Prelude.{◌^◌, ◌<◌, length};
 
 use crate::begin::begin;
 use crate::command::Measure;
-use crate::count::pass_next;
+use crate::count::{keep_next, pass_next};
+use ecma_token::TokenAndSpan;
+use std::alloc::AllocError;
 use ecma_lexer::{Lexer, Tokens};
 use ecma_stdio::{Fault, Halt};
 use std::alloc::Global;
 use std::time::{Clock, Duration, Instant};
 
 /// Reads the slash that was read last again, as a regular expression.
-fn reread(lexer: &mut Lexer) -> Result<(), Fault> {
+#[inline(always)]
+fn pass<'a>(lexer: &mut Lexer<'a>, kept: bool, slot: &mut Option<TokenAndSpan<'a>>) -> Result<bool, AllocError> {
+    if kept { keep_next(lexer, slot) } else { pass_next(lexer) }
+}
+
+fn reread<'a>(lexer: &mut Lexer<'a>, kept: bool, slot: &mut Option<TokenAndSpan<'a>>) -> Result<(), Fault> {
     let slash = lexer.last_slash().ok_or(Fault::NoSlash)?;
     lexer.set_next_regexp(Some(slash));
-    pass_next(lexer)?;
+    pass(lexer, kept, slot)?;
     lexer.set_next_regexp(None);
     Ok(())
 }
 
 /// Reads to the end, and behind each token with such a number that token again. Says how many tokens there are.
-fn read_out(lexer: &mut Lexer, rereads: &[u64]) -> Result<u64, Fault> {
-    let mut left = rereads;
-    'tokens: for before in 0..u64::MAX {
-        if !pass_next(lexer)? {
-            return if left.is_empty() {
-                Ok(before)
-            } else {
-                Err(Fault::NoSlash)
-            };
+fn read_out<'a>(lexer: &mut Lexer<'a>, kept: bool, rereads: &[u64]) -> Result<u64, Fault> {
+    let mut before = 0;
+    let mut slot = None;
+    'rereads: for number in rereads {
+        'tokens: while before < *number {
+            if !pass(lexer, kept, &mut slot)? {
+                return Err(Fault::NoSlash);
+            }
+            before += 1;
         }
-        if let [number, behind @ ..] = left
-            && *number == before + 1
-        {
-            reread(lexer)?;
-            left = behind;
-        }
+        reread(lexer, kept, &mut slot)?;
     }
-    Err(Fault::TooLong)
+    'tokens: while pass(lexer, kept, &mut slot)? {
+        before += 1;
+    }
+    Ok(before)
 }
 
 /// What was measured of a text.
@@ -62,6 +67,7 @@ pub fn measure<C: Clock>(
         let start = Instant::now(clock).map_err(|_| Halt::ReadFailed)?;
         tokens = read_out(
             &mut begin(alloc, asked.typescript, text),
+            asked.kept,
             asked.rereads.as_slice(),
         )?;
         let taken = start.elapsed(clock).map_err(|_| Halt::ReadFailed)?;

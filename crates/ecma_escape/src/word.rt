@@ -15,8 +15,8 @@ ghost use Rattle.ecma_grammar.specs.Words as grammar;
 use crate::escape::at_escape;
 use crate::name::{part_characters, read_name};
 use ecma_grammar::found::Found;
-use ecma_place::{Atom, Span, StringInput};
-use ecma_syntax::{Context, IdentKind, IdentLike, Word, WordKind};
+use ecma_place::{Atom, Span, StringInput, part_lanes};
+use ecma_syntax::{Context, IdentKind, IdentLike, Word, WordKind, kind_in};
 use ecma_token::{Error, SyntaxError};
 use std::alloc::{AllocError, Global};
 use std::borrow::CowStr;
@@ -92,16 +92,37 @@ fn word_of_name<'a>(
 /// Where a backslash follows them there is no answer. No memory is taken. Our own, for speed.
 #[inline(always)]
 pub fn eat_plain_word<'a>(input: &mut StringInput<'a>) -> Option<Word<'a>>
-    ensures word { IfSome result (λ w. (context : Context) →
-        grammar.word context (rest input.old) ≡ scanned w (take_while is_ident_part (rest input.old))) }
-    ensures none { IfNone result (opens_escape (rest input.new) ≡ true) }
-    ensures moved { input.new ≡ passed (prefix_len is_ident_part (rest input.old)) input.old }
 {
+    let start = input.cur_pos();
+    let kind = eat_plain_kind(input)?;
+    Some(Word::of_kind(kind, input.slice(start, input.cur_pos())))
+}
+
+/// The kind of the word at the cursor, behind which it moves.
+#[inline(always)]
+pub fn eat_plain_kind(input: &mut StringInput) -> Option<WordKind> {
+    if let Some(chunk) = input.chunk() {
+        let length = part_lanes(chunk);
+        if length < 16 {
+            let bytes = input.as_str().as_bytes();
+            let stop = bytes[length as usize];
+            if stop.is_ascii() && stop != b'\\' {
+                let kind = kind_in(chunk, bytes, length);
+                input.bump_bytes(length as usize);
+                return Some(kind);
+            }
+        }
+    }
+    eat_long_kind(input)
+}
+
+#[inline(never)]
+fn eat_long_kind(input: &mut StringInput) -> Option<WordKind> {
     let text = part_characters(input);
     if at_escape(input) {
         return None;
     }
-    Some(Word::from_str(text))
+    Some(Word::kind_of(text))
 }
 
 /// The word at the cursor, behind which the cursor then stands.

@@ -13,7 +13,7 @@ ghost use Rattle.ecma_grammar.specs.Strings as grammar;
 
 use ecma_escape::escape::{Use, at_escape, push_escape};
 use ecma_grammar::found::{Blame, Found, push_fault};
-use ecma_place::{Atom, ByteClass, BytePos, Quote, Span, StringInput};
+use ecma_place::{Atom, ByteClass, BytePos, Quote, Span, StringInput, plain_lanes};
 use ecma_token::{Error, SyntaxError, Token};
 use std::alloc::{AllocError, Global};
 
@@ -189,4 +189,20 @@ pub fn scan_string<'a>(
         extent: Span::new(start, input.cur_pos()),
         line_break: false,
     })
+}
+
+/// Moves behind the string at the cursor, where it is closed and holds no escape, and answers whether it did.
+#[inline(always)]
+pub fn eat_plain_string(input: &mut StringInput, quote: u8) -> bool {
+    input.bump_bytes(1);
+    if let Some(chunk) = input.chunk() {
+        let length = plain_lanes(chunk, quote);
+        if length < 16 {
+            input.bump_bytes(length as usize);
+            return input.eat_byte(quote);
+        }
+    }
+    let class = if quote == b'"' { ByteClass::Plain(Quote::Double) } else { ByteClass::Plain(Quote::Single) };
+    input.bump_bytes(input.run_bytes(class) as usize);
+    input.eat_byte(quote)
 }

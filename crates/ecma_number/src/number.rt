@@ -107,3 +107,47 @@ pub fn scan_number<'a>(
     };
     Ok(found)
 }
+
+/// How many decimal digits stand in the bytes from there on.
+#[inline(always)]
+fn digits_end(bytes: &[u8], from: usize) -> usize {
+    let mut at = from;
+    'digits: while at < bytes.len() && bytes[at].is_ascii_digit() {
+        at += 1;
+    }
+    at
+}
+
+/// Moves behind the number at the cursor, where it is decimal digits, up to 18, and perhaps a point and more digits, and
+/// nothing goes on behind them; answers its value where that is whole.
+#[inline(always)]
+pub fn eat_plain_number(input: &mut StringInput) -> Option<Option<u64>> {
+    let bytes = input.as_str().as_bytes();
+    let mut value: u64 = 0;
+    let mut at = 0;
+    'digits: while at < bytes.len() && bytes[at].is_ascii_digit() {
+        if at == 18 {
+            return None;
+        }
+        value = value * 10 + (bytes[at] - b'0') as u64;
+        at += 1;
+    }
+    if at == bytes.len() || at > 1 && bytes[0] == b'0' {
+        return None;
+    }
+    let mut whole = Some(value);
+    if bytes[at] == b'.' {
+        at = digits_end(bytes, at + 1);
+        whole = None;
+        if at == bytes.len() {
+            return None;
+        }
+    }
+    match bytes[at] {
+        b'a'..=b'z' | b'A'..=b'Z' | b'$' | b'_' | b'\\' | 128..=255 => None,
+        _ => {
+            input.bump_bytes(at);
+            Some(whole)
+        }
+    }
+}

@@ -18,4 +18,4 @@ pub use character::CharExt;
 pub use comment::{Comment, CommentKind, Comments};
 pub use input::StringInput;
 pub use place::{BytePos, Span, Spanned};
-pub use run::{ByteClass, Quote};
+pub use run::{ByteClass, Quote, end_lanes, part_lanes, plain_lanes, slash_lanes, white_lanes};

@@ -5,14 +5,14 @@ pub mod punctuator;
 pub mod punctuator_kind;
 pub mod shebang;
 
-pub use ecma_escape::{eat_plain_word, scan_escape, scan_word, word};
+pub use ecma_escape::{eat_plain_kind, eat_plain_word, scan_escape, scan_word, word};
 pub use ecma_gap::{
-    Bars, BlankGap, Gap, SkipWhitespace, bars, blank_gap, gap, scan_bars, scan_blank_gap, scan_gap,
+    pass_comments, skip_white_space, Bars, BlankGap, Gap, SkipWhitespace, bars, blank_gap, gap, scan_bars, scan_blank_gap, scan_gap,
     skip_whitespace,
 };
 pub use ecma_grammar::{Blame, Found, GapMode, found, gap_mode};
-pub use ecma_literal::{expression, scan_regexp, scan_string, scan_template, string, template};
-pub use ecma_number::{number, scan_number};
+pub use ecma_literal::{expression, eat_plain_string, scan_regexp, scan_string, scan_template, string, template};
+pub use ecma_number::{eat_plain_number, number, scan_number};
 pub use punctuator::{eat_punctuator, scan_punct};
 pub use punctuator_kind::PunctuatorKind;
 pub use shebang::scan_shebang;

@@ -9,9 +9,9 @@ use crate::attachment::Around;
 use crate::kept::{Kept, Seen};
 use crate::token_context::TokenContext;
 use crate::token_contexts::TokenContexts;
-use crate::transition::Before;
+use crate::transition::{Before, declares, paren_behind};
 use ecma_place::BytePos;
-use ecma_syntax::{Syntax, WordKind};
+use ecma_syntax::{IdentKind, Keyword, KnownIdent, Syntax, WordKind};
 use ecma_token::TokenKind;
 use std::alloc::{AllocError, Global};
 use std::marker::Model;
@@ -153,6 +153,27 @@ impl State {
         Ok(())
     }
 
+    #[inline(never)]
+    fn open_paren(&mut self) -> Result<(), AllocError> {
+        self.contexts.push(paren_behind(self.seen.previous()))?;
+        self.expr_allowed = true;
+        Ok(())
+    }
+
+    #[inline(never)]
+    fn open_brace(&mut self, flag: bool) -> Result<(), AllocError> {
+        let context = self.before().brace(&self.contexts, flag);
+        self.contexts.push(context)?;
+        self.expr_allowed = true;
+        Ok(())
+    }
+
+    #[inline(never)]
+    fn turn_definition(&mut self, pushed: TokenContext, flag: bool) -> Result<(), AllocError> {
+        self.expr_allowed = self.before().turn_definition(&mut self.contexts, pushed, flag)?;
+        Ok(())
+    }
+
     /// Changes the contexts as a token does, and remembers where it opens a template.
     #[tactic(auto, unfolding(crate::specs::Transition::transition))]
     #[inline(always)]
@@ -165,16 +186,29 @@ impl State {
         ensures free { length self.old.contexts < 128 → IsOk result }
     {
         match token.kind {
-            TokenKind::Word(WordKind::Ident(name)) => {
-                self.expr_allowed = self.before().allows_behind_name(name, &self.contexts);
+            TokenKind::Word(WordKind::Ident(IdentKind::Known(KnownIdent::Of))) => {
+                self.expr_allowed = self.before().allows_behind_name(IdentKind::Known(KnownIdent::Of), &self.contexts);
             }
-            TokenKind::Word(_)
-            | TokenKind::RParen
-            | TokenKind::RBrace
-            | TokenKind::Colon
-            | TokenKind::LBrace
-            | TokenKind::DollarLBrace
-            | TokenKind::LParen
+            TokenKind::Word(WordKind::Ident(_)) => {
+                self.expr_allowed = declares(self.seen.previous()) && self.seen.previous_flag();
+            }
+            TokenKind::Word(WordKind::Null | WordKind::True | WordKind::False) => {
+                self.expr_allowed = false;
+            }
+            TokenKind::Word(WordKind::Keyword(Keyword::Function)) => self.turn_definition(TokenContext::FnExpr, token.flag)?,
+            TokenKind::Word(WordKind::Keyword(Keyword::Class)) => self.turn_definition(TokenContext::ClassExpr, token.flag)?,
+            TokenKind::Word(WordKind::Keyword(_)) => {
+                self.expr_allowed = !matches!(self.seen.previous(), Some(TokenKind::Dot)) && token.kind.before_expr();
+            }
+            TokenKind::RParen | TokenKind::RBrace => {
+                self.expr_allowed = self.contexts.close();
+            }
+            TokenKind::Colon => {
+                self.expr_allowed = self.contexts.end_definition();
+            }
+            TokenKind::LParen => self.open_paren()?,
+            TokenKind::LBrace => self.open_brace(token.flag)?,
+            TokenKind::DollarLBrace
             | TokenKind::PlusPlus
             | TokenKind::MinusMinus
             | TokenKind::BackQuote => self.turn_any(token)?,

@@ -14,6 +14,8 @@ use std::marker::Model;
 pub struct TokenContexts {
     // The innermost stands last.
     items: SmallVec<TokenContext, 128>,
+    /// The innermost, where there is one.
+    top: Option<TokenContext>,
 }
 
 impl Model for TokenContexts {
@@ -34,6 +36,7 @@ impl TokenContexts {
     {
         TokenContexts {
             items: SmallVec::new(alloc),
+            top: None,
         }
     }
 
@@ -55,7 +58,7 @@ impl TokenContexts {
     pub fn current(&self) -> Option<TokenContext>
         ensures { result ≡ innermost self.now }
     {
-        self.items.last().copied()
+        self.top
     }
 
     /// The context right around the innermost, where there is one.
@@ -72,7 +75,9 @@ impl TokenContexts {
     pub fn pop(&mut self) -> Option<TokenContext>
         ensures { MatchOption result ((self.old ≡ []) × (self.new ≡ [])) (λ top. self.old ≡ top ∷ self.new) }
     {
-        self.items.pop()
+        let popped = self.items.pop();
+        self.top = self.items.last().copied();
+        popped
     }
 
     /// Puts a context inside the others. Up to 128 contexts take no memory.
@@ -86,6 +91,7 @@ impl TokenContexts {
         ensures free { length self.old < 128 → IsOk result }
     {
         self.items.push(context)?;
+        self.top = Some(context);
         Ok(())
     }
 
@@ -100,6 +106,6 @@ impl TokenContexts {
     {
         let mut items = SmallVec::new(*self.items.allocator());
         items.extend_from_slice(self.items.as_slice())?;
-        Ok(TokenContexts { items })
+        Ok(TokenContexts { items, top: self.top })
     }
 }

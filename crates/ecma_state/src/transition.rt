@@ -43,7 +43,8 @@ impl TokenContexts {
     }
 
     /// Ends a context at `)` or `}`; whether an expression may begin then.
-    fn close(&mut self) -> bool
+    #[inline(never)]
+    pub(crate) fn close(&mut self) -> bool
         ensures { turned self.new result ≡ grammar.closed self.old }
     {
         if self.len() <= 1 {
@@ -64,7 +65,8 @@ impl TokenContexts {
     }
 
     /// Ends the context of a function or class at `:`; an expression may begin then.
-    fn end_definition(&mut self) -> bool
+    #[inline(always)]
+    pub(crate) fn end_definition(&mut self) -> bool
         ensures { turned self.new result ≡ grammar.coloned self.old }
     {
         if let Some(TokenContext::FnExpr | TokenContext::ClassExpr) = self.current() {
@@ -114,7 +116,8 @@ fn is_block_behind_brace(contexts: &TokenContexts) -> bool
 }
 
 /// Whether the kind is that of a word that declares variables.
-fn declares(previous: Option<TokenKind>) -> bool
+#[inline(always)]
+pub(crate) fn declares(previous: Option<TokenKind>) -> bool
     ensures { result ≡ grammar.declares previous }
 {
     matches!(
@@ -134,7 +137,7 @@ fn is_not_before_expr(previous: Option<TokenKind>) -> bool
 }
 
 /// The context that `(` begins.
-fn paren_behind(previous: Option<TokenKind>) -> TokenContext
+pub(crate) fn paren_behind(previous: Option<TokenKind>) -> TokenContext
     ensures { result ≡ grammar.paren_behind previous }
 {
     match previous {
@@ -169,7 +172,7 @@ impl Before {
     }
 
     /// The context that `{` begins.
-    fn brace(self, contexts: &TokenContexts, flag: bool) -> TokenContext
+    pub(crate) fn brace(self, contexts: &TokenContexts, flag: bool) -> TokenContext
         ensures { result ≡ grammar.brace_behind self contexts.now flag }
     {
         if self.is_brace_block(contexts, flag) {
@@ -211,6 +214,13 @@ impl Before {
             contexts.push(pushed)?;
         }
         Ok(false)
+    }
+
+    pub(crate) fn turn_definition(self, contexts: &mut TokenContexts, pushed: TokenContext, flag: bool) -> Result<bool, AllocError> {
+        if matches!(self.previous, Some(TokenKind::Dot)) {
+            return Ok(false);
+        }
+        self.define(contexts, pushed, flag)
     }
 
     /// Takes in a keyword.

@@ -12,11 +12,13 @@ ghost use Rattle.ecma_state.specs.Run.{act, answer_in, is_free_read, mode_of, re
 ghost use Rattle.ecma_state.specs.Contexts.{innermost};
 ghost use Rattle.ecma_state.specs.Errors.{errors_view};
 
+use crate::begins::{Begins, begins};
 use crate::commented::Commented;
 use crate::plain::{read_plain, read_plain_literal};
 use crate::tokens::Tokens;
 use ecma_dispatch::read::{Besides, Reading, read_again, read_from};
-use ecma_place::{BytePos, StringInput};
+use ecma_place::{Atom, BytePos, Span, StringInput};
+use ecma_scan::{PunctuatorKind, eat_plain_kind, eat_plain_number, eat_plain_string, eat_punctuator, pass_comments, skip_white_space};
 use ecma_state::comments_buffer::{BufferedComment, CommentsBuffer};
 use ecma_state::error_list::ErrorList;
 use ecma_state::errors::ErrorLists;
@@ -25,11 +27,25 @@ use ecma_state::mode::Mode;
 use ecma_state::settings::Settings;
 use ecma_state::state::State;
 use ecma_state::token_contexts::TokenContexts;
-use ecma_syntax::{Context, EsVersion, Syntax};
-use ecma_token::{Error, TokenAndSpan};
+use ecma_syntax::{AssignOp, Context, EsVersion, IdentKind, Syntax, Word, WordKind};
+use ecma_token::{Error, Radix, Token, TokenAndSpan, TokenKind};
 use std::alloc::{AllocError, Global};
 use std::marker::Model;
 use std::mem;
+
+#[derive(Clone, Copy)]
+pub struct At { before: BytePos, flag: bool, next: u8 }
+
+#[inline(always)]
+fn may_begin_element(input: &StringInput, flag: bool, next: u8) -> bool {
+    match next {
+        b'/' => matches!(input.byte_ahead(1), Some(b'/' | b'*')),
+        b'<' => matches!(input.byte_ahead(1), Some(b'<' | b'!')),
+        b'-' | b'=' | b'>' | b'|' => flag,
+        b'.' => matches!(input.byte_ahead(1), Some(b'0'..=b'9')),
+        _ => false,
+    }
+}
 
 /// Reads tokens from a text, one after another.
 #[derive(Drop)]
@@ -359,40 +375,173 @@ impl<'a> Lexer<'a> {
         Ok(found)
     }
 
-    /// Reads what is neither a word nor a punctuator behind white space alone.
-    #[inline(never)]
-    fn next_other(&mut self) -> Result<Option<TokenAndSpan<'a>>, AllocError>
-        ensures answer { IfOk result (λ answer. option_map spanned_view answer ≡ (reading_of (lexer_state self.old)).found) }
-        ensures after { OnOk result (lexer_state self.new ≡ state_behind (lexer_state self.old) (reading_of (lexer_state self.old))) }
-        ensures kept { OnErr result (self.new.errors ≡ self.old.errors) }
-        ensures given { OnErr result (IsGivenAs self.old self.new) }
-        ensures free { length self.old.state.contexts < 128 → is_free_read (lexer_state self.old) ≡ true → IsOk result }
-        ensures ended { self.old.reread ≡ None → rest self.old.input ≡ [] → IsOk result }
-    {
-        let Some(token) = self.find_literal()? else {
-            return self.next_with_besides();
-        };
-        self.take_plain(Kept::of(&token))?;
-        Ok(Some(token))
+    #[inline(always)]
+    fn give(&mut self, slot: &mut Option<TokenAndSpan<'a>>, token: Token<'a>, kind: TokenKind, start: BytePos, flag: bool) -> Result<(), AllocError> {
+        let span = Span::new(start, self.input.cur_pos());
+        self.state.take_token(Kept { kind, span, flag })?;
+        *slot = Some(TokenAndSpan { token, had_line_break: flag, span });
+        Ok(())
     }
 
-    /// Reads without asking whether memory was refused before.
     #[inline(always)]
-    fn next_answer(&mut self) -> Result<Option<TokenAndSpan<'a>>, AllocError>
-        ensures answer { IfOk result (λ answer. option_map spanned_view answer ≡ (reading_of (lexer_state self.old)).found) }
-        ensures after { OnOk result (lexer_state self.new ≡ state_behind (lexer_state self.old) (reading_of (lexer_state self.old))) }
-        ensures kept { OnErr result (self.new.errors ≡ self.old.errors) }
-        ensures given { OnErr result (IsGivenAs self.old self.new) }
-        ensures free { length self.old.state.contexts < 128 → is_free_read (lexer_state self.old) ≡ true → IsOk result }
-        ensures ended { self.old.reread ≡ None → rest self.old.input ≡ [] → IsOk result }
-    {
-        let Some(token) = self.find_plain() else {
-            // A local of its own: read into the result, it would keep what most reads answer in memory too.
-            let answer = self.next_other();
-            return answer;
+    fn give_word(&mut self, slot: &mut Option<TokenAndSpan<'a>>, kind: WordKind, start: BytePos, flag: bool) -> Result<(), AllocError> {
+        let text = self.input.slice(start, self.input.cur_pos());
+        self.give(slot, Token::Word(Word::of_kind(kind, text)), TokenKind::Word(kind), start, flag)
+    }
+
+    #[inline(always)]
+    fn give_punctuator(&mut self, slot: &mut Option<TokenAndSpan<'a>>, kind: PunctuatorKind, start: BytePos, flag: bool) -> Result<(), AllocError> {
+        self.give(slot, kind.token(), kind.kind(), start, flag)
+    }
+
+    #[inline(always)]
+    fn give_lone(&mut self, slot: &mut Option<TokenAndSpan<'a>>, kind: PunctuatorKind, start: BytePos, flag: bool) -> Option<Result<(), AllocError>> {
+        self.input.bump_bytes(1);
+        Some(self.give_punctuator(slot, kind, start, flag))
+    }
+
+    #[inline(never)]
+    fn next_string(&mut self, slot: &mut Option<TokenAndSpan<'a>>, before: BytePos, flag: bool, quote: u8) -> Result<(), AllocError> {
+        let start = self.input.cur_pos();
+        if !eat_plain_string(&mut self.input, quote) {
+            return self.next_behind(slot, before);
+        }
+        let raw = self.input.slice(start, self.input.cur_pos());
+        let value = self.input.slice(BytePos(start.0 + 1), BytePos(self.input.cur_pos().0 - 1));
+        self.give(slot, Token::Str { value: Atom::from(value), raw: Atom::from(raw) }, TokenKind::Str, start, flag)
+    }
+
+    #[inline(never)]
+    fn next_number(&mut self, slot: &mut Option<TokenAndSpan<'a>>, before: BytePos, flag: bool) -> Result<(), AllocError> {
+        let start = self.input.cur_pos();
+        let Some(whole) = eat_plain_number(&mut self.input) else {
+            return self.next_behind(slot, before);
         };
-        self.take_plain(Kept::of(&token))?;
-        Ok(Some(token))
+        let raw = self.input.slice(start, self.input.cur_pos());
+        let whole = match whole { Some(whole) => Some(whole as u128), None => None };
+        self.give(slot, Token::Num { raw: Atom::from(raw), radix: Radix::Decimal, digits: Atom::from(raw), whole }, TokenKind::Num, start, flag)
+    }
+
+    #[inline(never)]
+    fn next_behind(&mut self, slot: &mut Option<TokenAndSpan<'a>>, before: BytePos) -> Result<(), AllocError> {
+        self.input.reset_to(before);
+        match self.find_literal()? {
+            Some(token) => {
+                self.take_plain(Kept::of(&token))?;
+                *slot = Some(token);
+            }
+            None => { *slot = self.next_with_besides()?; }
+        }
+        Ok(())
+    }
+
+    #[inline(never)]
+    fn next_other(&mut self, slot: &mut Option<TokenAndSpan<'a>>, before: BytePos, flag: bool, next: u8) -> Result<(), AllocError> {
+        match next {
+            b'"' | b'\'' => self.next_string(slot, before, flag, next),
+            b'0'..=b'9' => self.next_number(slot, before, flag),
+            _ => self.next_behind(slot, before),
+        }
+    }
+
+    #[inline(always)]
+    fn next_plain(&mut self, slot: &mut Option<TokenAndSpan<'a>>, flag: bool, next: u8) -> Option<Result<(), AllocError>> {
+        let start = self.input.cur_pos();
+        match begins(next) {
+            Begins::Letter => {
+                let kind = eat_plain_kind(&mut self.input)?;
+                if let WordKind::Ident(IdentKind::Other) = kind {
+                    Some(self.give_word(slot, WordKind::Ident(IdentKind::Other), start, flag))
+                } else {
+                    Some(self.give_word(slot, kind, start, flag))
+                }
+            }
+            Begins::LParen => self.give_lone(slot, PunctuatorKind::LParen, start, flag),
+            Begins::RParen => self.give_lone(slot, PunctuatorKind::RParen, start, flag),
+            Begins::LBrace => self.give_lone(slot, PunctuatorKind::LBrace, start, flag),
+            Begins::RBrace => self.give_lone(slot, PunctuatorKind::RBrace, start, flag),
+            Begins::LBracket => self.give_lone(slot, PunctuatorKind::LBracket, start, flag),
+            Begins::RBracket => self.give_lone(slot, PunctuatorKind::RBracket, start, flag),
+            Begins::Semi => self.give_lone(slot, PunctuatorKind::Semi, start, flag),
+            Begins::Comma => self.give_lone(slot, PunctuatorKind::Comma, start, flag),
+            Begins::Colon => self.give_lone(slot, PunctuatorKind::Colon, start, flag),
+            Begins::Dot => match self.input.byte_ahead(1) {
+                Some(b'.' | b'0'..=b'9') | None => self.next_longer(slot, start, flag, next),
+                Some(_) => self.give_lone(slot, PunctuatorKind::Dot, start, flag),
+            },
+            Begins::Assign => match self.input.byte_ahead(1) {
+                Some(b'=' | b'>') | None => self.next_longer(slot, start, flag, next),
+                Some(_) => self.give_lone(slot, PunctuatorKind::AssignOp(AssignOp::Assign), start, flag),
+            },
+            Begins::Longer => self.next_longer(slot, start, flag, next),
+            Begins::Rare => None,
+        }
+    }
+
+    /// The punctuator at the cursor, where no comment and no marker stands there.
+    #[inline(always)]
+    fn next_longer(&mut self, slot: &mut Option<TokenAndSpan<'a>>, start: BytePos, flag: bool, next: u8) -> Option<Result<(), AllocError>> {
+        if may_begin_element(&self.input, flag, next) {
+            return None;
+        }
+        let type_mode = self.mode().type_mode();
+        let kind = eat_punctuator(&mut self.input, type_mode)?;
+        Some(self.give_punctuator(slot, kind, start, flag))
+    }
+
+    /// Reads what is plain.
+    #[inline(always)]
+    fn plain_into(&mut self, slot: &mut Option<TokenAndSpan<'a>>, at: &mut At) -> Option<Result<(), AllocError>>
+    {
+        at.before = self.input.cur_pos();
+        if !self.reads_plainly() {
+            return None;
+        }
+        at.flag = skip_white_space(&mut self.input) | self.state.seen.first;
+        at.next = self.input.byte_ahead(0).unwrap_or(255);
+        let answer = self.next_plain(slot, at.flag, at.next);
+        if answer.is_some() { return answer; }
+        if at.next == b'/' && !self.settings.comments {
+            at.flag |= pass_comments(&mut self.input);
+            at.next = self.input.byte_ahead(0).unwrap_or(255);
+            return self.next_plain(slot, at.flag, at.next);
+        }
+        None
+    }
+
+    #[inline(always)]
+    fn refuse(&mut self) { self.refused = true; }
+
+    #[inline(always)]
+    fn reads_plainly(&self) -> bool {
+        self.reread.is_none() && self.state.seen.last.is_some() && self.state.can_skip_space()
+    }
+
+    #[inline(always)]
+    pub fn read_into(&mut self, slot: &mut Option<TokenAndSpan<'a>>) -> Result<(), AllocError>
+    {
+        if self.refused {
+            return Err(AllocError);
+        }
+        let mut at = At { before: BytePos(0), flag: false, next: 255 };
+        let read = match self.plain_into(slot, &mut at) {
+            Some(read) => read,
+            None => self.next_other(slot, at.before, at.flag, at.next),
+        };
+        if read.is_err() {
+            self.refuse();
+        }
+        read
+    }
+
+    #[inline(always)]
+    fn other(&mut self, at: At) -> Result<Option<TokenAndSpan<'a>>, AllocError> {
+        let mut other = None;
+        let read = self.next_other(&mut other, at.before, at.flag, at.next);
+        if read.is_err() {
+            self.refuse();
+        }
+        Ok(other)
     }
 
     /// The next token, or nothing at the end.
@@ -405,6 +554,7 @@ impl<'a> Lexer<'a> {
     ///
     /// `AllocError` where there is no memory. The errors are then as before, and so are context, syntax, target and start
     /// place; each later read answers the same.
+    #[inline(always)]
     pub fn read(&mut self) -> Result<Option<TokenAndSpan<'a>>, AllocError>
         // One step of the run, from any session.
         ensures step { (s : Session) → state_of s ≡ lexer_state self.old → IfOk result (λ answer.
@@ -426,12 +576,15 @@ impl<'a> Lexer<'a> {
         if self.refused {
             return Err(AllocError);
         }
-        match self.next_answer() {
-            Ok(answer) => Ok(answer),
-            Err(error) => {
-                self.refused = true;
+        let mut at = At { before: BytePos(0), flag: false, next: 255 };
+        let mut slot = None;
+        match self.plain_into(&mut slot, &mut at) {
+            Some(Ok(())) => Ok(slot),
+            Some(Err(error)) => {
+                self.refuse();
                 Err(error)
             }
+            None => self.other(at),
         }
     }
 }

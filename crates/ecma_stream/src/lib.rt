@@ -1,6 +1,7 @@
 //! The lexer, a stream of tokens, and what a parser asks of it.
 #![tactic(auto)]
 
+mod begins;
 mod commented;
 pub mod lexer;
 mod plain;

@@ -105,6 +105,11 @@ impl<'a> IdentLike<'a> {
 }
 
 impl<'a> Word<'a> {
+    /// What the word with this text is.
+    pub fn kind_of(text: &str) -> WordKind {
+        table::kind_of(text)
+    }
+
     /// The word with this text: a row of the table of words, else a name that borrows the text. It takes no memory.
     pub fn from_str(text: &'a str) -> Word<'a>
         ensures { result ≡ word_of text.now }
@@ -113,7 +118,8 @@ impl<'a> Word<'a> {
     }
 
     /// The word of this kind; an other name borrows the text.
-    fn of_kind(kind: WordKind, text: &'a str) -> Word<'a>
+    #[inline(always)]
+    pub fn of_kind(kind: WordKind, text: &'a str) -> Word<'a>
         ensures { result ≡ word_of_kind kind text.now }
     {
         match kind {
