@@ -1,12 +1,15 @@
 -- Reads of tokens of which nothing is to be told besides.
-use Rattle.std.specs.Prelude.{◌≡◌, Bool, false, Some, [], length, slice_get, Ok}
+use Rattle.std.specs.Prelude.{◌≡◌, ◌≤◌, Bool, None, true, false, Option, Some, [], length, option_map, slice_get, Ok}
 use Rattle.ecma_place.specs.Cursor.{Cursor, rest, place, passed}
-use Rattle.ecma_token.specs.View.{SpannedView, TokenView}
+use Rattle.ecma_token.specs.View.{SpannedView, TokenView, spanned_view}
+use Rattle.ecma_token.specs.declared.token.TokenAndSpan.{TokenAndSpan}
 use Rattle.ecma_scan.specs.Found.{FoundView}
 use Rattle.ecma_scan.specs.BlankGaps.{IsBlankGap}
 use Rattle.ecma_scan.specs.declared.blank_gap.BlankGap.{BlankGap}
 use Rattle.ecma_state.specs.Mode.{gap_mode}
 use Rattle.ecma_state.specs.Reading.{Reading}
+use Rattle.ecma_state.specs.Run.{mode_of, reading_of, state_behind}
+use Rattle.ecma_state.specs.Session.{LexerKept, lexer_state}
 use Rattle.ecma_state.specs.TokenAt.{token_at, token_comments, token_found}
 use Rattle.ecma_state.specs.declared.mode.Mode.{Mode}
 
@@ -35,3 +38,20 @@ pub record IsBare (flag : Bool) (r : Reading) : Type 0 where
   pub end_flag : r.end_flag ≡ flag
   pub faults : r.faults ≡ []
   pub comments : r.comments ≡ []
+
+-- the next token was put into a slot, or nothing was changed
+abbrev pub Gives : LexerKept → LexerKept → Option TokenAndSpan → Option TokenAndSpan → Bool → Type 0
+Gives old now empty slot true =
+    (option_map spanned_view slot ≡ (reading_of (lexer_state old)).found) × (lexer_state now ≡ state_behind (lexer_state old) (reading_of (lexer_state old)))
+Gives old now empty slot false = (now ≡ old) × (slot ≡ empty)
+
+-- a lexer whose cursor stands elsewhere
+abbrev pub standing : Cursor → LexerKept → LexerKept
+standing input l = record l { input = input }
+
+-- A lexer stands behind the white space with which a read from this cursor begins, no slash is read again, and no template
+-- was opened behind that cursor.
+pub record IsBehindGap (before : Cursor) (l : LexerKept) (gap : BlankGap) : Type 0 where
+  pub none : l.reread ≡ None
+  pub opened : l.state.opened.0 ≤ place before
+  pub stands : StandsPlain (mode_of (lexer_state l)) before l.input gap

@@ -1,9 +1,12 @@
 //! The lexer.
-ghost use Rattle.std.specs.Prelude.{◌≡◌, ◌<◌, true, false, None, Err, alloc_error, Some, drop, is_some, length, map, option_map, IfNone, IfOk, IfSome, IsOk, OnOk, OnErr, []};
+ghost use Rattle.std.specs.Prelude.{◌≡◌, ◌<◌, ◌≤◌, true, false, None, Err, alloc_error, Some, drop, is_some, length, map, option_map, IfNone, IfOk, IfSome, IsOk, OnOk, OnErr, []};
 ghost use Rattle.ecma_token.specs.View.{error_view, spanned_view};
 ghost use Rattle.ecma_dispatch.specs.Besides.{IsBeside, TakesNone, bare, seen_beside, state_taking};
-ghost use Rattle.ecma_place.specs.Cursor.{rest};
-ghost use Rattle.ecma_stream.specs.Plain.{IsBare};
+ghost use Rattle.ecma_place.specs.Cursor.{place, rest};
+ghost use Rattle.ecma_stream.specs.Plain.{Gives, IsBehindGap, plain_reading, standing};
+ghost use Rattle.ecma_state.specs.Reading.{reading};
+ghost use Rattle.ecma_state.specs.TokenAt.{opening};
+ghost use Rattle.ecma_state.specs.declared.opening.Opening.TheVariants as opens;
 ghost use Rattle.ecma_stream.specs.View.{IsGivenAs};
 ghost use Rattle.ecma_stream.specs.Slashes.{IsAnswer, MayReread, slash_answered};
 ghost use Rattle.ecma_state.specs.Session.{Session, kept_in, lexer_state, state_of};
@@ -13,15 +16,17 @@ ghost use Rattle.ecma_state.specs.Contexts.{innermost};
 ghost use Rattle.ecma_state.specs.Errors.{errors_view};
 
 use crate::commented::Commented;
-use crate::plain::{read_plain, read_plain_literal};
+use crate::plain::{plain_gap, plain_number, plain_punctuator, plain_string, plain_word};
 use crate::tokens::Tokens;
 use ecma_dispatch::read::{Besides, Reading, read_again, read_from};
 use ecma_place::{BytePos, StringInput};
+use ecma_scan::BlankGap;
 use ecma_state::comments_buffer::{BufferedComment, CommentsBuffer};
 use ecma_state::error_list::ErrorList;
 use ecma_state::errors::ErrorLists;
 use ecma_state::kept::Kept;
 use ecma_state::mode::Mode;
+use ecma_state::opening::Opening;
 use ecma_state::settings::Settings;
 use ecma_state::state::State;
 use ecma_state::token_contexts::TokenContexts;
@@ -275,62 +280,6 @@ impl<'a> Lexer<'a> {
             .take_read(&self.context, gap_faults, token_faults)
     }
 
-    /// What the next read finds, where that is a word or a punctuator behind white space alone of which nothing is to be told
-    /// besides. The cursor then stands behind it; else nothing is changed.
-    #[inline(always)]
-    fn find_plain(&mut self) -> Option<TokenAndSpan<'a>>
-        ensures found { IfSome result (λ t. Some (spanned_view t) ≡ (reading_of (lexer_state self.old)).found) }
-        ensures bare { IfSome result (λ t. IsBare t.had_line_break (reading_of (lexer_state self.old))) }
-        ensures moved { IfSome result (λ t. self.new ≡ record self.old { input = (reading_of (lexer_state self.old)).input }) }
-        ensures same { IfNone result (self.new ≡ self.old) }
-        ensures answer { IfSome result (λ t. IsAnswer self.new (kept_in (Some (spanned_view t)))) }
-    {
-        if self.reread.is_some() {
-            return None;
-        }
-        let Ok(before) = self.input.clone() else {
-            return None;
-        };
-        let mode = self.mode();
-        match read_plain(&mut self.input, &mode) {
-            Some(token) => Some(token),
-            None => {
-                self.input = before;
-                None
-            }
-        }
-    }
-
-    /// What the next read finds, where that is a string or a number behind white space alone of which nothing is to be told
-    /// besides. The cursor then stands behind it; else, and where memory is refused, nothing is changed.
-    #[inline(always)]
-    fn find_literal(&mut self) -> Result<Option<TokenAndSpan<'a>>, AllocError>
-        ensures found { IfOk result (λ found. IfSome found (λ t. Some (spanned_view t) ≡ (reading_of (lexer_state self.old)).found)) }
-        ensures bare { IfOk result (λ found. IfSome found (λ t. IsBare t.had_line_break (reading_of (lexer_state self.old)))) }
-        ensures moved { IfOk result (λ found. IfSome found (λ t. self.new ≡ record self.old { input = (reading_of (lexer_state self.old)).input })) }
-        ensures same { IfOk result (λ found. IfNone found (self.new ≡ self.old)) }
-        ensures answer { IfOk result (λ found. IfSome found (λ t. IsAnswer self.new (kept_in (Some (spanned_view t))))) }
-        ensures refused { OnErr result (self.new ≡ self.old) }
-        ensures free { is_free_read (lexer_state self.old) ≡ true → IsOk result }
-    {
-        if self.reads_again() {
-            return Ok(None);
-        }
-        let stood = self.input.clone()?;
-        let mode = self.mode();
-        match read_plain_literal(self.alloc, &mut self.input, &mode) {
-            Ok(Some(token)) => Ok(Some(token)),
-            Ok(None) => {
-                self.input = stood;
-                Ok(None)
-            }
-            Err(error) => {
-                self.input = stood;
-                Err(error)
-            }
-        }
-    }
-
     /// Takes in a token that was found with nothing besides: the contexts change. Nothing does where memory is refused.
     #[inline(always)]
     fn take_plain(&mut self, token: Kept) -> Result<(), AllocError>
@@ -359,21 +308,161 @@ impl<'a> Lexer<'a> {
         Ok(found)
     }
 
-    /// Reads what is neither a word nor a punctuator behind white space alone.
+    /// Takes in and puts into the slot a token that stands in front of the cursor, and that a read from `before` finds with
+    /// nothing besides. Neither the slot nor an error is changed where memory is refused.
+    #[inline(always)]
+    fn give(
+        &mut self,
+        slot: &mut Option<TokenAndSpan<'a>>,
+        before: StringInput<'a>,
+        token: TokenAndSpan<'a>,
+    ) -> Result<bool, AllocError>
+        requires none { self.old.reread ≡ None }
+        requires opened { self.old.state.opened.0 ≤ place before.entry }
+        requires found { reading (mode_of (lexer_state self.old)) before.entry ≡ plain_reading (spanned_view token.entry) self.old.input }
+        ensures all { IfOk result (λ done. done ≡ true) }
+        ensures done { IfOk result (λ done. Gives (standing before.entry self.old) self.new slot.old slot.new done) }
+        ensures slot { OnErr result (slot.new ≡ slot.old) }
+        ensures kept { OnErr result (self.new.errors ≡ self.old.errors) }
+        ensures given { OnErr result (IsGivenAs self.old self.new) }
+        ensures free { length self.old.state.contexts < 128 → IsOk result }
+        ensures ended { rest before.entry ≡ [] → IsOk result }
+    {
+        let _ = before;
+        self.take_plain(Kept::of(&token))?;
+        *slot = Some(token);
+        Ok(true)
+    }
+
+    /// Puts the cursor back, where nothing was given.
+    #[inline(always)]
+    fn decline(&mut self, before: StringInput<'a>) -> Result<bool, AllocError>
+        ensures { (result ≡ Ok false) × (self.new ≡ standing before.entry self.old) }
+    {
+        self.input = before;
+        Ok(false)
+    }
+
+    /// Gives the word at the cursor, where it is written with no escape.
+    #[inline(always)]
+    fn give_word(
+        &mut self,
+        slot: &mut Option<TokenAndSpan<'a>>,
+        before: StringInput<'a>,
+        gap: BlankGap,
+    ) -> Result<bool, AllocError>
+        requires behind { IsBehindGap before.entry self.old gap }
+        requires opened { opening (mode_of (lexer_state self.old)) gap.line_break (rest self.old.input) ≡ opens.Word }
+        ensures done { IfOk result (λ done. Gives (standing before.entry self.old) self.new slot.old slot.new done) }
+        ensures slot { OnErr result (slot.new ≡ slot.old) }
+        ensures kept { OnErr result (self.new.errors ≡ self.old.errors) }
+        ensures given { OnErr result (IsGivenAs self.old self.new) }
+        ensures free { length self.old.state.contexts < 128 → is_free_read (lexer_state (standing before.entry self.old)) ≡ true → IsOk result }
+        ensures ended { rest before.entry ≡ [] → IsOk result }
+    {
+        match plain_word(&mut self.input, gap.line_break) {
+            Some(token) => self.give(slot, before, token),
+            None => self.decline(before),
+        }
+    }
+
+    /// Gives the punctuator at the cursor, if there is one.
+    #[inline(always)]
+    fn give_punctuator(
+        &mut self,
+        slot: &mut Option<TokenAndSpan<'a>>,
+        before: StringInput<'a>,
+        gap: BlankGap,
+    ) -> Result<bool, AllocError>
+        requires behind { IsBehindGap before.entry self.old gap }
+        requires opened { opening (mode_of (lexer_state self.old)) gap.line_break (rest self.old.input) ≡ opens.Other }
+        ensures done { IfOk result (λ done. Gives (standing before.entry self.old) self.new slot.old slot.new done) }
+        ensures slot { OnErr result (slot.new ≡ slot.old) }
+        ensures kept { OnErr result (self.new.errors ≡ self.old.errors) }
+        ensures given { OnErr result (IsGivenAs self.old self.new) }
+        ensures free { length self.old.state.contexts < 128 → is_free_read (lexer_state (standing before.entry self.old)) ≡ true → IsOk result }
+        ensures ended { rest before.entry ≡ [] → IsOk result }
+    {
+        let type_mode = self.mode().type_mode();
+        match plain_punctuator(&mut self.input, type_mode, gap.line_break) {
+            Some(token) => self.give(slot, before, token),
+            None => self.decline(before),
+        }
+    }
+
+    /// Gives the string at the cursor, where nothing is wrong with it and it holds no line terminator.
     #[inline(never)]
-    fn next_other(&mut self) -> Result<Option<TokenAndSpan<'a>>, AllocError>
-        ensures answer { IfOk result (λ answer. option_map spanned_view answer ≡ (reading_of (lexer_state self.old)).found) }
-        ensures after { OnOk result (lexer_state self.new ≡ state_behind (lexer_state self.old) (reading_of (lexer_state self.old))) }
+    fn give_string(
+        &mut self,
+        slot: &mut Option<TokenAndSpan<'a>>,
+        before: StringInput<'a>,
+        gap: BlankGap,
+    ) -> Result<bool, AllocError>
+        requires behind { IsBehindGap before.entry self.old gap }
+        requires opened { opening (mode_of (lexer_state self.old)) gap.line_break (rest self.old.input) ≡ opens.String }
+        ensures done { IfOk result (λ done. Gives (standing before.entry self.old) self.new slot.old slot.new done) }
+        ensures slot { OnErr result (slot.new ≡ slot.old) }
+        ensures kept { OnErr result (self.new.errors ≡ self.old.errors) }
+        ensures given { OnErr result (IsGivenAs self.old self.new) }
+        ensures free { length self.old.state.contexts < 128 → is_free_read (lexer_state (standing before.entry self.old)) ≡ true → IsOk result }
+        ensures ended { rest before.entry ≡ [] → IsOk result }
+    {
+        match plain_string(self.alloc, &mut self.input, gap.line_break)? {
+            Some(token) => self.give(slot, before, token),
+            None => self.decline(before),
+        }
+    }
+
+    /// Gives the number at the cursor, where nothing is wrong with it.
+    #[inline(never)]
+    fn give_number(
+        &mut self,
+        slot: &mut Option<TokenAndSpan<'a>>,
+        before: StringInput<'a>,
+        gap: BlankGap,
+    ) -> Result<bool, AllocError>
+        requires behind { IsBehindGap before.entry self.old gap }
+        requires opened { opening (mode_of (lexer_state self.old)) gap.line_break (rest self.old.input) ≡ opens.Number }
+        ensures done { IfOk result (λ done. Gives (standing before.entry self.old) self.new slot.old slot.new done) }
+        ensures slot { OnErr result (slot.new ≡ slot.old) }
+        ensures kept { OnErr result (self.new.errors ≡ self.old.errors) }
+        ensures given { OnErr result (IsGivenAs self.old self.new) }
+        ensures free { length self.old.state.contexts < 128 → is_free_read (lexer_state (standing before.entry self.old)) ≡ true → IsOk result }
+        ensures ended { rest before.entry ≡ [] → IsOk result }
+    {
+        let mode = self.mode();
+        match plain_number(self.alloc, &mut self.input, &mode, gap.line_break)? {
+            Some(token) => self.give(slot, before, token),
+            None => self.decline(before),
+        }
+    }
+
+    /// Puts the next token into the slot, where it stands behind white space alone and nothing is to be told besides, and says
+    /// whether it did. Else nothing is changed.
+    #[inline(always)]
+    fn give_plain(&mut self, slot: &mut Option<TokenAndSpan<'a>>) -> Result<bool, AllocError>
+        ensures done { IfOk result (λ done. Gives self.old self.new slot.old slot.new done) }
+        ensures slot { OnErr result (slot.new ≡ slot.old) }
         ensures kept { OnErr result (self.new.errors ≡ self.old.errors) }
         ensures given { OnErr result (IsGivenAs self.old self.new) }
         ensures free { length self.old.state.contexts < 128 → is_free_read (lexer_state self.old) ≡ true → IsOk result }
         ensures ended { self.old.reread ≡ None → rest self.old.input ≡ [] → IsOk result }
     {
-        let Some(token) = self.find_literal()? else {
-            return self.next_with_besides();
+        if self.reread.is_some() {
+            return Ok(false);
+        }
+        let before = self.input.clone()?;
+        let mode = self.mode();
+        let Some(gap) = plain_gap(&mut self.input, &mode) else {
+            return self.decline(before);
         };
-        self.take_plain(Kept::of(&token))?;
-        Ok(Some(token))
+        match Opening::at(&self.input, &mode, gap.line_break, gap.next as char) {
+            Opening::Word => self.give_word(slot, before, gap),
+            Opening::Other => self.give_punctuator(slot, before, gap),
+            Opening::String => self.give_string(slot, before, gap),
+            Opening::Number => self.give_number(slot, before, gap),
+            Opening::Template | Opening::Bars => self.decline(before),
+        }
     }
 
     /// Reads without asking whether memory was refused before.
@@ -386,13 +475,53 @@ impl<'a> Lexer<'a> {
         ensures free { length self.old.state.contexts < 128 → is_free_read (lexer_state self.old) ≡ true → IsOk result }
         ensures ended { self.old.reread ≡ None → rest self.old.input ≡ [] → IsOk result }
     {
-        let Some(token) = self.find_plain() else {
-            // A local of its own: read into the result, it would keep what most reads answer in memory too.
-            let answer = self.next_other();
-            return answer;
-        };
-        self.take_plain(Kept::of(&token))?;
-        Ok(Some(token))
+        let mut plain = None;
+        if self.give_plain(&mut plain)? {
+            return Ok(plain);
+        }
+        // A local of its own: read into the same, it would keep what most reads answer in memory too.
+        let answer = self.next_with_besides();
+        answer
+    }
+
+    /// Reads into the slot without asking whether memory was refused before.
+    #[inline(always)]
+    fn next_into(&mut self, slot: &mut Option<TokenAndSpan<'a>>) -> Result<(), AllocError>
+        ensures answer { OnOk result (option_map spanned_view slot.new ≡ (reading_of (lexer_state self.old)).found) }
+        ensures after { OnOk result (lexer_state self.new ≡ state_behind (lexer_state self.old) (reading_of (lexer_state self.old))) }
+        ensures slot { OnErr result (slot.new ≡ slot.old) }
+        ensures kept { OnErr result (self.new.errors ≡ self.old.errors) }
+        ensures given { OnErr result (IsGivenAs self.old self.new) }
+        ensures free { length self.old.state.contexts < 128 → is_free_read (lexer_state self.old) ≡ true → IsOk result }
+        ensures ended { self.old.reread ≡ None → rest self.old.input ≡ [] → IsOk result }
+    {
+        if !self.give_plain(slot)? {
+            *slot = self.next_with_besides()?;
+        }
+        Ok(())
+    }
+
+    #[inline(always)]
+    pub fn read_into(&mut self, slot: &mut Option<TokenAndSpan<'a>>) -> Result<(), AllocError>
+        ensures answer { OnOk result (option_map spanned_view slot.new ≡ (reading_of (lexer_state self.old)).found) }
+        ensures after { OnOk result (lexer_state self.new ≡ state_behind (lexer_state self.old) (reading_of (lexer_state self.old))) }
+        ensures slot { OnErr result (slot.new ≡ slot.old) }
+        ensures kept { OnErr result (self.new.errors ≡ self.old.errors) }
+        ensures given { OnErr result (IsGivenAs self.old self.new) }
+        ensures refused { self.old.refused ≡ true → (result ≡ Err alloc_error) × (self.new ≡ self.old) }
+        ensures refusal { OnErr result (self.new.refused ≡ true) }
+        ensures free { self.old.refused ≡ false → length self.old.state.contexts < 128
+            → is_free_read (lexer_state self.old) ≡ true → IsOk result }
+        ensures ended { self.old.refused ≡ false → self.old.reread ≡ None → rest self.old.input ≡ [] → IsOk result }
+    {
+        if self.refused {
+            return Err(AllocError);
+        }
+        let read = self.next_into(slot);
+        if read.is_err() {
+            self.refused = true;
+        }
+        read
     }
 
     /// The next token, or nothing at the end.
@@ -405,6 +534,7 @@ impl<'a> Lexer<'a> {
     ///
     /// `AllocError` where there is no memory. The errors are then as before, and so are context, syntax, target and start
     /// place; each later read answers the same.
+    #[inline(always)]
     pub fn read(&mut self) -> Result<Option<TokenAndSpan<'a>>, AllocError>
         // One step of the run, from any session.
         ensures step { (s : Session) → state_of s ≡ lexer_state self.old → IfOk result (λ answer.

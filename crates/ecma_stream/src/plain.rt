@@ -7,6 +7,7 @@ ghost use Rattle.ecma_scan.specs.Numbers.{number, opens_number};
 ghost use Rattle.ecma_scan.specs.Strings.{opens_string, string_literal};
 ghost use Rattle.ecma_stream.specs.Plain.{IsPlain, StandsPlain, plain_reading, plain_view};
 ghost use Rattle.ecma_state.specs.Reading.{is_free, reading};
+ghost use Rattle.ecma_state.specs.Mode as grammar_mode;
 ghost use Rattle.ecma_state.specs.TokenAt as grammar;
 ghost use Rattle.ecma_state.specs.TokenAt.{is_free_at, is_free_token, ts1085};
 ghost use Rattle.ecma_state.specs.declared.mode.Mode.{Mode};
@@ -17,7 +18,6 @@ use ecma_scan::{
     BlankGap, Found, eat_plain_word, eat_punctuator, scan_blank_gap, scan_number, scan_string,
 };
 use ecma_state::mode::Mode;
-use ecma_state::opening::Opening;
 use ecma_token::{Token, TokenAndSpan};
 use std::alloc::{AllocError, Global};
 
@@ -47,7 +47,7 @@ fn plain_found<'a>(found: Found<'a, Token<'a>>, flag: bool) -> Option<TokenAndSp
 
 /// The word at the cursor, behind a gap whose flag stands or not, where it is written with no escape.
 #[inline(always)]
-fn plain_word<'a>(input: &mut StringInput<'a>, flag: bool) -> Option<TokenAndSpan<'a>>
+pub fn plain_word<'a>(input: &mut StringInput<'a>, flag: bool) -> Option<TokenAndSpan<'a>>
     ensures token { IfSome result (λ t. (mode : Mode) → found_at token_behind (place input.old) (grammar.word_token mode (rest input.old)) ≡ plain_view (spanned_view t)) }
     ensures flag { IfSome result (λ t. t.had_line_break ≡ flag) }
     ensures moved { (mode : Mode) → IfSome result (λ t. input.new ≡ passed (length (grammar.word_token mode (rest input.old)).spelling) input.old) }
@@ -63,17 +63,17 @@ fn plain_word<'a>(input: &mut StringInput<'a>, flag: bool) -> Option<TokenAndSpa
 
 /// The punctuator at the cursor, behind a gap whose flag stands or not, if there is one.
 #[inline(always)]
-fn plain_punctuator<'a>(
+pub fn plain_punctuator<'a>(
     input: &mut StringInput<'a>,
-    mode: &Mode,
+    type_mode: bool,
     flag: bool,
 ) -> Option<TokenAndSpan<'a>>
-    ensures token { IfSome result (λ t. found_at token_behind (place input.old) (grammar.other_token mode.now (rest input.old)) ≡ plain_view (spanned_view t)) }
+    ensures token { (mode : Mode) → grammar_mode.type_mode mode ≡ type_mode → IfSome result (λ t. found_at token_behind (place input.old) (grammar.other_token mode (rest input.old)) ≡ plain_view (spanned_view t)) }
     ensures flag { IfSome result (λ t. t.had_line_break ≡ flag) }
-    ensures moved { IfSome result (λ t. input.new ≡ passed (length (grammar.other_token mode.now (rest input.old)).spelling) input.old) }
+    ensures moved { (mode : Mode) → grammar_mode.type_mode mode ≡ type_mode → IfSome result (λ t. input.new ≡ passed (length (grammar.other_token mode (rest input.old)).spelling) input.old) }
 {
     let start = input.cur_pos();
-    let kind = eat_punctuator(input, mode.type_mode())?;
+    let kind = eat_punctuator(input, type_mode)?;
     Some(TokenAndSpan {
         token: kind.token(),
         had_line_break: flag,
@@ -83,7 +83,7 @@ fn plain_punctuator<'a>(
 
 /// The number at the cursor, behind a gap whose flag stands or not, where nothing is wrong with it.
 #[inline(never)]
-fn plain_number<'a>(
+pub fn plain_number<'a>(
     alloc: Global,
     input: &mut StringInput<'a>,
     mode: &Mode,
@@ -102,7 +102,7 @@ fn plain_number<'a>(
 /// The string at the cursor, behind a gap whose flag stands or not, where nothing is wrong with it and it holds no line
 /// terminator.
 #[inline(never)]
-fn plain_string<'a>(
+pub fn plain_string<'a>(
     alloc: Global,
     input: &mut StringInput<'a>,
     flag: bool,
@@ -117,87 +117,14 @@ fn plain_string<'a>(
     Ok(plain_found(found, flag))
 }
 
-/// The word or punctuator at the cursor, which stands before the character `c`, behind a gap whose flag stands or not, where
-/// nothing is to be told besides.
-#[inline(always)]
-fn plain_word_or_punctuator<'a>(
-    input: &mut StringInput<'a>,
-    mode: &Mode,
-    flag: bool,
-    c: char,
-) -> Option<TokenAndSpan<'a>>
-    requires { slice_get (rest input.old) 0 ≡ Some c }
-    ensures token { IfSome result (λ t. IsPlain mode.now (spanned_view t) input.old input.new) }
-    ensures flag { IfSome result (λ t. t.had_line_break ≡ flag) }
-{
-    match Opening::at(input, mode, flag, c) {
-        Opening::Word => plain_word(input, flag),
-        Opening::Other => plain_punctuator(input, mode, flag),
-        _ => None,
-    }
-}
-
-/// The string or number at the cursor, which stands before the character `c`, behind a gap whose flag stands or not, where
-/// nothing is to be told besides.
-#[inline(always)]
-fn plain_string_or_number<'a>(
-    alloc: Global,
-    input: &mut StringInput<'a>,
-    mode: &Mode,
-    flag: bool,
-    c: char,
-) -> Result<Option<TokenAndSpan<'a>>, AllocError>
-    requires { slice_get (rest input.old) 0 ≡ Some c }
-    ensures token { IfOk result (λ found. IfSome found (λ t. IsPlain mode.now (spanned_view t) input.old input.new)) }
-    ensures flag { IfOk result (λ found. IfSome found (λ t. t.had_line_break ≡ flag)) }
-    ensures free { is_free_at mode.now flag (rest input.old) ≡ true → IsOk result }
-{
-    match Opening::at(input, mode, flag, c) {
-        Opening::String => plain_string(alloc, input, flag),
-        Opening::Number => plain_number(alloc, input, mode, flag),
-        _ => Ok(None),
-    }
-}
-
 /// The white space at the cursor with which a read begins, where nothing is to be told of what stands before its token but
 /// the flag.
 #[inline(always)]
-fn plain_gap(input: &mut StringInput, mode: &Mode) -> Option<BlankGap>
+pub fn plain_gap(input: &mut StringInput, mode: &Mode) -> Option<BlankGap>
     ensures { IfSome result (λ gap. StandsPlain mode.now input.old input.new gap) }
 {
     if mode.none_given || !mode.passes_space() {
         return None;
     }
     scan_blank_gap(input, mode.first)
-}
-
-/// Reads from the cursor on, where that finds a word or a punctuator behind white space alone of which nothing is to be told
-/// besides; what else is found, [`read_from`](ecma_dispatch::read::read_from) finds. The cursor is then anywhere.
-#[inline(always)]
-pub fn read_plain<'a>(input: &mut StringInput<'a>, mode: &Mode) -> Option<TokenAndSpan<'a>>
-    ensures { IfSome result (λ t. reading mode.now input.old ≡ plain_reading (spanned_view t) input.new) }
-{
-    let BlankGap { line_break, next } = plain_gap(input, mode)?;
-    plain_word_or_punctuator(input, mode, line_break, next as char)
-}
-
-/// Reads from the cursor on, where that finds a string or a number, as [`read_plain`] does words and punctuators.
-///
-/// # Errors
-///
-/// `AllocError` where there is no memory for its value or for what is wrong with it, which is then no reason to read it
-/// another way.
-#[inline(always)]
-pub fn read_plain_literal<'a>(
-    alloc: Global,
-    input: &mut StringInput<'a>,
-    mode: &Mode,
-) -> Result<Option<TokenAndSpan<'a>>, AllocError>
-    ensures found { IfOk result (λ found. IfSome found (λ t. reading mode.now input.old ≡ plain_reading (spanned_view t) input.new)) }
-    ensures free { is_free mode.now input.old ≡ true → IsOk result }
-{
-    let Some(BlankGap { line_break, next }) = plain_gap(input, mode) else {
-        return Ok(None);
-    };
-    plain_string_or_number(alloc, input, mode, line_break, next as char)
 }
