@@ -5,6 +5,7 @@ pub mod EscapeSpans
 pub mod NameReading
 pub mod NameRuns
 pub mod PieceReading
+pub mod ShortReading
 pub mod StringFound
 pub mod StringLaws
 pub mod StringReading

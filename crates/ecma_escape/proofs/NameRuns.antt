@@ -33,7 +33,7 @@ stop (c ∷ cs) h =
     (λ (f : is_in_class Part c ≡ false). let first = is-ascii c (rw f at h) in rw (f, ascii-part c first, f) refl)
     (cases_Bool (is_in_class Part c))
 
-part-end : (old now : Cursor) (n : ℕ) → n ≡ prefix_len (is_in_class Part) (encode_utf8_all (rest old)) → now ≡ passed (count_within n (rest old)) old
+pub part-end : (old now : Cursor) (n : ℕ) → n ≡ prefix_len (is_in_class Part) (encode_utf8_all (rest old)) → now ≡ passed (count_within n (rest old)) old
     → is_some (ascii_of (slice_get (rest now) 0)) ≡ true → now ≡ passed (prefix_len is_ident_part (rest old)) old
 part-end old now n e moved ascii =
     let run : IsOnRun is_ident_part old now = word-jump old now n e moved in

@@ -6,4 +6,4 @@ pub mod name;
 pub mod word;
 
 pub use escape::scan_escape;
-pub use word::{eat_plain_word, scan_word};
+pub use word::{eat_plain_kind, eat_plain_word, scan_word};

@@ -1,5 +1,5 @@
 //! Words.
-ghost use Rattle.std.specs.Prelude.{◌≡◌, true, length, string_bytes, Result, Ok, Err, IfNone, IfOk, IfSome, IsOk, OnErr, OnOk};
+ghost use Rattle.std.specs.Prelude.{◌≡◌, true, false, length, encode_utf8_all, string_bytes, Result, Ok, Err, IfNone, IfOk, IfSome, IsOk, OnErr, OnOk};
 ghost use Rattle.ecma_escape.specs.EscapeAnswers.{opens_escape};
 ghost use Rattle.std.specs.List.{prefix_len, take_while};
 ghost use Rattle.ecma_place.specs.Atom.{AtomView, owned_atom};
@@ -15,11 +15,12 @@ ghost use Rattle.ecma_grammar.specs.Words as grammar;
 use crate::escape::at_escape;
 use crate::name::{part_characters, read_name};
 use ecma_grammar::found::Found;
-use ecma_place::{Atom, Span, StringInput};
-use ecma_syntax::{Context, IdentKind, IdentLike, Word, WordKind};
+use ecma_place::{Atom, Span, StringInput, part_lanes};
+use ecma_syntax::{Context, IdentKind, IdentLike, Word, WordKind, kind_in};
 use ecma_token::{Error, SyntaxError};
 use std::alloc::{AllocError, Global};
 use std::borrow::CowStr;
+use std::simd::prelude::*;
 
 /// The row of the table of words for this text.
 fn kind_of(text: &str) -> WordKind
@@ -86,6 +87,63 @@ fn word_of_name<'a>(
     }
 }
 
+// The kind of the word at the cursor, where it has fewer than 16 bytes, all of them ASCII, and an ASCII character that is no
+// backslash stands behind them: it is passed. Else the cursor stays.
+#[inline(always)]
+fn eat_short_kind(input: &mut StringInput) -> Option<WordKind>
+    ensures kind { IfSome result (λ k. k ≡ word_kind (word_of (encode_utf8_all (take_while is_ident_part (rest input.old))))) }
+    ensures moved { IfSome result (λ k. input.new ≡ passed (prefix_len is_ident_part (rest input.old)) input.old) }
+    ensures plain { IfSome result (λ k. opens_escape (rest input.new) ≡ false) }
+    ensures none { IfNone result (input.new ≡ input.old) }
+{
+    let chunk = input.chunk()?;
+    let length = part_lanes(u8x16::from_array(*chunk));
+    if length >= 16 {
+        return None;
+    }
+    let stop = chunk[length as usize];
+    if !stop.is_ascii() || stop == b'\\' {
+        return None;
+    }
+    let kind = kind_in(chunk, length);
+    input.bump_bytes(length as usize);
+    Some(kind)
+}
+
+// The same for any word: where a backslash stands behind the part characters, which are passed, there is no answer.
+#[inline(never)]
+fn eat_long_kind(input: &mut StringInput) -> Option<WordKind>
+    ensures kind { IfSome result (λ k. k ≡ word_kind (word_of (encode_utf8_all (take_while is_ident_part (rest input.old))))) }
+    ensures word { IfSome result (λ k. (context : Context) → grammar.word context (rest input.old) ≡
+        scanned (word_of (encode_utf8_all (take_while is_ident_part (rest input.old)))) (take_while is_ident_part (rest input.old))) }
+    ensures none { IfNone result (opens_escape (rest input.new) ≡ true) }
+    ensures moved { input.new ≡ passed (prefix_len is_ident_part (rest input.old)) input.old }
+{
+    let text = part_characters(input);
+    if at_escape(input) {
+        return None;
+    }
+    Some(Word::kind_of(text))
+}
+
+/// Moves behind the word at the cursor, where it is written with no escape, and answers its kind: that of the row of the
+/// table of words for the part characters that stand there, which are passed, and are all of the word.
+///
+/// Where a backslash follows them there is no answer. No memory is taken. Our own, for speed.
+#[inline(always)]
+pub fn eat_plain_kind(input: &mut StringInput) -> Option<WordKind>
+    ensures kind { IfSome result (λ k. k ≡ word_kind (word_of (encode_utf8_all (take_while is_ident_part (rest input.old))))) }
+    ensures word { IfSome result (λ k. (context : Context) → grammar.word context (rest input.old) ≡
+        scanned (word_of (encode_utf8_all (take_while is_ident_part (rest input.old)))) (take_while is_ident_part (rest input.old))) }
+    ensures none { IfNone result (opens_escape (rest input.new) ≡ true) }
+    ensures moved { input.new ≡ passed (prefix_len is_ident_part (rest input.old)) input.old }
+{
+    if let Some(kind) = eat_short_kind(input) {
+        return Some(kind);
+    }
+    eat_long_kind(input)
+}
+
 /// Moves behind the word at the cursor, where it is written with no escape, and answers it: what [`scan_word`] finds, without
 /// its extent. It is the row of the table of words for the part characters that stand there, which are passed.
 ///
@@ -97,11 +155,9 @@ pub fn eat_plain_word<'a>(input: &mut StringInput<'a>) -> Option<Word<'a>>
     ensures none { IfNone result (opens_escape (rest input.new) ≡ true) }
     ensures moved { input.new ≡ passed (prefix_len is_ident_part (rest input.old)) input.old }
 {
-    let text = part_characters(input);
-    if at_escape(input) {
-        return None;
-    }
-    Some(Word::from_str(text))
+    let start = input.cur_pos();
+    let kind = eat_plain_kind(input)?;
+    Some(Word::of_kind(kind, input.slice(start, input.cur_pos())))
 }
 
 /// The word at the cursor, behind which the cursor then stands.

@@ -10,9 +10,10 @@ pub mod gap;
 mod marker;
 mod reading;
 pub mod skip_whitespace;
-mod white_space;
+pub mod white_space;
 
 pub use bars::{Bars, scan_bars};
 pub use blank_gap::{BlankGap, scan_blank_gap};
 pub use gap::{Gap, scan_gap};
 pub use skip_whitespace::SkipWhitespace;
+pub use white_space::skip_white_space;

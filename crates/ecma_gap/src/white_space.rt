@@ -1,12 +1,13 @@
 //! White space at a cursor.
-ghost use Rattle.std.specs.Prelude.{◌≡◌, ◌<◌, Some, true, false, slice_get, IfSome, IfNone};
+ghost use Rattle.std.specs.Prelude.{◌≡◌, ◌<◌, ◌||◌, Some, true, false, slice_get, IfSome, IfNone};
 ghost use Rattle.std.specs.List.{prefix_len, take_while, list_any};
 ghost use Rattle.ecma_place.specs.Cursor.{rest, passed};
 ghost use Rattle.ecma_place.specs.Character.{is_white_space, is_line_terminator};
 ghost use Rattle.ecma_grammar.specs.Fronts.{next_passes};
 
 use ecma_place::character::is_white_space;
-use ecma_place::{ByteClass, CharExt, StringInput};
+use ecma_place::{CharExt, StringInput, white_lanes};
+use std::simd::prelude::*;
 
 /// Whether the byte, which is ASCII, is white space or a line terminator.
 #[tactic(auto, using(crate::proofs::WhiteLemmas::white_bytes))]
@@ -40,9 +41,9 @@ fn white_space_at(input: &StringInput) -> Option<char>
     }
 }
 
-/// Moves behind the white space at the cursor, and says whether it held a line terminator.
+/// Moves behind the white space at the cursor, one character at a time, and says whether it held a line terminator.
 #[inline(never)]
-fn pass_white_space(input: &mut StringInput) -> bool
+fn pass_white_characters(input: &mut StringInput) -> bool
     ensures terminator { result ≡ list_any is_line_terminator (take_while is_white_space (rest input.old)) }
     ensures moved { input.new ≡ passed (prefix_len is_white_space (rest input.old)) input.old }
 {
@@ -50,11 +51,40 @@ fn pass_white_space(input: &mut StringInput) -> bool
     'chars: while let Some(c) = white_space_at(input) {
         terminator |= c.is_line_terminator();
         input.bump();
-        if input.is_byte(b' ') || input.is_byte(b'\t') {
-            input.bump_bytes(input.run_bytes(ByteClass::Blank) as usize);
+    }
+    terminator
+}
+
+/// Moves on along the white space at the cursor, 16 bytes at a time, and says whether what it passed held a line
+/// terminator.
+#[inline(always)]
+fn pass_white_chunks(input: &mut StringInput) -> bool
+    ensures same_end { passed (prefix_len is_white_space (rest input.new)) input.new ≡ passed (prefix_len is_white_space (rest input.old)) input.old }
+    ensures flag { (result || list_any is_line_terminator (take_while is_white_space (rest input.new))) ≡ list_any is_line_terminator (take_while is_white_space (rest input.old)) }
+{
+    let mut terminator = false;
+    'chunks: while let Some(chunk) = input.chunk() {
+        let (count, ends) = white_lanes(u8x16::from_array(*chunk));
+        terminator |= ends;
+        input.bump_bytes(count as usize);
+        if count < 16 {
+            break;
         }
     }
     terminator
+}
+
+/// Moves behind the white space at the cursor, and says whether it held a line terminator.
+#[inline(never)]
+fn pass_white_space(input: &mut StringInput) -> bool
+    ensures terminator { result ≡ list_any is_line_terminator (take_while is_white_space (rest input.old)) }
+    ensures moved { input.new ≡ passed (prefix_len is_white_space (rest input.old)) input.old }
+{
+    let terminator = pass_white_chunks(input);
+    match input.cur_as_ascii() {
+        Some(b) if b > b' ' => terminator,
+        _ => terminator | pass_white_characters(input),
+    }
 }
 
 /// Moves behind the white space at the cursor, if any stands there, and says whether it held a line terminator.
@@ -63,16 +93,16 @@ fn pass_if_any(input: &mut StringInput) -> bool
     ensures terminator { result ≡ list_any is_line_terminator (take_while is_white_space (rest input.old)) }
     ensures moved { input.new ≡ passed (prefix_len is_white_space (rest input.old)) input.old }
 {
-    if white_space_at(input).is_none() {
-        return false;
+    match input.cur_as_ascii() {
+        Some(b) if b > b' ' => false,
+        _ => pass_white_space(input),
     }
-    pass_white_space(input)
 }
 
 /// Moves behind the white space at the cursor, and says whether it held a line terminator (ECMA-262 WhiteSpace and
 /// LineTerminator, 12.2 and 12.3).
 #[inline(always)]
-pub(crate) fn skip_white_space(input: &mut StringInput) -> bool
+pub fn skip_white_space(input: &mut StringInput) -> bool
     ensures terminator { result ≡ list_any is_line_terminator (take_while is_white_space (rest input.old)) }
     ensures moved { input.new ≡ passed (prefix_len is_white_space (rest input.old)) input.old }
 {

@@ -1,11 +1,13 @@
 -- What the bytes and the offset of an input say of its characters.
-use Rattle.std.proofs.Common.{◌≡◌, ℕ, ◌+◌, ◌-◌, ◌<◌, ◌≤◌, List, [], ◌∷◌, ◌++◌, length, take, drop, refl, sym, ap, subst, ◌∙◌, arith, length-append, take-append-drop, take_at, drop_at, length-take-le, length-drop, drop-cons, nat_le, nat_eq, append_assoc, encode_utf8, encode_utf8_all, Option, None, Some, is_some, IfSome, slice_get, get_or, ◌↔◌, slice_range, zero, suc, Bool, true, false, ◌&&◌, take-add, IsUtf8, IsCharBoundary, ⊎_elim, if◌then◌else◌, nat_lt}
+use Rattle.std.proofs.Common.{◌≡◌, Bor, ℕ, ◌+◌, ◌-◌, ◌<◌, ◌≤◌, List, [], ◌∷◌, ◌++◌, length, take, drop, refl, sym, ap, subst, ◌∙◌, arith, length-append, take-append-drop, take_at, drop_at, length-take-le, length-drop, drop-cons, nat_le, nat_eq, append_assoc, encode_utf8, encode_utf8_all, Option, None, Some, is_some, IfSome, slice_get, get_or, ◌↔◌, slice_range, zero, suc, Bool, true, false, ◌&&◌, take-add, IsUtf8, IsCharBoundary, ⊎_elim, if◌then◌else◌, nat_lt}
 use Rattle.std.specs.Str.{chars, all_scalars}
 use Rattle.std.specs.Char.{len_utf8, IsScalar}
-use Rattle.std.proofs.lemmas.Str.{chars-nil, chars-append, encode_ascii, char_from_byte, cons_from_encodes, IsCharBoundary-from_take, encodes-append, scalars-chars, IsCharBoundary-at_seam, IsUtf8-between, length-encode, len_utf8_bounds, encodes-chars, chars_past_char, IsUtf8-take, IsUtf8-drop, IsUtf8-from_is_utf8, drop_past_char, IsCharBoundary-past_char}
+use Rattle.std.proofs.lemmas.Str.{chars-nil, chars-append, encode_ascii, char_from_byte, cons_from_encodes, IsCharBoundary-from_take, encodes-append, scalars-chars, IsCharBoundary-at_seam, IsUtf8-between, length-encode, len_utf8_bounds, encodes-chars, chars_past_char, IsUtf8-take, IsUtf8-drop, IsUtf8-from_is_utf8, drop_past_char, IsCharBoundary-past_char, IsCharBoundary-after_ascii, IsCharBoundary-from_rest}
 use Rattle.std.proofs.lemmas.Bool.Decides.{nat_tests, Decides-eqb, leb_tells}
 use Rattle.std.proofs.lemmas.Slice.Eq.{starts_is}
-use Rattle.std.specs.List.{starts_with}
+use Rattle.std.specs.List.{starts_with, HoldsAt}
+use Rattle.std.specs.Option.{option_copied, MatchOption}
+use Rattle.std.proofs.lemmas.Option.{slice_get_past, slice_get_read, slice_get_within, get_or_from_slice_get}
 use Rattle.ecma_place.specs.Cursor.{Cursor, rest, place, passed, cursor_at, IsInput, HasPlace, count_within, moved_to, index_of, ascii_of}
 use Rattle.ecma_place.specs.Text.{byte_len}
 
@@ -293,3 +295,28 @@ ascii-past t s o c e i h =
     let bytes : drop o t ≡ encode_utf8 k ++ encode_utf8_all r = bytes-seen t s o c e i ∙ ap encode_utf8_all first.2 in
     let one : len_utf8 k ≡ 1 = sym (length-encode k) ∙ ap length (encode_ascii k first.3) in
     (rw one at (IsInput-past t (encode_utf8_all r) s o k i bytes), rw one at (cursor-past t (encode_utf8_all r) s o k c e i bytes))
+
+-- what `get` and `copied` give is the element, if there is one
+pub copied_get : (o : Option (Bor ℕ)) (xs : List ℕ) (i : ℕ) → IfSome o (λ x. x.now ≡ get_or xs i x.now) → MatchOption o (length xs ≤ i) (λ x. (i < length xs) × HoldsAt (λ y. x.now ≡ y) xs i) → option_copied o ≡ slice_get xs i
+copied_get None xs i is there = sym (slice_get_past xs i there)
+copied_get (Some x) xs i is there = sym (slice_get_read xs (length xs) i x.now refl there.0 is)
+
+ascii-cuts : (t : List ℕ) (n b : ℕ) → IsUtf8 t → slice_get t n ≡ Some b → b < 128 → IsCharBoundary t n × IsCharBoundary t (n + 1)
+ascii-cuts t n b u got low =
+    let within = slice_get_within t n b got in
+    let byte : get_or t n 0 ≡ b = get_or_from_slice_get t n b 0 got in
+    ((omega (arith, within), λ inside high. absurd (omega (arith, byte, high, low))), IsCharBoundary-after_ascii t n u within (rw byte low))
+
+-- before and behind an ASCII byte of the rest is a place
+pub ascii-places : (t : List ℕ) (s o k : ℕ) (c : Cursor) (x : Option ℕ) → cursor_at t s o ≡ c → IsInput t s o → x ≡ slice_get (encode_utf8_all (rest c)) k
+    → IfSome x (λ b. b < 128 → HasPlace c (place c + k) × HasPlace c (place c + (k + 1)))
+ascii-places t s o k c None e i got = tt
+ascii-places t s o k c (Some b) e i got = λ low.
+    let u = input_utf8 i in
+    let here : place c ≡ s + o = place-seen t s o c e i in
+    let cuts = ascii-cuts (drop o t) k b (IsUtf8-drop t o u i.cut) (rw (bytes-seen t s o c e i) (sym got)) low in
+    let first : place c + k - s ≡ o + k = omega arith in
+    let second : place c + (k + 1) - s ≡ o + (k + 1) = omega arith in (
+      HasPlace-seen t s o (place c + k) c e i (omega arith) (rw first (IsCharBoundary-from_rest t o k i.cut.0 cuts.0)),
+      HasPlace-seen t s o (place c + (k + 1)) c e i (omega arith) (rw second (IsCharBoundary-from_rest t o (k + 1) i.cut.0 cuts.1)),
+    )

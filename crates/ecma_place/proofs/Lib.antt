@@ -1,4 +1,5 @@
 pub mod CharacterLemmas
+pub mod ChunkLemmas
 pub mod ClassLemmas
 pub mod CursorLemmas
 pub mod LaneLemmas

@@ -5,10 +5,10 @@ pub mod punctuator;
 pub mod punctuator_kind;
 pub mod shebang;
 
-pub use ecma_escape::{eat_plain_word, scan_escape, scan_word, word};
+pub use ecma_escape::{eat_plain_kind, eat_plain_word, scan_escape, scan_word, word};
 pub use ecma_gap::{
     Bars, BlankGap, Gap, SkipWhitespace, bars, blank_gap, gap, scan_bars, scan_blank_gap, scan_gap,
-    skip_whitespace,
+    skip_white_space, skip_whitespace, white_space,
 };
 pub use ecma_grammar::{Blame, Found, GapMode, found, gap_mode};
 pub use ecma_literal::{expression, scan_regexp, scan_string, scan_template, string, template};

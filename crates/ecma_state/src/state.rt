@@ -1,17 +1,18 @@
 //! What a lexer keeps between two reads, and what is asked of it.
-ghost use Rattle.std.specs.Prelude.{◌≡◌, ◌<◌, ◌≤◌, None, Some, length, IsOk, IfOk, OnOk, OnErr};
+ghost use Rattle.std.specs.Prelude.{◌≡◌, ◌<◌, ◌≤◌, ◌∷◌, true, None, Some, length, IsOk, IfOk, OnOk, OnErr};
 ghost use Rattle.ecma_grammar.specs.Comments.{can_trail_line, can_trail_block};
 ghost use Rattle.ecma_state.specs.Contexts as contexts;
 ghost use Rattle.ecma_state.specs.Mode.{is_tpl_element};
 ghost use Rattle.ecma_state.specs.State as grammar;
+ghost use Rattle.ecma_state.specs.Transition.{brace_behind, keyword_behind, paren_behind};
 
 use crate::attachment::Around;
 use crate::kept::{Kept, Seen};
 use crate::token_context::TokenContext;
 use crate::token_contexts::TokenContexts;
-use crate::transition::Before;
+use crate::transition::{Before, paren_behind};
 use ecma_place::BytePos;
-use ecma_syntax::{Syntax, WordKind};
+use ecma_syntax::{Keyword, Syntax, WordKind};
 use ecma_token::TokenKind;
 use std::alloc::{AllocError, Global};
 use std::marker::Model;
@@ -153,6 +154,65 @@ impl State {
         Ok(())
     }
 
+    /// Begins the context of `(`.
+    #[inline(never)]
+    fn open_paren(&mut self) -> Result<(), AllocError>
+        ensures ok { OnOk result (self.new ≡ record self.old { contexts = paren_behind (grammar.previous self.old.seen) ∷ self.old.contexts; expr_allowed = true }) }
+        ensures err { OnErr result (self.new ≡ self.old) }
+        ensures free { length self.old.contexts < 128 → IsOk result }
+    {
+        self.contexts.push(paren_behind(self.seen.previous()))?;
+        self.expr_allowed = true;
+        Ok(())
+    }
+
+    /// Begins the context of `{`, before which a line terminator stands or not.
+    #[inline(never)]
+    fn open_brace(&mut self, flag: bool) -> Result<(), AllocError>
+        ensures ok { OnOk result (self.new ≡ record self.old { contexts = brace_behind (grammar.before_of self.old) self.old.contexts flag ∷ self.old.contexts; expr_allowed = true }) }
+        ensures err { OnErr result (self.new ≡ self.old) }
+        ensures free { length self.old.contexts < 128 → IsOk result }
+    {
+        let context = self.before().brace(&self.contexts, flag);
+        self.contexts.push(context)?;
+        self.expr_allowed = true;
+        Ok(())
+    }
+
+    /// Takes in `function` or `class`, which may begin a context, or any other keyword.
+    #[inline(never)]
+    fn turn_definition(&mut self, keyword: Keyword, flag: bool) -> Result<(), AllocError>
+        ensures contexts { OnOk result (self.new.contexts ≡ (keyword_behind (grammar.previous self.old.seen) keyword (grammar.before_of self.old) self.old.contexts flag).contexts) }
+        ensures allowed { OnOk result (self.new.expr_allowed ≡ (keyword_behind (grammar.previous self.old.seen) keyword (grammar.before_of self.old) self.old.contexts flag).expr_allowed) }
+        ensures same { (self.new.start ≡ self.old.start) × (self.new.opened ≡ self.old.opened) × (self.new.seen ≡ self.old.seen) }
+        ensures err { OnErr result (self.new ≡ self.old) }
+        ensures free { length self.old.contexts < 128 → IsOk result }
+    {
+        self.expr_allowed = self
+            .before()
+            .turn_keyword(&mut self.contexts, keyword, flag)?;
+        Ok(())
+    }
+
+    /// Takes in a keyword.
+    #[inline(always)]
+    fn turn_keyword(&mut self, keyword: Keyword, flag: bool) -> Result<(), AllocError>
+        ensures contexts { OnOk result (self.new.contexts ≡ (keyword_behind (grammar.previous self.old.seen) keyword (grammar.before_of self.old) self.old.contexts flag).contexts) }
+        ensures allowed { OnOk result (self.new.expr_allowed ≡ (keyword_behind (grammar.previous self.old.seen) keyword (grammar.before_of self.old) self.old.contexts flag).expr_allowed) }
+        ensures same { (self.new.start ≡ self.old.start) × (self.new.opened ≡ self.old.opened) × (self.new.seen ≡ self.old.seen) }
+        ensures err { OnErr result (self.new ≡ self.old) }
+        ensures free { length self.old.contexts < 128 → IsOk result }
+    {
+        match keyword {
+            Keyword::Function | Keyword::Class => self.turn_definition(keyword, flag),
+            _ => {
+                self.expr_allowed = !matches!(self.seen.previous(), Some(TokenKind::Dot))
+                    && TokenKind::Word(WordKind::Keyword(keyword)).before_expr();
+                Ok(())
+            }
+        }
+    }
+
     /// Changes the contexts as a token does, and remembers where it opens a template.
     #[tactic(auto, unfolding(crate::specs::Transition::transition))]
     #[inline(always)]
@@ -168,13 +228,16 @@ impl State {
             TokenKind::Word(WordKind::Ident(name)) => {
                 self.expr_allowed = self.before().allows_behind_name(name, &self.contexts);
             }
-            TokenKind::Word(_)
-            | TokenKind::RParen
-            | TokenKind::RBrace
-            | TokenKind::Colon
-            | TokenKind::LBrace
-            | TokenKind::DollarLBrace
-            | TokenKind::LParen
+            TokenKind::Word(WordKind::Keyword(keyword)) => self.turn_keyword(keyword, token.flag)?,
+            TokenKind::RParen | TokenKind::RBrace => {
+                self.expr_allowed = self.contexts.close();
+            }
+            TokenKind::Colon => {
+                self.expr_allowed = self.contexts.end_definition();
+            }
+            TokenKind::LParen => self.open_paren()?,
+            TokenKind::LBrace => self.open_brace(token.flag)?,
+            TokenKind::DollarLBrace
             | TokenKind::PlusPlus
             | TokenKind::MinusMinus
             | TokenKind::BackQuote => self.turn_any(token)?,

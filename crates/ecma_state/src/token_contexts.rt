@@ -14,17 +14,19 @@ use std::marker::Model;
 pub struct TokenContexts {
     // The innermost stands last.
     items: SmallVec<TokenContext, 128>,
+    // The innermost once more, where there is one, so that it is asked for without a look at the stack.
+    top: Option<TokenContext>,
 }
 
 impl Model for TokenContexts {
-    ghost use Rattle.std.specs.Prelude.{◌≤◌, reverse};
-    ghost use Rattle.ecma_state.specs.Contexts.{Contexts};
+    ghost use Rattle.std.specs.Prelude.{◌≡◌, ◌≤◌, reverse};
+    ghost use Rattle.ecma_state.specs.Contexts.{Contexts, innermost};
 
     ghost Value = { Contexts };
 
     ghost view = { λ c. reverse c.items.items };
 
-    ghost invariant = { λ c. 128 ≤ c.items.capacity };
+    ghost invariant = { λ c. (128 ≤ c.items.capacity) × (c.top ≡ innermost (reverse c.items.items)) };
 }
 
 impl TokenContexts {
@@ -34,6 +36,7 @@ impl TokenContexts {
     {
         TokenContexts {
             items: SmallVec::new(alloc),
+            top: None,
         }
     }
 
@@ -52,10 +55,11 @@ impl TokenContexts {
     }
 
     /// The innermost context, where there is one.
+    #[inline(always)]
     pub fn current(&self) -> Option<TokenContext>
         ensures { result ≡ innermost self.now }
     {
-        self.items.last().copied()
+        self.top
     }
 
     /// The context right around the innermost, where there is one.
@@ -72,7 +76,9 @@ impl TokenContexts {
     pub fn pop(&mut self) -> Option<TokenContext>
         ensures { MatchOption result ((self.old ≡ []) × (self.new ≡ [])) (λ top. self.old ≡ top ∷ self.new) }
     {
-        self.items.pop()
+        let popped = self.items.pop();
+        self.top = self.items.last().copied();
+        popped
     }
 
     /// Puts a context inside the others. Up to 128 contexts take no memory.
@@ -86,6 +92,7 @@ impl TokenContexts {
         ensures free { length self.old < 128 → IsOk result }
     {
         self.items.push(context)?;
+        self.top = Some(context);
         Ok(())
     }
 
@@ -100,6 +107,9 @@ impl TokenContexts {
     {
         let mut items = SmallVec::new(*self.items.allocator());
         items.extend_from_slice(self.items.as_slice())?;
-        Ok(TokenContexts { items })
+        Ok(TokenContexts {
+            items,
+            top: self.top,
+        })
     }
 }

@@ -43,7 +43,8 @@ impl TokenContexts {
     }
 
     /// Ends a context at `)` or `}`; whether an expression may begin then.
-    fn close(&mut self) -> bool
+    #[inline(never)]
+    pub(crate) fn close(&mut self) -> bool
         ensures { turned self.new result ≡ grammar.closed self.old }
     {
         if self.len() <= 1 {
@@ -64,7 +65,8 @@ impl TokenContexts {
     }
 
     /// Ends the context of a function or class at `:`; an expression may begin then.
-    fn end_definition(&mut self) -> bool
+    #[inline(always)]
+    pub(crate) fn end_definition(&mut self) -> bool
         ensures { turned self.new result ≡ grammar.coloned self.old }
     {
         if let Some(TokenContext::FnExpr | TokenContext::ClassExpr) = self.current() {
@@ -114,6 +116,7 @@ fn is_block_behind_brace(contexts: &TokenContexts) -> bool
 }
 
 /// Whether the kind is that of a word that declares variables.
+#[inline(always)]
 fn declares(previous: Option<TokenKind>) -> bool
     ensures { result ≡ grammar.declares previous }
 {
@@ -134,7 +137,7 @@ fn is_not_before_expr(previous: Option<TokenKind>) -> bool
 }
 
 /// The context that `(` begins.
-fn paren_behind(previous: Option<TokenKind>) -> TokenContext
+pub(crate) fn paren_behind(previous: Option<TokenKind>) -> TokenContext
     ensures { result ≡ grammar.paren_behind previous }
 {
     match previous {
@@ -169,7 +172,7 @@ impl Before {
     }
 
     /// The context that `{` begins.
-    fn brace(self, contexts: &TokenContexts, flag: bool) -> TokenContext
+    pub(crate) fn brace(self, contexts: &TokenContexts, flag: bool) -> TokenContext
         ensures { result ≡ grammar.brace_behind self contexts.now flag }
     {
         if self.is_brace_block(contexts, flag) {
@@ -179,19 +182,35 @@ impl Before {
         }
     }
 
+    /// Whether an expression may begin behind a name that isn't `of` in the head of a `for`.
+    #[inline(always)]
+    fn allows_behind_other(self) -> bool
+        ensures { result ≡ grammar.name_declared self }
+    {
+        declares(self.previous) && self.previous_flag
+    }
+
+    /// Whether an expression may begin behind `of`.
+    #[inline(never)]
+    fn allows_behind_of(self, contexts: &TokenContexts) -> bool
+        ensures { result ≡ grammar.name_allows (IdentKind.Known KnownIdent.Of) self contexts.now }
+    {
+        match contexts.current() {
+            Some(TokenContext::ParenStmt { is_for_loop: true }) => {
+                is_not_before_expr(self.previous)
+            }
+            _ => self.allows_behind_other(),
+        }
+    }
+
     /// Whether an expression may begin behind a name.
     #[inline(always)]
     pub(crate) fn allows_behind_name(self, name: IdentKind, contexts: &TokenContexts) -> bool
         ensures { result ≡ grammar.name_allows name self contexts.now }
     {
-        let is_in_for = matches!(
-            contexts.current(),
-            Some(TokenContext::ParenStmt { is_for_loop: true })
-        );
-        if matches!(name, IdentKind::Known(KnownIdent::Of)) && is_in_for {
-            is_not_before_expr(self.previous)
-        } else {
-            declares(self.previous) && self.previous_flag
+        match name {
+            IdentKind::Known(KnownIdent::Of) => self.allows_behind_of(contexts),
+            _ => self.allows_behind_other(),
         }
     }
 
@@ -214,7 +233,7 @@ impl Before {
     }
 
     /// Takes in a keyword.
-    fn turn_keyword(
+    pub(crate) fn turn_keyword(
         self,
         contexts: &mut TokenContexts,
         keyword: Keyword,

@@ -9,5 +9,5 @@ pub use ecma_settings::{
 };
 pub use ecma_word::{
     AssignOp, BinOpToken, BinaryOp, IdentKind, IdentLike, Keyword, KnownIdent, Word, WordKind,
-    keyword, known_ident, operator, word,
+    keyword, kind_in, known_ident, operator, word,
 };

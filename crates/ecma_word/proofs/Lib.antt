@@ -1,3 +1,4 @@
 pub mod Finding
+pub mod ShortLemmas
 pub mod TableLemmas
 pub mod Words

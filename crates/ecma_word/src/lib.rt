@@ -4,10 +4,12 @@
 pub mod keyword;
 pub mod known_ident;
 pub mod operator;
+pub mod short_words;
 mod table;
 pub mod word;
 
 pub use keyword::Keyword;
 pub use known_ident::KnownIdent;
 pub use operator::{AssignOp, BinOpToken, BinaryOp};
+pub use short_words::kind_in;
 pub use word::{IdentKind, IdentLike, Word, WordKind};

@@ -112,8 +112,16 @@ impl<'a> Word<'a> {
         Word::of_kind(table::kind_of(text), text)
     }
 
-    /// The word of this kind; an other name borrows the text.
-    fn of_kind(kind: WordKind, text: &'a str) -> Word<'a>
+    /// What the word with this text is. It takes no memory.
+    pub fn kind_of(text: &str) -> WordKind
+        ensures { result ≡ word_kind (word_of text.now) }
+    {
+        table::kind_of(text)
+    }
+
+    /// The word of this kind; an other name borrows the text. It takes no memory.
+    #[inline(always)]
+    pub fn of_kind(kind: WordKind, text: &'a str) -> Word<'a>
         ensures { result ≡ word_of_kind kind text.now }
     {
         match kind {

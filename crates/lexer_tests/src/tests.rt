@@ -1,7 +1,6 @@
 //! Tests of the lexer: rows of texts, each with its listing, and what no listing shows.
 mod attached;
 mod beginnings;
-mod canonical;
 mod code;
 mod comments;
 mod contexts;

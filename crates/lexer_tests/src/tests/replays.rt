@@ -10,7 +10,7 @@ use std::test::Fail;
 
 /// A step, as a table can hold it.
 #[derive(Clone, Copy)]
-pub(super) enum Command {
+enum Command {
     Read,
     /// Sets the flags of a module.
     Module,
@@ -186,7 +186,7 @@ fn write_replay(out: &mut String, found: &Replay) -> Result<(), AllocError> {
     Ok(())
 }
 
-pub(super) fn push_commands(
+fn push_commands(
     alloc: Global,
     steps: &mut Vec<Step>,
     commands: &[Command],

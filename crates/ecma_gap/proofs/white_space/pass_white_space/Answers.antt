@@ -1,28 +1,11 @@
-use Rattle.ecma_place.specs.Character.{is_white_space, is_line_terminator}
-use Rattle.ecma_place.proofs.RunLemmas.{run-start, run-step, flag-start, flag-step}
-use Rattle.ecma_gap.proofs.WhiteLemmas.{white-jump, white-jump-flag, white-ends-flag}
+use Rattle.std.proofs.Common.{arith}
+use Rattle.ecma_gap.proofs.WhiteLemmas.{past-flag, past-ends}
 use Rattle.ecma_gap.proofs.white_space.pass_white_space.Goals as goal
 
-pub chars-init : goal.chars-init
-chars-init c = (run-start is_white_space _, flag-start is_white_space is_line_terminator _)
+pub returns-in-Some-clause-terminator : goal.returns-in-Some-clause-terminator
+returns-in-Some-clause-terminator c =
+    past-flag _ c.args.input.now c.pass_white_chunks-terminator.new.input c.in-Some.b c.in-Some.ensures (omega (arith, c.if-b-gt32.true)) c.pass_white_chunks-terminator.ensures.flag
 
-pub chars-preserved-in-Some : goal.chars-preserved-in-Some
-chars-preserved-in-Some c =
-    let first = c.in-Some.ensures.first in
-    let white = c.in-Some.ensures.white in
-    let run = run-step is_white_space _ _ _ _ c.chars.invariant.0 first white c.bump.ensures in
-    let flag = flag-step is_white_space is_line_terminator _ _ _ _ _ _ c.chars.invariant.1 first white c.is_line_terminator-terminator.ensures c.bump.ensures in (
-      white-jump _ _ _ _ run c.run_bytes.ensures.run c.bump_bytes.ensures,
-      white-jump-flag _ _ _ _ _ flag c.run_bytes.ensures.run c.bump_bytes.ensures,
-    )
-
-pub chars-preserved : goal.chars-preserved
-chars-preserved c =
-    let first = c.in-Some.ensures.first in
-    let white = c.in-Some.ensures.white in (
-      run-step is_white_space _ _ _ _ c.chars.invariant.0 first white c.bump.ensures,
-      flag-step is_white_space is_line_terminator _ _ _ _ _ _ c.chars.invariant.1 first white c.is_line_terminator-terminator.ensures c.bump.ensures,
-    )
-
-pub returns-clause-terminator : goal.returns-clause-terminator
-returns-clause-terminator c = white-ends-flag _ _ _ c.chars.invariant.1 c.in_default.ensures.none
+pub returns-in-Some-clause-moved : goal.returns-in-Some-clause-moved
+returns-in-Some-clause-moved c =
+    past-ends c.args.input.now c.pass_white_chunks-terminator.new.input c.in-Some.b c.in-Some.ensures (omega (arith, c.if-b-gt32.true)) c.pass_white_chunks-terminator.ensures.same_end

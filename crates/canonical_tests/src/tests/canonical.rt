@@ -1,25 +1,13 @@
 //! Canonical texts: those of a list of steps, and of the tokens that it keeps.
-use super::played::{most_reads, played, push_reads};
-use super::replays::Command::{
-    self, Allow, Back, Leave, Module, Pop, Read, Reread, Save, Take, Withdraw,
-};
-use super::replays::push_commands;
-use ecma_lexer::{Canon, Kept, Settings, Step, canonical, canonical_text, replay};
+use super::steps::Command::{Allow, Back, Leave, Module, Pop, Read, Reread, Save, Take, Withdraw};
+use super::steps::Steps::{self, Reads, These};
+use super::steps::steps_of;
+use ecma_lexer::{Canon, Kept, Replay, Settings, Step, canonical, canonical_text, replay};
 use ecma_place::{BytePos, StringInput};
 use ecma_syntax::{EsVersion, Syntax};
 use std::alloc::{AllocError, Global};
 use std::process::Abort;
 use std::test::Fail;
-
-/// What is done with a text.
-#[derive(Clone, Copy)]
-enum Steps {
-    /// It is read to its end.
-    Reads,
-    These(&'static [Command]),
-}
-
-use Steps::{Reads, These};
 
 /// Where a text starts, the text, what is done with it, and its canonical text.
 type Row = (u32, &'static str, Steps, &'static str);
@@ -162,16 +150,6 @@ fn settings() -> Settings {
     }
 }
 
-/// The steps of a row over a text of so many bytes.
-fn steps_of(alloc: Global, steps: Steps, bytes: usize) -> Result<Vec<Step>, AllocError> {
-    let mut list = Vec::new(alloc);
-    match steps {
-        Reads => push_reads(&mut list, most_reads(bytes))?,
-        These(commands) => push_commands(alloc, &mut list, commands)?,
-    }
-    Ok(list)
-}
-
 /// What `canonical` answers for a row.
 fn canon_of(alloc: Global, start: u32, text: &str, steps: Steps) -> Result<Canon, AllocError> {
     if !StringInput::fits(text, BytePos(start)) {
@@ -230,6 +208,14 @@ fn assert_rows(rt: &impl Abort, alloc: Global, rows: &[Row]) -> Result<(), Fail>
     Ok(())
 }
 
+/// What the steps over a text come to.
+fn played<'a>(alloc: Global, text: &'a str, steps: &[Step]) -> Result<Replay<'a>, AllocError> {
+    if !StringInput::fits(text, BytePos(0)) {
+        return Err(AllocError);
+    }
+    replay(alloc, &settings(), text, BytePos(0), steps)
+}
+
 fn write_kept(out: &mut String, kept: &[Kept]) -> Result<(), AllocError> {
     for token in kept {
         let parted = if out.is_empty() { "" } else { "; " };
@@ -242,7 +228,7 @@ fn write_kept(out: &mut String, kept: &[Kept]) -> Result<(), AllocError> {
 /// The listing of the tokens that are kept.
 fn listing_of(alloc: Global, text: &str, steps: Steps) -> Result<String, AllocError> {
     let steps = steps_of(alloc, steps, text.len())?;
-    let found = played(alloc, &settings(), text, BytePos(0), &steps)?;
+    let found = played(alloc, text, &steps)?;
     let mut out = String::new(alloc);
     write_kept(&mut out, &found.kept)?;
     Ok(out)

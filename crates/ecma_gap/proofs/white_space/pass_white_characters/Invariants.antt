@@ -2,7 +2,7 @@ use Rattle.std.proofs.Common.{length}
 use Rattle.ecma_place.specs.Character.{is_white_space, is_line_terminator}
 use Rattle.ecma_place.specs.Cursor.{rest}
 use Rattle.ecma_place.proofs.RunLemmas.{IsOnRun, FlagsRun}
-use Rattle.ecma_gap.proofs.white_space.pass_white_space.Given as goal
+use Rattle.ecma_gap.proofs.white_space.pass_white_characters.Given as goal
 
 abbrev pub invariant-chars : goal.invariant-chars
 invariant-chars l =

@@ -1,0 +1,12 @@
+use Rattle.std.proofs.Common.{refl, arith}
+use Rattle.std.proofs.lemmas.Simd.{zip2_splat}
+use Rattle.ecma_place.specs.Run.{ends_line}
+use Rattle.ecma_place.proofs.LaneLemmas.{joined, masked}
+use Rattle.ecma_place.proofs.run.line_ends.Goals as goal
+
+pub returns : goal.returns
+returns c =
+    let v = c.args.v in
+    let long = c.fits-v.0 in
+    masked _ ends_line v _ (omega arith) c.fits-v.1
+    (joined _ _ _ v (zip2_splat _ v 16 13 long) (zip2_splat _ v 16 10 long)) refl
