@@ -16,6 +16,15 @@ pub fn count_asked(words: &[String]) -> Option<bool>
     }
 }
 
+/// What becomes of each answer that is read.
+#[derive(Debug, Clone, Copy, PartialEq, Eq)]
+pub enum Answers {
+    /// It is let go unseen, so that a compiler need not make all of it.
+    Unseen,
+    /// It is put into a slot that outlives the call, as a parser keeps its token.
+    Kept,
+}
+
 /// What is measured.
 #[derive(Debug, Drop)]
 pub struct Measure {
@@ -23,6 +32,7 @@ pub struct Measure {
     pub times: u64,
     /// Whether it is read as TypeScript.
     pub typescript: bool,
+    pub answers: Answers,
     /// Behind which tokens the last one is read again as a regular expression.
     pub rereads: Vec<u64>,
 }
@@ -41,9 +51,14 @@ impl Measure {
             [ts, behind @ ..] if ts.as_str() == "ts" => (true, behind),
             _ => (false, behind),
         };
+        let (answers, behind) = match behind {
+            [kept, behind @ ..] if kept.as_str() == "kept" => (Answers::Kept, behind),
+            _ => (Answers::Unseen, behind),
+        };
         Ok(Measure {
             times,
             typescript,
+            answers,
             rereads: rereads(alloc, behind)?,
         })
     }

@@ -105,6 +105,8 @@ fn judges_the_words(rt: HostRuntime) -> Result<(), Fail> {
     assert_bad(&rt, alloc, &["time", "1", "reread", "02"])?;
     assert_bad(&rt, alloc, &["time", "1", "reread", "1", "reread", "1"])?;
     assert_bad(&rt, alloc, &["time", "1", "reread", "1", "ts"])?;
+    assert_bad(&rt, alloc, &["time", "1", "kept", "ts"])?;
+    assert_bad(&rt, alloc, &["time", "1", "kept", "kept"])?;
     assert_bad(&rt, alloc, &["time", "1", "again", "1"])
 }
 
@@ -135,5 +137,8 @@ fn measures(rt: HostRuntime) -> Result<(), Fail> {
     assert_run(&rt, &Still, alloc, words, b"x = /a/", 0, again)?;
     let both = b"7 tokens 13 bytes best 13000.0 MB/s median 13000.0 MB/s\n".as_slice();
     let words = ["time", "2", "reread", "1", "reread", "5"].as_slice();
-    assert_run(&rt, &Still, alloc, words, b"/a/ ; b=/=/;;", 0, both)
+    assert_run(&rt, &Still, alloc, words, b"/a/ ; b=/=/;;", 0, both)?;
+    let words = ["time", "2", "kept", "reread", "1", "reread", "5"].as_slice();
+    assert_run(&rt, &Still, alloc, words, b"/a/ ; b=/=/;;", 0, both)?;
+    assert_run(&rt, &Still, alloc, &["time", "1", "ts", "kept"], b"x = /a/", 0, still)
 }

@@ -2,41 +2,91 @@
 ghost use Rattle.std.specs.Prelude.{◌^◌, ◌<◌, length};
 
 use crate::begin::begin;
-use crate::command::Measure;
+use crate::command::{Answers, Measure};
 use crate::count::pass_next;
 use ecma_lexer::{Lexer, Tokens};
 use ecma_stdio::{Fault, Halt};
-use std::alloc::Global;
+use ecma_token::TokenAndSpan;
+use std::alloc::{AllocError, Global};
 use std::time::{Clock, Duration, Instant};
 
+/// Reads the next token into the slot, and says whether there was one. A call of its own, so that the slot is written.
+#[inline(never)]
+fn keep_next<'a>(
+    lexer: &mut Lexer<'a>,
+    slot: &mut Option<TokenAndSpan<'a>>,
+) -> Result<bool, AllocError> {
+    lexer.read_into(slot)?;
+    Ok(slot.is_some())
+}
+
+/// Reads the next token, and says whether there was one.
+#[inline(always)]
+fn take_next<'a>(
+    lexer: &mut Lexer<'a>,
+    answers: Answers,
+    slot: &mut Option<TokenAndSpan<'a>>,
+) -> Result<bool, AllocError> {
+    match answers {
+        Answers::Unseen => pass_next(lexer),
+        Answers::Kept => keep_next(lexer, slot),
+    }
+}
+
 /// Reads the slash that was read last again, as a regular expression.
-fn reread(lexer: &mut Lexer) -> Result<(), Fault> {
+fn reread<'a>(
+    lexer: &mut Lexer<'a>,
+    answers: Answers,
+    slot: &mut Option<TokenAndSpan<'a>>,
+) -> Result<(), Fault> {
     let slash = lexer.last_slash().ok_or(Fault::NoSlash)?;
     lexer.set_next_regexp(Some(slash));
-    pass_next(lexer)?;
+    take_next(lexer, answers, slot)?;
     lexer.set_next_regexp(None);
     Ok(())
 }
 
-/// Reads to the end, and behind each token with such a number that token again. Says how many tokens there are.
-fn read_out(lexer: &mut Lexer, rereads: &[u64]) -> Result<u64, Fault> {
-    let mut left = rereads;
-    'tokens: for before in 0..u64::MAX {
-        if !pass_next(lexer)? {
-            return if left.is_empty() {
-                Ok(before)
-            } else {
-                Err(Fault::NoSlash)
-            };
+/// Reads so many tokens.
+fn read_on<'a>(
+    lexer: &mut Lexer<'a>,
+    answers: Answers,
+    slot: &mut Option<TokenAndSpan<'a>>,
+    tokens: u64,
+) -> Result<(), Fault> {
+    for _ in 0..tokens {
+        if !take_next(lexer, answers, slot)? {
+            return Err(Fault::NoSlash);
         }
-        if let [number, behind @ ..] = left
-            && *number == before + 1
-        {
-            reread(lexer)?;
-            left = behind;
+    }
+    Ok(())
+}
+
+/// Reads to the end, and says how many tokens there were.
+fn read_rest<'a>(
+    lexer: &mut Lexer<'a>,
+    answers: Answers,
+    slot: &mut Option<TokenAndSpan<'a>>,
+) -> Result<u64, Fault> {
+    for before in 0..u64::MAX {
+        if !take_next(lexer, answers, slot)? {
+            return Ok(before);
         }
     }
     Err(Fault::TooLong)
+}
+
+/// Reads to the end, and behind each token with such a number that token again. Says how many tokens there are.
+fn read_out(lexer: &mut Lexer, answers: Answers, rereads: &[u64]) -> Result<u64, Fault> {
+    let mut slot = None;
+    let mut before = 0u64;
+    for number in rereads {
+        let tokens = number.checked_sub(before).ok_or(Fault::NoSlash)?;
+        read_on(lexer, answers, &mut slot, tokens)?;
+        reread(lexer, answers, &mut slot)?;
+        before = *number;
+    }
+    let behind = read_rest(lexer, answers, &mut slot)?;
+    before.checked_add(behind).ok_or(Fault::TooLong)
 }
 
 /// What was measured of a text.
@@ -62,6 +112,7 @@ pub fn measure<C: Clock>(
         let start = Instant::now(clock).map_err(|_| Halt::ReadFailed)?;
         tokens = read_out(
             &mut begin(alloc, asked.typescript, text),
+            asked.answers,
             asked.rereads.as_slice(),
         )?;
         let taken = start.elapsed(clock).map_err(|_| Halt::ReadFailed)?;

@@ -1,35 +1,63 @@
 //! The lexer.
-ghost use Rattle.std.specs.Prelude.{◌≡◌, ◌<◌, true, false, None, Err, alloc_error, Some, drop, is_some, length, map, option_map, IfNone, IfOk, IfSome, IsOk, OnOk, OnErr, []};
+ghost use Rattle.std.specs.Prelude.{◌≡◌, ◌<◌, ◌≤◌, true, false, None, Err, alloc_error, Some, drop, is_some, length, map, option_map, IfNone, IfOk, IfSome, IsOk, OnOk, OnErr, []};
 ghost use Rattle.ecma_token.specs.View.{error_view, spanned_view};
 ghost use Rattle.ecma_dispatch.specs.Besides.{IsBeside, TakesNone, bare, seen_beside, state_taking};
-ghost use Rattle.ecma_place.specs.Cursor.{rest};
-ghost use Rattle.ecma_stream.specs.Plain.{IsBare};
+ghost use Rattle.ecma_place.specs.Cursor.{HasPlace, rest};
+ghost use Rattle.ecma_stream.specs.Plain.{Comes, back_at, Gives, IsAlone, IsBehindGap, IsKept, IsRefused, begins_word, plain_reading, quick_of};
+ghost use Rattle.ecma_state.specs.Reading.{reading};
+ghost use Rattle.ecma_state.specs.TokenAt.{opening};
+ghost use Rattle.ecma_state.specs.declared.opening.Opening.TheVariants as opens;
 ghost use Rattle.ecma_stream.specs.View.{IsGivenAs};
 ghost use Rattle.ecma_stream.specs.Slashes.{IsAnswer, MayReread, slash_answered};
 ghost use Rattle.ecma_state.specs.Session.{Session, kept_in, lexer_state, state_of};
 ghost use Rattle.ecma_state.specs.declared.step.Step.{Step};
-ghost use Rattle.ecma_state.specs.Run.{act, answer_in, is_free_read, mode_of, reading_of, start_of, state_allowing, state_behind, state_rereading, state_with_contexts};
+ghost use Rattle.ecma_state.specs.Run.{act, answer_in, at_place, is_free_read, mode_of, reading_of, start_of, state_allowing, state_behind, state_rereading, state_with_contexts};
 ghost use Rattle.ecma_state.specs.Contexts.{innermost};
 ghost use Rattle.ecma_state.specs.Errors.{errors_view};
 
 use crate::commented::Commented;
-use crate::plain::{read_plain, read_plain_literal};
+use crate::plain::{
+    Plain, begins_word, is_lone_dot, is_lone_equals, plain, plain_alone, plain_gap, plain_number, plain_punctuator, plain_string,
+    plain_word,
+};
 use crate::tokens::Tokens;
 use ecma_dispatch::read::{Besides, Reading, read_again, read_from};
 use ecma_place::{BytePos, StringInput};
+use ecma_scan::{BlankGap, PunctuatorKind};
 use ecma_state::comments_buffer::{BufferedComment, CommentsBuffer};
 use ecma_state::error_list::ErrorList;
 use ecma_state::errors::ErrorLists;
 use ecma_state::kept::Kept;
 use ecma_state::mode::Mode;
+use ecma_state::opening::Opening;
 use ecma_state::settings::Settings;
 use ecma_state::state::State;
 use ecma_state::token_contexts::TokenContexts;
-use ecma_syntax::{Context, EsVersion, Syntax};
+use ecma_syntax::{AssignOp, Context, EsVersion, Syntax};
 use ecma_token::{Error, TokenAndSpan};
 use std::alloc::{AllocError, Global};
 use std::marker::Model;
 use std::mem;
+
+/// What a quick look at the next token came to.
+#[derive(Clone, Copy)]
+enum Quick {
+    /// The token was given.
+    Given,
+    /// Nothing was given, and the lexer stands behind white space alone, which began at this place.
+    Behind(BytePos, BlankGap),
+    /// Nothing is changed.
+    Nothing,
+}
+
+impl Quick {
+    #[inline(always)]
+    fn of(given: bool) -> Quick
+        ensures { result ≡ quick_of given }
+    {
+        if given { Quick::Given } else { Quick::Nothing }
+    }
+}
 
 /// Reads tokens from a text, one after another.
 #[derive(Drop)]
@@ -275,62 +303,6 @@ impl<'a> Lexer<'a> {
             .take_read(&self.context, gap_faults, token_faults)
     }
 
-    /// What the next read finds, where that is a word or a punctuator behind white space alone of which nothing is to be told
-    /// besides. The cursor then stands behind it; else nothing is changed.
-    #[inline(always)]
-    fn find_plain(&mut self) -> Option<TokenAndSpan<'a>>
-        ensures found { IfSome result (λ t. Some (spanned_view t) ≡ (reading_of (lexer_state self.old)).found) }
-        ensures bare { IfSome result (λ t. IsBare t.had_line_break (reading_of (lexer_state self.old))) }
-        ensures moved { IfSome result (λ t. self.new ≡ record self.old { input = (reading_of (lexer_state self.old)).input }) }
-        ensures same { IfNone result (self.new ≡ self.old) }
-        ensures answer { IfSome result (λ t. IsAnswer self.new (kept_in (Some (spanned_view t)))) }
-    {
-        if self.reread.is_some() {
-            return None;
-        }
-        let Ok(before) = self.input.clone() else {
-            return None;
-        };
-        let mode = self.mode();
-        match read_plain(&mut self.input, &mode) {
-            Some(token) => Some(token),
-            None => {
-                self.input = before;
-                None
-            }
-        }
-    }
-
-    /// What the next read finds, where that is a string or a number behind white space alone of which nothing is to be told
-    /// besides. The cursor then stands behind it; else, and where memory is refused, nothing is changed.
-    #[inline(always)]
-    fn find_literal(&mut self) -> Result<Option<TokenAndSpan<'a>>, AllocError>
-        ensures found { IfOk result (λ found. IfSome found (λ t. Some (spanned_view t) ≡ (reading_of (lexer_state self.old)).found)) }
-        ensures bare { IfOk result (λ found. IfSome found (λ t. IsBare t.had_line_break (reading_of (lexer_state self.old)))) }
-        ensures moved { IfOk result (λ found. IfSome found (λ t. self.new ≡ record self.old { input = (reading_of (lexer_state self.old)).input })) }
-        ensures same { IfOk result (λ found. IfNone found (self.new ≡ self.old)) }
-        ensures answer { IfOk result (λ found. IfSome found (λ t. IsAnswer self.new (kept_in (Some (spanned_view t))))) }
-        ensures refused { OnErr result (self.new ≡ self.old) }
-        ensures free { is_free_read (lexer_state self.old) ≡ true → IsOk result }
-    {
-        if self.reads_again() {
-            return Ok(None);
-        }
-        let stood = self.input.clone()?;
-        let mode = self.mode();
-        match read_plain_literal(self.alloc, &mut self.input, &mode) {
-            Ok(Some(token)) => Ok(Some(token)),
-            Ok(None) => {
-                self.input = stood;
-                Ok(None)
-            }
-            Err(error) => {
-                self.input = stood;
-                Err(error)
-            }
-        }
-    }
-
     /// Takes in a token that was found with nothing besides: the contexts change. Nothing does where memory is refused.
     #[inline(always)]
     fn take_plain(&mut self, token: Kept) -> Result<(), AllocError>
@@ -359,21 +331,305 @@ impl<'a> Lexer<'a> {
         Ok(found)
     }
 
-    /// Reads what is neither a word nor a punctuator behind white space alone.
+    /// Takes in and puts into the slot a token that stands in front of the cursor, and that a read from `before` finds with
+    /// nothing besides.
+    #[inline(always)]
+    fn give(
+        &mut self,
+        slot: &mut Option<TokenAndSpan<'a>>,
+        before: BytePos,
+        plain: Plain<'a>,
+    ) -> Result<(), AllocError>
+        requires none { self.old.reread ≡ None }
+        requires place { HasPlace self.old.input before.0 }
+        requires opened { self.old.state.opened.0 ≤ before.0 }
+        requires found { reading (mode_of (lexer_state self.old)) (at_place before self.old.input) ≡ plain_reading (spanned_view plain.entry.token) self.old.input }
+        requires kept { IsKept plain.entry }
+        ensures done { OnOk result (Gives (back_at before self.old) self.new slot.old slot.new true) }
+        ensures refused { OnErr result (IsRefused self.old self.new slot.old slot.new) }
+        ensures free { length self.old.state.contexts < 128 → IsOk result }
+    {
+        self.take_plain(plain.kept)?;
+        *slot = Some(plain.token);
+        Ok(())
+    }
+
+    /// Puts the cursor back, since nothing was given.
+    #[inline(always)]
+    fn go_before(&mut self, before: BytePos)
+        requires place { HasPlace self.old.input before.0 }
+        requires opened { self.old.state.opened.0 ≤ before.0 }
+        ensures { self.new ≡ back_at before self.old }
+    {
+        self.input.reset_to(before);
+    }
+
+    /// Gives the word at the cursor, where it is written with no escape, and says whether it did.
+    #[inline(always)]
+    fn give_word(
+        &mut self,
+        slot: &mut Option<TokenAndSpan<'a>>,
+        before: BytePos,
+        gap: BlankGap,
+    ) -> Result<bool, AllocError>
+        requires behind { IsBehindGap before self.old gap }
+        requires begins { begins_word gap.next ≡ true }
+        ensures done { IfOk result (λ done. Gives (back_at before self.old) self.new slot.old slot.new done) }
+        ensures refused { OnErr result (IsRefused self.old self.new slot.old slot.new) }
+        ensures free { length self.old.state.contexts < 128 → IsOk result }
+    {
+        match plain_word(&mut self.input, gap) {
+            Some(plain) => {
+                self.give(slot, before, plain)?;
+                Ok(true)
+            }
+            None => {
+                self.go_before(before);
+                Ok(false)
+            }
+        }
+    }
+
+    /// Gives the punctuator at the cursor, which is the character there alone.
+    #[inline(always)]
+    fn give_alone(
+        &mut self,
+        slot: &mut Option<TokenAndSpan<'a>>,
+        before: BytePos,
+        gap: BlankGap,
+        kind: PunctuatorKind,
+    ) -> Result<(), AllocError>
+        requires behind { IsBehindGap before self.old gap }
+        requires alone { IsAlone kind (rest self.old.input) }
+        ensures done { OnOk result (Gives (back_at before self.old) self.new slot.old slot.new true) }
+        ensures refused { OnErr result (IsRefused self.old self.new slot.old slot.new) }
+        ensures free { length self.old.state.contexts < 128 → IsOk result }
+    {
+        let plain = plain_alone(&mut self.input, gap, kind);
+        self.give(slot, before, plain)
+    }
+
+    /// Gives the word, or the punctuator of one character, that stands at the cursor; before anything else the lexer stays
+    /// there.
+    #[inline(always)]
+    fn give_quick(
+        &mut self,
+        slot: &mut Option<TokenAndSpan<'a>>,
+        before: BytePos,
+        gap: BlankGap,
+    ) -> Result<Quick, AllocError>
+        requires behind { IsBehindGap before self.old gap }
+        ensures came { IfOk result (λ quick. Comes (back_at before self.old) self.new slot.old slot.new quick) }
+        ensures refused { OnErr result (IsRefused self.old self.new slot.old slot.new) }
+        ensures free { length self.old.state.contexts < 128 → IsOk result }
+    {
+        if begins_word(gap.next) {
+            return Ok(Quick::of(self.give_word(slot, before, gap)?));
+        }
+        match gap.next {
+            b'(' => self.give_alone(slot, before, gap, PunctuatorKind::LParen)?,
+            b')' => self.give_alone(slot, before, gap, PunctuatorKind::RParen)?,
+            b'{' => self.give_alone(slot, before, gap, PunctuatorKind::LBrace)?,
+            b'}' => self.give_alone(slot, before, gap, PunctuatorKind::RBrace)?,
+            b'[' => self.give_alone(slot, before, gap, PunctuatorKind::LBracket)?,
+            b']' => self.give_alone(slot, before, gap, PunctuatorKind::RBracket)?,
+            b';' => self.give_alone(slot, before, gap, PunctuatorKind::Semi)?,
+            b',' => self.give_alone(slot, before, gap, PunctuatorKind::Comma)?,
+            b':' => self.give_alone(slot, before, gap, PunctuatorKind::Colon)?,
+            b'.' if is_lone_dot(&self.input) => {
+                self.give_alone(slot, before, gap, PunctuatorKind::Dot)?;
+            }
+            b'=' if is_lone_equals(&self.input) => {
+                let assign = PunctuatorKind::AssignOp(AssignOp::Assign);
+                self.give_alone(slot, before, gap, assign)?;
+            }
+            _ => return Ok(Quick::Behind(before, gap)),
+        }
+        Ok(Quick::Given)
+    }
+
+    /// Passes the white space with which most reads begin, and gives what stands behind it where its first character tells
+    /// what it is.
+    #[inline(always)]
+    fn quick_into(
+        &mut self,
+        slot: &mut Option<TokenAndSpan<'a>>,
+    ) -> Result<Quick, AllocError>
+        ensures came { IfOk result (λ quick. Comes self.old self.new slot.old slot.new quick) }
+        ensures refused { OnErr result (IsRefused self.old self.new slot.old slot.new) }
+        ensures free { length self.old.state.contexts < 128 → IsOk result }
+        ensures ended { rest self.old.input ≡ [] → IsOk result }
+    {
+        if self.reads_again() {
+            return Ok(Quick::Nothing);
+        }
+        let stood = self.input.clone()?;
+        let before = self.input.cur_pos();
+        let mode = self.mode();
+        match plain_gap(&mut self.input, &mode) {
+            Some(gap) => self.give_quick(slot, before, gap),
+            None => {
+                self.input = stood;
+                Ok(Quick::Nothing)
+            }
+        }
+    }
+
+    /// Gives the punctuator at the cursor, if there is one, and says whether it did.
+    #[inline(always)]
+    fn give_punctuator(
+        &mut self,
+        slot: &mut Option<TokenAndSpan<'a>>,
+        before: BytePos,
+        gap: BlankGap,
+    ) -> Result<bool, AllocError>
+        requires behind { IsBehindGap before self.old gap }
+        requires opens { opening (mode_of (lexer_state self.old)) gap.line_break (rest self.old.input) ≡ opens.Other }
+        ensures done { IfOk result (λ done. Gives (back_at before self.old) self.new slot.old slot.new done) }
+        ensures refused { OnErr result (IsRefused self.old self.new slot.old slot.new) }
+        ensures free { length self.old.state.contexts < 128 → IsOk result }
+    {
+        let mode = self.mode();
+        match plain_punctuator(&mut self.input, &mode, gap.line_break) {
+            Some(plain) => {
+                self.give(slot, before, plain)?;
+                Ok(true)
+            }
+            None => {
+                self.go_before(before);
+                Ok(false)
+            }
+        }
+    }
+
+    /// Gives the string at the cursor, where nothing is wrong with it and it holds no line terminator, and says whether it
+    /// did.
     #[inline(never)]
-    fn next_other(&mut self) -> Result<Option<TokenAndSpan<'a>>, AllocError>
-        ensures answer { IfOk result (λ answer. option_map spanned_view answer ≡ (reading_of (lexer_state self.old)).found) }
-        ensures after { OnOk result (lexer_state self.new ≡ state_behind (lexer_state self.old) (reading_of (lexer_state self.old))) }
-        ensures kept { OnErr result (self.new.errors ≡ self.old.errors) }
-        ensures given { OnErr result (IsGivenAs self.old self.new) }
+    fn give_string(
+        &mut self,
+        slot: &mut Option<TokenAndSpan<'a>>,
+        before: BytePos,
+        gap: BlankGap,
+    ) -> Result<bool, AllocError>
+        requires behind { IsBehindGap before self.old gap }
+        requires opens { opening (mode_of (lexer_state self.old)) gap.line_break (rest self.old.input) ≡ opens.String }
+        ensures done { IfOk result (λ done. Gives (back_at before self.old) self.new slot.old slot.new done) }
+        ensures refused { OnErr result (IsRefused self.old self.new slot.old slot.new) }
+        ensures free { length self.old.state.contexts < 128 → is_free_read (lexer_state (back_at before self.old)) ≡ true → IsOk result }
+    {
+        match plain_string(self.alloc, &mut self.input, gap.line_break)? {
+            Some(token) => {
+                self.give(slot, before, plain(token))?;
+                Ok(true)
+            }
+            None => {
+                self.go_before(before);
+                Ok(false)
+            }
+        }
+    }
+
+    /// Gives the number at the cursor, where nothing is wrong with it, and says whether it did.
+    #[inline(never)]
+    fn give_number(
+        &mut self,
+        slot: &mut Option<TokenAndSpan<'a>>,
+        before: BytePos,
+        gap: BlankGap,
+    ) -> Result<bool, AllocError>
+        requires behind { IsBehindGap before self.old gap }
+        requires opens { opening (mode_of (lexer_state self.old)) gap.line_break (rest self.old.input) ≡ opens.Number }
+        ensures done { IfOk result (λ done. Gives (back_at before self.old) self.new slot.old slot.new done) }
+        ensures refused { OnErr result (IsRefused self.old self.new slot.old slot.new) }
+        ensures free { length self.old.state.contexts < 128 → is_free_read (lexer_state (back_at before self.old)) ≡ true → IsOk result }
+    {
+        let mode = self.mode();
+        match plain_number(self.alloc, &mut self.input, &mode, gap.line_break)? {
+            Some(token) => {
+                self.give(slot, before, plain(token))?;
+                Ok(true)
+            }
+            None => {
+                self.go_before(before);
+                Ok(false)
+            }
+        }
+    }
+
+    /// Gives the punctuator, string or number at the cursor, where nothing is to be told of it besides, and says whether it
+    /// did; else the cursor is put back.
+    #[inline(always)]
+    fn give_other(
+        &mut self,
+        slot: &mut Option<TokenAndSpan<'a>>,
+        before: BytePos,
+        gap: BlankGap,
+    ) -> Result<bool, AllocError>
+        requires behind { IsBehindGap before self.old gap }
+        ensures done { IfOk result (λ done. Gives (back_at before self.old) self.new slot.old slot.new done) }
+        ensures refused { OnErr result (IsRefused self.old self.new slot.old slot.new) }
+        ensures free { length self.old.state.contexts < 128 → is_free_read (lexer_state (back_at before self.old)) ≡ true → IsOk result }
+    {
+        let mode = self.mode();
+        match Opening::at(&self.input, &mode, gap.line_break, gap.next as char) {
+            Opening::Other => self.give_punctuator(slot, before, gap),
+            Opening::String => self.give_string(slot, before, gap),
+            Opening::Number => self.give_number(slot, before, gap),
+            Opening::Word | Opening::Template | Opening::Bars => {
+                self.go_before(before);
+                Ok(false)
+            }
+        }
+    }
+
+    /// Reads with all that is found besides the token, which it puts into the slot.
+    #[inline(never)]
+    fn besides_into(&mut self, slot: &mut Option<TokenAndSpan<'a>>) -> Result<(), AllocError>
+        ensures done { OnOk result (Gives self.old self.new slot.old slot.new true) }
+        ensures refused { OnErr result (IsRefused self.old self.new slot.old slot.new) }
         ensures free { length self.old.state.contexts < 128 → is_free_read (lexer_state self.old) ≡ true → IsOk result }
         ensures ended { self.old.reread ≡ None → rest self.old.input ≡ [] → IsOk result }
     {
-        let Some(token) = self.find_literal()? else {
-            return self.next_with_besides();
-        };
-        self.take_plain(Kept::of(&token))?;
-        Ok(Some(token))
+        *slot = self.next_with_besides()?;
+        Ok(())
+    }
+
+    /// Reads on from behind the white space with which a read from `before` begins.
+    #[inline(never)]
+    fn other_into(
+        &mut self,
+        slot: &mut Option<TokenAndSpan<'a>>,
+        before: BytePos,
+        gap: BlankGap,
+    ) -> Result<(), AllocError>
+        requires behind { IsBehindGap before self.old gap }
+        ensures done { OnOk result (Gives (back_at before self.old) self.new slot.old slot.new true) }
+        ensures refused { OnErr result (IsRefused self.old self.new slot.old slot.new) }
+        ensures free { length self.old.state.contexts < 128 → is_free_read (lexer_state (back_at before self.old)) ≡ true → IsOk result }
+    {
+        if self.give_other(slot, before, gap)? {
+            Ok(())
+        } else {
+            self.besides_into(slot)
+        }
+    }
+
+    /// The same, answered.
+    #[inline(always)]
+    fn other_answer(
+        &mut self,
+        before: BytePos,
+        gap: BlankGap,
+    ) -> Result<Option<TokenAndSpan<'a>>, AllocError>
+        requires behind { IsBehindGap before self.old gap }
+        ensures done { IfOk result (λ answer. Gives (back_at before self.old) self.new None answer true) }
+        ensures kept { OnErr result (self.new.errors ≡ self.old.errors) }
+        ensures given { OnErr result (IsGivenAs self.old self.new) }
+        ensures free { length self.old.state.contexts < 128 → is_free_read (lexer_state (back_at before self.old)) ≡ true → IsOk result }
+    {
+        let mut answer = None;
+        self.other_into(&mut answer, before, gap)?;
+        Ok(answer)
     }
 
     /// Reads without asking whether memory was refused before.
@@ -386,13 +642,60 @@ impl<'a> Lexer<'a> {
         ensures free { length self.old.state.contexts < 128 → is_free_read (lexer_state self.old) ≡ true → IsOk result }
         ensures ended { self.old.reread ≡ None → rest self.old.input ≡ [] → IsOk result }
     {
-        let Some(token) = self.find_plain() else {
-            // A local of its own: read into the result, it would keep what most reads answer in memory too.
-            let answer = self.next_other();
-            return answer;
-        };
-        self.take_plain(Kept::of(&token))?;
-        Ok(Some(token))
+        // What most reads answer. Read into the same place, the rare answer would keep it in memory too.
+        let mut plain = None;
+        match self.quick_into(&mut plain)? {
+            Quick::Given => Ok(plain),
+            Quick::Behind(before, gap) => self.other_answer(before, gap),
+            Quick::Nothing => {
+                let answer = self.next_with_besides();
+                answer
+            }
+        }
+    }
+
+    /// Reads into the slot without asking whether memory was refused before.
+    #[inline(always)]
+    fn next_into(&mut self, slot: &mut Option<TokenAndSpan<'a>>) -> Result<(), AllocError>
+        ensures done { OnOk result (Gives self.old self.new slot.old slot.new true) }
+        ensures refused { OnErr result (IsRefused self.old self.new slot.old slot.new) }
+        ensures free { length self.old.state.contexts < 128 → is_free_read (lexer_state self.old) ≡ true → IsOk result }
+        ensures ended { self.old.reread ≡ None → rest self.old.input ≡ [] → IsOk result }
+    {
+        match self.quick_into(slot)? {
+            Quick::Given => Ok(()),
+            Quick::Behind(before, gap) => self.other_into(slot, before, gap),
+            Quick::Nothing => self.besides_into(slot),
+        }
+    }
+
+    /// Reads into a slot that is kept: what [`Lexer::read`] answers takes the place of what stands in it. Where tokens are
+    /// kept this is the cheaper of the two, since the token is made in its place. Our own.
+    ///
+    /// # Errors
+    ///
+    /// `AllocError` as of [`Lexer::read`]; the slot is then as before.
+    #[inline(always)]
+    pub fn read_into(&mut self, slot: &mut Option<TokenAndSpan<'a>>) -> Result<(), AllocError>
+        ensures answer { OnOk result (option_map spanned_view slot.new ≡ (reading_of (lexer_state self.old)).found) }
+        ensures after { OnOk result (lexer_state self.new ≡ state_behind (lexer_state self.old) (reading_of (lexer_state self.old))) }
+        ensures slot { OnErr result (slot.new ≡ slot.old) }
+        ensures refused { self.old.refused ≡ true → (result ≡ Err alloc_error) × (self.new ≡ self.old) }
+        ensures refusal { OnErr result (self.new.refused ≡ true) }
+        ensures kept { OnErr result (self.new.errors ≡ self.old.errors) }
+        ensures given { OnErr result (IsGivenAs self.old self.new) }
+        ensures free { self.old.refused ≡ false → length self.old.state.contexts < 128
+            → is_free_read (lexer_state self.old) ≡ true → IsOk result }
+        ensures ended { self.old.refused ≡ false → self.old.reread ≡ None → rest self.old.input ≡ [] → IsOk result }
+    {
+        if self.refused {
+            return Err(AllocError);
+        }
+        let read = self.next_into(slot);
+        if read.is_err() {
+            self.refused = true;
+        }
+        read
     }
 
     /// The next token, or nothing at the end.
@@ -405,6 +708,7 @@ impl<'a> Lexer<'a> {
     ///
     /// `AllocError` where there is no memory. The errors are then as before, and so are context, syntax, target and start
     /// place; each later read answers the same.
+    #[inline(always)]
     pub fn read(&mut self) -> Result<Option<TokenAndSpan<'a>>, AllocError>
         // One step of the run, from any session.
         ensures step { (s : Session) → state_of s ≡ lexer_state self.old → IfOk result (λ answer.

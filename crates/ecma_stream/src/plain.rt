@@ -1,27 +1,32 @@
 //! Reads of tokens of which nothing is to be told besides: most reads, without lists. Our own, for speed.
-ghost use Rattle.std.specs.Prelude.{◌≡◌, true, Some, length, slice_get, IfOk, IfSome, IsOk};
+ghost use Rattle.std.specs.Prelude.{◌≡◌, true, false, Some, length, slice_get, IfOk, IfSome, IsOk, OnErr, OnOk};
 ghost use Rattle.ecma_place.specs.Cursor.{rest, place, passed};
 ghost use Rattle.ecma_token.specs.View.{spanned_view, token_view};
 ghost use Rattle.ecma_scan.specs.Found.{found_at, found_view, token_behind};
 ghost use Rattle.ecma_scan.specs.Numbers.{number, opens_number};
 ghost use Rattle.ecma_scan.specs.Strings.{opens_string, string_literal};
-ghost use Rattle.ecma_stream.specs.Plain.{IsPlain, StandsPlain, plain_reading, plain_view};
-ghost use Rattle.ecma_state.specs.Reading.{is_free, reading};
-ghost use Rattle.ecma_state.specs.TokenAt as grammar;
-ghost use Rattle.ecma_state.specs.TokenAt.{is_free_at, is_free_token, ts1085};
+ghost use Rattle.ecma_stream.specs.Plain.{IsAlone, IsFurther, IsKept, IsPlain, StandsPlain, begins_word, plain_view};
+ghost use Rattle.ecma_scan.specs.declared.punctuator_kind.PunctuatorKind.TheVariants as kinds;
+ghost use Rattle.ecma_syntax.specs.declared.operator.AssignOp.TheVariants as assign;
+ghost use Rattle.ecma_state.specs.Mode.{is_template};
+ghost use Rattle.ecma_state.specs.TokenAt.{is_free_token, opening, ts1085};
+ghost use Rattle.ecma_state.specs.declared.opening.Opening.TheVariants as opens;
 ghost use Rattle.ecma_state.specs.declared.mode.Mode.{Mode};
 ghost use Rattle.ecma_state.specs.declared.opening.Opening.{Opening};
 
 use ecma_place::{Span, StringInput};
 use ecma_scan::{
-    BlankGap, Found, eat_plain_word, eat_punctuator, scan_blank_gap, scan_number, scan_string,
+    BlankGap, Found, PunctuatorKind, eat_plain_kind, eat_punctuator, scan_blank_gap, scan_number,
+    scan_string,
 };
+use ecma_state::kept::Kept;
 use ecma_state::mode::Mode;
-use ecma_state::opening::Opening;
-use ecma_token::{Token, TokenAndSpan};
+use ecma_syntax::Word;
+use ecma_token::{Token, TokenAndSpan, TokenKind};
 use std::alloc::{AllocError, Global};
 
 /// A token that was found, behind a gap whose flag stands or not, where nothing is to be told besides.
+#[inline(always)]
 fn plain_found<'a>(found: Found<'a, Token<'a>>, flag: bool) -> Option<TokenAndSpan<'a>>
     ensures token { IfSome result (λ t. found_view token_view found.entry ≡ plain_view (spanned_view t)) }
     ensures flag { IfSome result (λ t. t.had_line_break ≡ flag) }
@@ -45,45 +50,135 @@ fn plain_found<'a>(found: Found<'a, Token<'a>>, flag: bool) -> Option<TokenAndSp
     }
 }
 
-/// The word at the cursor, behind a gap whose flag stands or not, where it is written with no escape.
+/// A token, of which nothing is to be told besides, and what is kept of it.
+#[derive(Drop)]
+pub struct Plain<'a> {
+    pub token: TokenAndSpan<'a>,
+    pub kept: Kept,
+}
+
+/// A token with what is kept of it.
 #[inline(always)]
-fn plain_word<'a>(input: &mut StringInput<'a>, flag: bool) -> Option<TokenAndSpan<'a>>
-    ensures token { IfSome result (λ t. (mode : Mode) → found_at token_behind (place input.old) (grammar.word_token mode (rest input.old)) ≡ plain_view (spanned_view t)) }
-    ensures flag { IfSome result (λ t. t.had_line_break ≡ flag) }
-    ensures moved { (mode : Mode) → IfSome result (λ t. input.new ≡ passed (length (grammar.word_token mode (rest input.old)).spelling) input.old) }
+pub fn plain<'a>(token: TokenAndSpan<'a>) -> Plain<'a>
+    ensures token { result.token ≡ token.entry }
+    ensures kept { IsKept result }
+{
+    let kept = Kept::of(&token);
+    Plain { token, kept }
+}
+
+/// Whether a word begins with the character, which is ASCII, and is no backslash.
+#[inline(always)]
+pub fn begins_word(c: u8) -> bool
+    ensures { result ≡ begins_word c }
+{
+    c.is_ascii_alphabetic() || c == b'$' || c == b'_'
+}
+
+/// Whether the point at the cursor is a punctuator of its own.
+#[inline(always)]
+pub fn is_lone_dot(input: &StringInput) -> bool
+    requires { slice_get (rest input.now) 0 ≡ Some 46 }
+    ensures { result ≡ true → IsAlone kinds.Dot (rest input.now) }
+{
+    match input.byte_ahead(1) {
+        Some(b'.' | b'0'..=b'9') | None => false,
+        Some(_) => true,
+    }
+}
+
+/// Whether the `=` at the cursor is a punctuator of its own.
+#[inline(always)]
+pub fn is_lone_equals(input: &StringInput) -> bool
+    requires { slice_get (rest input.now) 0 ≡ Some 61 }
+    ensures { result ≡ true → IsAlone (kinds.AssignOp assign.Assign) (rest input.now) }
+{
+    match input.byte_ahead(1) {
+        Some(b'=' | b'>') | None => false,
+        Some(_) => true,
+    }
+}
+
+/// The word at the cursor, behind this gap, where it is written with no escape.
+#[inline(always)]
+pub fn plain_word<'a>(input: &mut StringInput<'a>, gap: BlankGap) -> Option<Plain<'a>>
+    requires first { slice_get (rest input.old) 0 ≡ Some gap.next }
+    requires begins { begins_word gap.next ≡ true }
+    ensures token { IfSome result (λ plain. (mode : Mode) → is_template mode.top ≡ false → IsPlain mode (spanned_view plain.token) input.old input.new) }
+    ensures flag { IfSome result (λ plain. plain.token.had_line_break ≡ gap.line_break) }
+    ensures kept { IfSome result IsKept }
+    ensures moved { IsFurther input.old input.new }
 {
     let start = input.cur_pos();
-    let word = eat_plain_word(input)?;
-    Some(TokenAndSpan {
-        token: Token::Word(word),
-        had_line_break: flag,
-        span: Span::new(start, input.cur_pos()),
+    let kind = eat_plain_kind(input)?;
+    let span = Span::new(start, input.cur_pos());
+    let word = Word::of_kind(kind, input.slice(span.lo, span.hi));
+    Some(Plain {
+        token: TokenAndSpan {
+            token: Token::Word(word),
+            had_line_break: gap.line_break,
+            span,
+        },
+        kept: Kept {
+            kind: TokenKind::Word(kind),
+            span,
+            flag: gap.line_break,
+        },
     })
+}
+
+/// The punctuator at the cursor, behind this gap, which is the character there alone.
+#[inline(always)]
+pub fn plain_alone<'a>(input: &mut StringInput<'a>, gap: BlankGap, kind: PunctuatorKind) -> Plain<'a>
+    requires first { slice_get (rest input.old) 0 ≡ Some gap.next }
+    requires alone { IsAlone kind (rest input.old) }
+    ensures token { (mode : Mode) → is_template mode.top ≡ false → IsPlain mode (spanned_view result.token) input.old input.new }
+    ensures flag { result.token.had_line_break ≡ gap.line_break }
+    ensures kept { IsKept result }
+    ensures moved { input.new ≡ passed 1 input.old }
+{
+    let start = input.cur_pos();
+    input.bump();
+    let span = Span::new(start, input.cur_pos());
+    Plain {
+        token: TokenAndSpan {
+            token: kind.token(),
+            had_line_break: gap.line_break,
+            span,
+        },
+        kept: Kept {
+            kind: kind.kind(),
+            span,
+            flag: gap.line_break,
+        },
+    }
 }
 
 /// The punctuator at the cursor, behind a gap whose flag stands or not, if there is one.
 #[inline(always)]
-fn plain_punctuator<'a>(
+pub fn plain_punctuator<'a>(
     input: &mut StringInput<'a>,
     mode: &Mode,
     flag: bool,
-) -> Option<TokenAndSpan<'a>>
-    ensures token { IfSome result (λ t. found_at token_behind (place input.old) (grammar.other_token mode.now (rest input.old)) ≡ plain_view (spanned_view t)) }
-    ensures flag { IfSome result (λ t. t.had_line_break ≡ flag) }
-    ensures moved { IfSome result (λ t. input.new ≡ passed (length (grammar.other_token mode.now (rest input.old)).spelling) input.old) }
+) -> Option<Plain<'a>>
+    requires { opening mode.now flag (rest input.old) ≡ opens.Other }
+    ensures token { IfSome result (λ plain. IsPlain mode.now (spanned_view plain.token) input.old input.new) }
+    ensures flag { IfSome result (λ plain. plain.token.had_line_break ≡ flag) }
+    ensures kept { IfSome result IsKept }
+    ensures moved { IsFurther input.old input.new }
 {
     let start = input.cur_pos();
     let kind = eat_punctuator(input, mode.type_mode())?;
-    Some(TokenAndSpan {
+    Some(plain(TokenAndSpan {
         token: kind.token(),
         had_line_break: flag,
         span: Span::new(start, input.cur_pos()),
-    })
+    }))
 }
 
 /// The number at the cursor, behind a gap whose flag stands or not, where nothing is wrong with it.
-#[inline(never)]
-fn plain_number<'a>(
+#[inline(always)]
+pub fn plain_number<'a>(
     alloc: Global,
     input: &mut StringInput<'a>,
     mode: &Mode,
@@ -92,7 +187,8 @@ fn plain_number<'a>(
     requires { opens_number (rest input.old) ≡ true }
     ensures token { IfOk result (λ found. IfSome found (λ t. found_at token_behind (place input.old) (number (ts1085 mode.now) (rest input.old)) ≡ plain_view (spanned_view t))) }
     ensures flag { IfOk result (λ found. IfSome found (λ t. t.had_line_break ≡ flag)) }
-    ensures moved { IfOk result (λ found. IfSome found (λ t. input.new ≡ passed (length (number (ts1085 mode.now) (rest input.old)).spelling) input.old)) }
+    ensures moved { OnOk result (input.new ≡ passed (length (number (ts1085 mode.now) (rest input.old)).spelling) input.old) }
+    ensures same { OnErr result (input.new ≡ input.old) }
     ensures free { is_free_token Opening.Number (rest input.old) (number (ts1085 mode.now) (rest input.old)) ≡ true → IsOk result }
 {
     let found = scan_number(alloc, input, mode.ts1085())?;
@@ -101,8 +197,8 @@ fn plain_number<'a>(
 
 /// The string at the cursor, behind a gap whose flag stands or not, where nothing is wrong with it and it holds no line
 /// terminator.
-#[inline(never)]
-fn plain_string<'a>(
+#[inline(always)]
+pub fn plain_string<'a>(
     alloc: Global,
     input: &mut StringInput<'a>,
     flag: bool,
@@ -110,94 +206,22 @@ fn plain_string<'a>(
     requires { opens_string (rest input.old) ≡ true }
     ensures token { IfOk result (λ found. IfSome found (λ t. found_at token_behind (place input.old) (string_literal (rest input.old)) ≡ plain_view (spanned_view t))) }
     ensures flag { IfOk result (λ found. IfSome found (λ t. t.had_line_break ≡ flag)) }
-    ensures moved { IfOk result (λ found. IfSome found (λ t. input.new ≡ passed (length (string_literal (rest input.old)).spelling) input.old)) }
+    ensures moved { OnOk result (input.new ≡ passed (length (string_literal (rest input.old)).spelling) input.old) }
+    ensures same { OnErr result (input.new ≡ input.old) }
     ensures free { is_free_token Opening.String (rest input.old) (string_literal (rest input.old)) ≡ true → IsOk result }
 {
     let found = scan_string(alloc, input)?;
     Ok(plain_found(found, flag))
 }
 
-/// The word or punctuator at the cursor, which stands before the character `c`, behind a gap whose flag stands or not, where
-/// nothing is to be told besides.
-#[inline(always)]
-fn plain_word_or_punctuator<'a>(
-    input: &mut StringInput<'a>,
-    mode: &Mode,
-    flag: bool,
-    c: char,
-) -> Option<TokenAndSpan<'a>>
-    requires { slice_get (rest input.old) 0 ≡ Some c }
-    ensures token { IfSome result (λ t. IsPlain mode.now (spanned_view t) input.old input.new) }
-    ensures flag { IfSome result (λ t. t.had_line_break ≡ flag) }
-{
-    match Opening::at(input, mode, flag, c) {
-        Opening::Word => plain_word(input, flag),
-        Opening::Other => plain_punctuator(input, mode, flag),
-        _ => None,
-    }
-}
-
-/// The string or number at the cursor, which stands before the character `c`, behind a gap whose flag stands or not, where
-/// nothing is to be told besides.
-#[inline(always)]
-fn plain_string_or_number<'a>(
-    alloc: Global,
-    input: &mut StringInput<'a>,
-    mode: &Mode,
-    flag: bool,
-    c: char,
-) -> Result<Option<TokenAndSpan<'a>>, AllocError>
-    requires { slice_get (rest input.old) 0 ≡ Some c }
-    ensures token { IfOk result (λ found. IfSome found (λ t. IsPlain mode.now (spanned_view t) input.old input.new)) }
-    ensures flag { IfOk result (λ found. IfSome found (λ t. t.had_line_break ≡ flag)) }
-    ensures free { is_free_at mode.now flag (rest input.old) ≡ true → IsOk result }
-{
-    match Opening::at(input, mode, flag, c) {
-        Opening::String => plain_string(alloc, input, flag),
-        Opening::Number => plain_number(alloc, input, mode, flag),
-        _ => Ok(None),
-    }
-}
-
 /// The white space at the cursor with which a read begins, where nothing is to be told of what stands before its token but
 /// the flag.
 #[inline(always)]
-fn plain_gap(input: &mut StringInput, mode: &Mode) -> Option<BlankGap>
+pub fn plain_gap(input: &mut StringInput, mode: &Mode) -> Option<BlankGap>
     ensures { IfSome result (λ gap. StandsPlain mode.now input.old input.new gap) }
 {
     if mode.none_given || !mode.passes_space() {
         return None;
     }
     scan_blank_gap(input, mode.first)
-}
-
-/// Reads from the cursor on, where that finds a word or a punctuator behind white space alone of which nothing is to be told
-/// besides; what else is found, [`read_from`](ecma_dispatch::read::read_from) finds. The cursor is then anywhere.
-#[inline(always)]
-pub fn read_plain<'a>(input: &mut StringInput<'a>, mode: &Mode) -> Option<TokenAndSpan<'a>>
-    ensures { IfSome result (λ t. reading mode.now input.old ≡ plain_reading (spanned_view t) input.new) }
-{
-    let BlankGap { line_break, next } = plain_gap(input, mode)?;
-    plain_word_or_punctuator(input, mode, line_break, next as char)
-}
-
-/// Reads from the cursor on, where that finds a string or a number, as [`read_plain`] does words and punctuators.
-///
-/// # Errors
-///
-/// `AllocError` where there is no memory for its value or for what is wrong with it, which is then no reason to read it
-/// another way.
-#[inline(always)]
-pub fn read_plain_literal<'a>(
-    alloc: Global,
-    input: &mut StringInput<'a>,
-    mode: &Mode,
-) -> Result<Option<TokenAndSpan<'a>>, AllocError>
-    ensures found { IfOk result (λ found. IfSome found (λ t. reading mode.now input.old ≡ plain_reading (spanned_view t) input.new)) }
-    ensures free { is_free mode.now input.old ≡ true → IsOk result }
-{
-    let Some(BlankGap { line_break, next }) = plain_gap(input, mode) else {
-        return Ok(None);
-    };
-    plain_string_or_number(alloc, input, mode, line_break, next as char)
 }
