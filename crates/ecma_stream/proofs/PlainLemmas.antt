@@ -3,7 +3,9 @@ use Rattle.std.proofs.Common.{◌≡◌, ℕ, ◌+◌, Bool, true, false, ◌||�
 use Rattle.std.specs.Prelude.{option_map, IfOk, IfSome}
 use Rattle.ecma_place.specs.Text.{Text, byte_len}
 use Rattle.ecma_place.specs.Cursor.{Cursor, rest, place, passed}
+use Rattle.ecma_place.specs.declared.place.BytePos.{BytePos}
 use Rattle.ecma_place.specs.declared.place.Span.{Span}
+use Rattle.ecma_place.proofs.MoveLemmas.{span-passed}
 use Rattle.ecma_syntax.specs.declared.word.Word.{Word}
 use Rattle.ecma_token.specs.View.{SpannedView, plain_token, token_view}
 use Rattle.ecma_token.specs.declared.token.Token as token
@@ -12,16 +14,19 @@ use Rattle.ecma_scan.specs.declared.blank_gap.BlankGap.{BlankGap}
 use Rattle.ecma_scan.specs.Comments.{comments_at}
 use Rattle.ecma_scan.specs.Found.{found_at, scanned, span_of, token_behind}
 use Rattle.ecma_scan.specs.Gaps.{gap_faults_at, has_line_break}
-use Rattle.ecma_scan.specs.Punctuators.{Punctuator, spelling_in, token_in}
+use Rattle.ecma_scan.specs.Punctuators.{Punctuator, punctuator_in, spelling_in, token_in}
+use Rattle.ecma_scan.proofs.PunctuatorLemmas.{punctuator-front, punctuator-seen}
 use Rattle.ecma_scan.specs.GapViews.{GapView}
 use Rattle.ecma_scan.specs.Shebangs.{opens_shebang}
+use Rattle.ecma_scan.specs.Numbers.{number}
+use Rattle.ecma_scan.specs.Strings.{string_literal}
 use Rattle.ecma_scan.specs.Words.{word}
-use Rattle.ecma_state.specs.Mode.{gap_mode, is_template, keeps_space, passes_space}
+use Rattle.ecma_state.specs.Mode.{gap_mode, is_template, keeps_space, passes_space, type_mode}
 use Rattle.ecma_stream.specs.Plain.{IsPlain, StandsPlain, plain_reading, plain_view}
 use Rattle.ecma_state.specs.Reading.{Reading, gap_in, is_free, is_free_behind, is_free_code, reading, reading_if, reading_token, token_reading}
 use Rattle.ecma_state.specs.Run.{mode_of, reading_from, reading_of}
 use Rattle.ecma_state.specs.Session.{LexerKept, lexer_state}
-use Rattle.ecma_state.specs.TokenAt.{as_token, comments_in, is_free_at, is_free_token, opening, placed, punctuator_or_stray, read_opened, token_at, token_comments, word_token}
+use Rattle.ecma_state.specs.TokenAt.{as_token, comments_in, is_free_at, is_free_token, opening, placed, ts1085, punctuator_or_stray, read_opened, token_at, token_comments, word_token}
 use Rattle.ecma_stream.specs.View.{lexer_view}
 use Rattle.ecma_stream.specs.declared.lexer.Lexer.TheInside.{Inside}
 use Rattle.ecma_state.specs.declared.mode.Mode.{Mode}
@@ -86,6 +91,46 @@ plain-of-word mode flag old now t is found same moved =
       moved = moved ∙ ap (λ x. passed (length (read_opened x mode (rest old)).spelling) old) (sym opened);
     }
 
+-- so is a string
+pub plain-of-string : (mode : Mode) (flag : Bool) (old now : Cursor) (t : SpannedView) → opening mode flag (rest old) ≡ opens.String
+    → found_at token_behind (place old) (string_literal (rest old)) ≡ plain_view t → t.had_line_break ≡ flag → now ≡ passed (length (string_literal (rest old)).spelling) old
+    → IsPlain mode t old now
+plain-of-string mode flag old now t is found same moved =
+    let opened : opening mode t.had_line_break (rest old) ≡ opens.String = ap (λ b. opening mode b (rest old)) same ∙ is in
+    record {
+      found = ap (λ x. placed x mode (place old) (read_opened x mode (rest old))) opened ∙ found;
+      comments = ap (λ x. comments_in x mode (place old) (rest old)) opened;
+      moved = moved ∙ ap (λ x. passed (length (read_opened x mode (rest old)).spelling) old) (sym opened);
+    }
+
+-- so is a number
+pub plain-of-number : (mode : Mode) (flag : Bool) (old now : Cursor) (t : SpannedView) → opening mode flag (rest old) ≡ opens.Number
+    → found_at token_behind (place old) (number (ts1085 mode) (rest old)) ≡ plain_view t → t.had_line_break ≡ flag → now ≡ passed (length (number (ts1085 mode) (rest old)).spelling) old
+    → IsPlain mode t old now
+plain-of-number mode flag old now t is found same moved =
+    let opened : opening mode t.had_line_break (rest old) ≡ opens.Number = ap (λ b. opening mode b (rest old)) same ∙ is in
+    record {
+      found = ap (λ x. placed x mode (place old) (read_opened x mode (rest old))) opened ∙ found;
+      comments = ap (λ x. comments_in x mode (place old) (rest old)) opened;
+      moved = moved ∙ ap (λ x. passed (length (read_opened x mode (rest old)).spelling) old) (sym opened);
+    }
+
+-- a punctuator is found where nothing else opens
+pub plain-of-punctuator : (mode : Mode) (old now : Cursor) (found : Option Punctuator) (t : token.Token) (flag : Bool) (span : Span) (lo hi : BytePos)
+    → opening mode flag (rest old) ≡ opens.Other → punctuator_in (type_mode mode) (rest old) ≡ found → Some t ≡ token_in found → now ≡ passed (length (spelling_in found)) old
+    → lo.0 ≡ place old → hi.0 ≡ place now → span ≡ record { lo = lo; hi = hi }
+    → IsPlain mode (record { token = token_view t; had_line_break = flag; span = span }) old now
+plain-of-punctuator mode old now found t flag span lo hi opened is told moved at to spans =
+    let there = punctuator_in (type_mode mode) (rest old) in
+    let token : Some t ≡ token_in there = told ∙ sym (ap token_in is) in
+    let passes : now ≡ passed (length (spelling_in there)) old = moved ∙ sym (ap (λ f. passed (length (spelling_in f)) old) is) in
+    let extent = spans ∙ span-passed old now (spelling_in there) lo hi (punctuator-front (type_mode mode) (rest old)) passes at to in
+    record {
+      found = ap (λ x. placed x mode (place old) (read_opened x mode (rest old))) opened ∙ punctuator-plain (place old) there (rest old) t flag span token (punctuator-seen (place old) (type_mode mode) (rest old)) extent;
+      comments = ap (λ x. comments_in x mode (place old) (rest old)) opened;
+      moved = passes ∙ ap (λ s. passed (length s) old) (punctuator-spelled there (rest old) t token) ∙ ap (λ x. passed (length (read_opened x mode (rest old)).spelling) old) (sym opened);
+    }
+
 -- Reads
 
 pub passes-parts : (top : Option TokenContext) → passes_space top ≡ true → (is_template top ≡ false) × (keeps_space top ≡ false)
@@ -106,7 +151,7 @@ passes-parts (Some context.JSXExpr) e = cc
 pub stands-plain : (mode : Mode) (old now : Cursor) (gap : BlankGap) → mode.none_given ≡ false → passes_space mode.top ≡ true → IsTold mode.first old now gap → StandsPlain mode old now gap
 stands-plain mode old now gap given passes told =
     let parts = passes-parts mode.top passes in
-    record { given = given; next = told.0; blank = told.1 (gap_mode mode) refl parts.0 parts.1 }
+    record { given = given; in_code = parts.0; next = told.0; blank = told.1 (gap_mode mode) refl parts.0 parts.1 }
 
 -- a read behind it takes no memory where its token takes none
 pub free-plain : (mode : Mode) (old now : Cursor) (gap : BlankGap) → StandsPlain mode old now gap → is_free mode old ≡ true → is_free_at mode gap.line_break (rest now) ≡ true

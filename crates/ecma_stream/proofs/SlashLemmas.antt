@@ -193,7 +193,7 @@ token-slash mode flag n text h = go (opening mode flag text) h
 
 -- Places
 
-at-index : (c : Cursor) (p : BytePos) (n : ℕ) → n ≤ length c.text → p.0 ≡ place_at c n → index_of c p.0 ≡ n
+pub at-index : (c : Cursor) (p : BytePos) (n : ℕ) → n ≤ length c.text → p.0 ≡ place_at c n → index_of c p.0 ≡ n
 at-index c p n h e =
     let off : p.0 - c.start ≡ byte_len (take n c.text) = omega (arith, e) in
     ap (λ k. count_within k c.text) off ∙ count_within-byte_len c.text n h

@@ -1,14 +1,30 @@
 -- Reads of tokens of which nothing is to be told besides.
-use Rattle.std.specs.Prelude.{◌≡◌, Bool, false, Some, [], length, slice_get, Ok}
-use Rattle.ecma_place.specs.Cursor.{Cursor, rest, place, passed}
-use Rattle.ecma_token.specs.View.{SpannedView, TokenView}
+use Rattle.std.specs.Prelude.{◌≡◌, ◌≤◌, ℕ, Bool, true, false, ◌||◌, ◌==◌, Option, Some, None, [], length, option_map, slice_get, take, Ok}
+use Rattle.std.specs.Char.{is_ascii_alphabetic}
+use Rattle.ecma_place.specs.Cursor.{Cursor, HasPlace, rest, place, passed}
+use Rattle.ecma_place.specs.Text.{Text}
+use Rattle.ecma_place.specs.declared.place.BytePos.{BytePos}
+use Rattle.ecma_token.specs.View.{SpannedView, TokenView, spanned_view}
+use Rattle.ecma_token.specs.declared.token.TokenAndSpan.{TokenAndSpan}
 use Rattle.ecma_scan.specs.Found.{FoundView}
 use Rattle.ecma_scan.specs.BlankGaps.{IsBlankGap}
+use Rattle.ecma_scan.specs.Punctuators.{punctuator_in, spells}
+use Rattle.ecma_scan.specs.PunctuatorKinds.{kind_token}
 use Rattle.ecma_scan.specs.declared.blank_gap.BlankGap.{BlankGap}
-use Rattle.ecma_state.specs.Mode.{gap_mode}
+use Rattle.ecma_scan.specs.declared.punctuator_kind.PunctuatorKind.{PunctuatorKind}
+use Rattle.ecma_scan.specs.declared.punctuator_kind.PunctuatorKind.TheVariants as kinds
+use Rattle.ecma_syntax.specs.declared.operator.AssignOp.TheVariants as assign
+use Rattle.ecma_state.specs.Mode.{gap_mode, is_template}
 use Rattle.ecma_state.specs.Reading.{Reading}
-use Rattle.ecma_state.specs.TokenAt.{token_at, token_comments, token_found}
+use Rattle.ecma_state.specs.Run.{at_place, mode_of, reading_of, state_behind}
+use Rattle.ecma_state.specs.Session.{LexerKept, kept_of, lexer_state}
+use Rattle.ecma_state.specs.TokenAt.{opening, token_at, token_comments, token_found}
 use Rattle.ecma_state.specs.declared.mode.Mode.{Mode}
+use Rattle.ecma_state.specs.declared.opening.Opening.TheVariants as opens
+use Rattle.ecma_stream.specs.View.{IsGivenAs}
+use Rattle.ecma_stream.specs.declared.plain.Plain.{Plain}
+use Rattle.ecma_stream.specs.declared.lexer.Quick.{Quick}
+use Rattle.ecma_stream.specs.declared.lexer.Quick.TheVariants.{Given, Behind, Nothing}
 
 -- a read that finds this token, and nothing besides
 abbrev pub plain_reading : SpannedView → Cursor → Reading
@@ -24,14 +40,63 @@ pub record IsPlain (mode : Mode) (t : SpannedView) (old now : Cursor) : Type 0 w
   pub comments : token_comments mode t.had_line_break (place old) (rest old) ≡ []
   pub moved : now ≡ passed (length (token_at mode t.had_line_break (rest old)).spelling) old
 
+-- what is kept of it is that of the token
+abbrev pub IsKept : Plain → Type 0
+IsKept plain = plain.kept ≡ kept_of (spanned_view plain.token)
+
+-- a word begins with the character, which is ASCII and no backslash
+abbrev pub begins_word : ℕ → Bool
+begins_word c = (c == 36 || c == 95) || is_ascii_alphabetic c
+
+-- the first character of the text is a punctuator, which is found in each mode of code, and begins nothing else
+pub record IsAlone (kind : PunctuatorKind) (text : Text) : Type 0 where
+  pub opens : (mode : Mode) (flag : Bool) → is_template mode.top ≡ false → opening mode flag text ≡ opens.Other
+  pub found : (type_mode : Bool) → punctuator_in type_mode text ≡ Some (spells (take 1 text) (kind_token kind))
+
+abbrev pub assignment : PunctuatorKind
+assignment = kinds.AssignOp assign.Assign
+
+-- some characters stand between two cursors of a text
+abbrev pub IsAhead : Cursor → Cursor → Type 0
+IsAhead old now = (n : ℕ) × (now ≡ passed n old)
+
 -- behind the first token, white space alone stands between two cursors, and this character behind it
 pub record StandsPlain (mode : Mode) (old now : Cursor) (gap : BlankGap) : Type 0 where
   pub given : mode.none_given ≡ false
+  pub in_code : is_template mode.top ≡ false
   pub next : slice_get (rest now) 0 ≡ Some gap.next
   pub blank : IsBlankGap (gap_mode mode) old now gap.line_break
 
--- nothing was found besides a token with this flag
-pub record IsBare (flag : Bool) (r : Reading) : Type 0 where
-  pub end_flag : r.end_flag ≡ flag
-  pub faults : r.faults ≡ []
-  pub comments : r.comments ≡ []
+-- a lexer whose cursor stands at this place
+abbrev pub back_at : BytePos → LexerKept → LexerKept
+back_at p l = record l { input = at_place p l.input }
+
+-- A lexer stands behind the white space with which a read from this place begins, no slash is read again, and no template
+-- was opened behind the place.
+pub record IsBehindGap (before : BytePos) (l : LexerKept) (gap : BlankGap) : Type 0 where
+  pub none : l.reread ≡ None
+  pub has_place : HasPlace l.input before.0
+  pub opened : l.state.opened.0 ≤ before.0
+  pub stands : StandsPlain (mode_of (lexer_state l)) (at_place before l.input) l.input gap
+
+-- the next token, or the end, was put into a slot, or nothing was changed
+abbrev pub Gives : LexerKept → LexerKept → Option TokenAndSpan → Option TokenAndSpan → Bool → Type 0
+Gives old now empty slot true =
+    (option_map spanned_view slot ≡ (reading_of (lexer_state old)).found) × (lexer_state now ≡ state_behind (lexer_state old) (reading_of (lexer_state old)))
+Gives old now empty slot false = (now ≡ old) × (slot ≡ empty)
+
+-- what a quick look comes to: it gives, changes nothing, or stands behind the gap
+abbrev pub Comes : LexerKept → LexerKept → Option TokenAndSpan → Option TokenAndSpan → Quick → Type 0
+Comes old now empty slot Given = Gives old now empty slot true
+Comes old now empty slot (Behind before gap) = (old ≡ back_at before now) × IsBehindGap before now gap × (slot ≡ empty)
+Comes old now empty slot Nothing = Gives old now empty slot false
+
+abbrev pub quick_of : Bool → Quick
+quick_of true = Given
+quick_of false = Nothing
+
+-- nothing is put into a slot, and neither errors nor what the caller set are changed
+pub record IsRefused (old now : LexerKept) (empty left : Option TokenAndSpan) : Type 0 where
+  pub slot : left ≡ empty
+  pub kept : now.errors ≡ old.errors
+  pub given : IsGivenAs old now

@@ -17,8 +17,8 @@ ghost use Rattle.ecma_state.specs.Errors.{errors_view};
 
 use crate::commented::Commented;
 use crate::plain::{
-    Plain, begins_word, is_lone_dot, is_lone_equals, plain, plain_alone, plain_gap, plain_number, plain_punctuator, plain_string,
-    plain_word,
+    Plain, begins_word, is_lone_dot, is_lone_equals, plain_alone, plain_gap, plain_number, plain_punctuator, plain_string,
+    plain_word, with_kept,
 };
 use crate::tokens::Tokens;
 use ecma_dispatch::read::{Besides, Reading, read_again, read_from};
@@ -343,8 +343,8 @@ impl<'a> Lexer<'a> {
         requires none { self.old.reread ≡ None }
         requires place { HasPlace self.old.input before.0 }
         requires opened { self.old.state.opened.0 ≤ before.0 }
-        requires found { reading (mode_of (lexer_state self.old)) (at_place before self.old.input) ≡ plain_reading (spanned_view plain.entry.token) self.old.input }
-        requires kept { IsKept plain.entry }
+        requires found { reading (mode_of (lexer_state self.old)) (at_place before self.old.input) ≡ plain_reading (spanned_view plain.token) self.old.input }
+        requires kept { IsKept plain }
         ensures done { OnOk result (Gives (back_at before self.old) self.new slot.old slot.new true) }
         ensures refused { OnErr result (IsRefused self.old self.new slot.old slot.new) }
         ensures free { length self.old.state.contexts < 128 → IsOk result }
@@ -519,7 +519,7 @@ impl<'a> Lexer<'a> {
     {
         match plain_string(self.alloc, &mut self.input, gap.line_break)? {
             Some(token) => {
-                self.give(slot, before, plain(token))?;
+                self.give(slot, before, with_kept(token))?;
                 Ok(true)
             }
             None => {
@@ -546,7 +546,7 @@ impl<'a> Lexer<'a> {
         let mode = self.mode();
         match plain_number(self.alloc, &mut self.input, &mode, gap.line_break)? {
             Some(token) => {
-                self.give(slot, before, plain(token))?;
+                self.give(slot, before, with_kept(token))?;
                 Ok(true)
             }
             None => {

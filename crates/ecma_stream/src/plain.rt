@@ -5,9 +5,8 @@ ghost use Rattle.ecma_token.specs.View.{spanned_view, token_view};
 ghost use Rattle.ecma_scan.specs.Found.{found_at, found_view, token_behind};
 ghost use Rattle.ecma_scan.specs.Numbers.{number, opens_number};
 ghost use Rattle.ecma_scan.specs.Strings.{opens_string, string_literal};
-ghost use Rattle.ecma_stream.specs.Plain.{IsAlone, IsFurther, IsKept, IsPlain, StandsPlain, begins_word, plain_view};
-ghost use Rattle.ecma_scan.specs.declared.punctuator_kind.PunctuatorKind.TheVariants as kinds;
-ghost use Rattle.ecma_syntax.specs.declared.operator.AssignOp.TheVariants as assign;
+ghost use Rattle.ecma_stream.specs.Plain.{IsAhead, IsAlone, IsKept, IsPlain, StandsPlain, assignment, begins_word, plain_view};
+ghost use Rattle.ecma_scan.specs.declared.punctuator_kind.PunctuatorKind.{PunctuatorKind};
 ghost use Rattle.ecma_state.specs.Mode.{is_template};
 ghost use Rattle.ecma_state.specs.TokenAt.{is_free_token, opening, ts1085};
 ghost use Rattle.ecma_state.specs.declared.opening.Opening.TheVariants as opens;
@@ -59,7 +58,7 @@ pub struct Plain<'a> {
 
 /// A token with what is kept of it.
 #[inline(always)]
-pub fn plain<'a>(token: TokenAndSpan<'a>) -> Plain<'a>
+pub fn with_kept<'a>(token: TokenAndSpan<'a>) -> Plain<'a>
     ensures token { result.token ≡ token.entry }
     ensures kept { IsKept result }
 {
@@ -72,18 +71,18 @@ pub fn plain<'a>(token: TokenAndSpan<'a>) -> Plain<'a>
 pub fn begins_word(c: u8) -> bool
     ensures { result ≡ begins_word c }
 {
-    c.is_ascii_alphabetic() || c == b'$' || c == b'_'
+    c == b'$' || c == b'_' || c.is_ascii_alphabetic()
 }
 
 /// Whether the point at the cursor is a punctuator of its own.
 #[inline(always)]
 pub fn is_lone_dot(input: &StringInput) -> bool
     requires { slice_get (rest input.now) 0 ≡ Some 46 }
-    ensures { result ≡ true → IsAlone kinds.Dot (rest input.now) }
+    ensures { result ≡ true → IsAlone PunctuatorKind.Dot (rest input.now) }
 {
     match input.byte_ahead(1) {
-        Some(b'.' | b'0'..=b'9') | None => false,
-        Some(_) => true,
+        Some(b) => b != b'.' && !b.is_ascii_digit(),
+        None => false,
     }
 }
 
@@ -91,11 +90,11 @@ pub fn is_lone_dot(input: &StringInput) -> bool
 #[inline(always)]
 pub fn is_lone_equals(input: &StringInput) -> bool
     requires { slice_get (rest input.now) 0 ≡ Some 61 }
-    ensures { result ≡ true → IsAlone (kinds.AssignOp assign.Assign) (rest input.now) }
+    ensures { result ≡ true → IsAlone assignment (rest input.now) }
 {
     match input.byte_ahead(1) {
-        Some(b'=' | b'>') | None => false,
-        Some(_) => true,
+        Some(b) => b != b'=' && b != b'>',
+        None => false,
     }
 }
 
@@ -107,12 +106,13 @@ pub fn plain_word<'a>(input: &mut StringInput<'a>, gap: BlankGap) -> Option<Plai
     ensures token { IfSome result (λ plain. (mode : Mode) → is_template mode.top ≡ false → IsPlain mode (spanned_view plain.token) input.old input.new) }
     ensures flag { IfSome result (λ plain. plain.token.had_line_break ≡ gap.line_break) }
     ensures kept { IfSome result IsKept }
-    ensures moved { IsFurther input.old input.new }
+    ensures moved { IsAhead input.old input.new }
 {
     let start = input.cur_pos();
     let kind = eat_plain_kind(input)?;
-    let span = Span::new(start, input.cur_pos());
-    let word = Word::of_kind(kind, input.slice(span.lo, span.hi));
+    let end = input.cur_pos();
+    let span = Span::new(start, end);
+    let word = Word::of_kind(kind, input.slice(start, end));
     Some(Plain {
         token: TokenAndSpan {
             token: Token::Word(word),
@@ -165,11 +165,11 @@ pub fn plain_punctuator<'a>(
     ensures token { IfSome result (λ plain. IsPlain mode.now (spanned_view plain.token) input.old input.new) }
     ensures flag { IfSome result (λ plain. plain.token.had_line_break ≡ flag) }
     ensures kept { IfSome result IsKept }
-    ensures moved { IsFurther input.old input.new }
+    ensures moved { IsAhead input.old input.new }
 {
     let start = input.cur_pos();
     let kind = eat_punctuator(input, mode.type_mode())?;
-    Some(plain(TokenAndSpan {
+    Some(with_kept(TokenAndSpan {
         token: kind.token(),
         had_line_break: flag,
         span: Span::new(start, input.cur_pos()),

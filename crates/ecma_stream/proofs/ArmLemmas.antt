@@ -1,0 +1,121 @@
+-- Reads that look at what stands behind white space: the cursor before it, and what an arm gives.
+use Rattle.std.proofs.Common.{◌≡◌, ◌∙◌, ℕ, ◌+◌, ◌-◌, ◌<◌, ◌≤◌, Bool, true, false, List, [], ◌∷◌, Option, Some, None, length, length-drop, drop, slice_get, refl, sym, subst, ap, arith}
+use Rattle.std.proofs.lemmas.Option.{none-some}
+use Rattle.ecma_place.specs.Cursor.{Cursor, HasPlace, index_of, passed, place, place_at, rest}
+use Rattle.ecma_place.specs.declared.place.BytePos.{BytePos}
+use Rattle.ecma_place.proofs.MoveLemmas.{place-passed-le}
+use Rattle.ecma_place.proofs.RunLemmas.{first-cons}
+use Rattle.ecma_token.specs.View.{SpannedView}
+use Rattle.ecma_scan.specs.BlankGaps.{IsBlankGap}
+use Rattle.ecma_scan.specs.declared.blank_gap.BlankGap.{BlankGap}
+use Rattle.ecma_dispatch.specs.Besides.{bare, state_taking}
+use Rattle.ecma_state.specs.Mode.{gap_mode, is_template}
+use Rattle.ecma_state.specs.Reading.{reading}
+use Rattle.ecma_state.specs.Run.{at_place, mode_of, reading_from, reading_of, state_behind}
+use Rattle.ecma_state.specs.Session.{LexerKept, LexerState, kept_of, lexer_state}
+use Rattle.ecma_stream.specs.Plain.{IsBehindGap, IsPlain, back_at, plain_reading}
+use Rattle.ecma_stream.specs.Slashes.{IsAnswer}
+use Rattle.ecma_stream.specs.View.{IsLexer, lexer_view}
+use Rattle.ecma_stream.specs.declared.lexer.Lexer.TheInside.{Inside}
+use Rattle.ecma_stream.proofs.PlainLemmas.{plain-read}
+use Rattle.ecma_stream.proofs.SlashLemmas.{at-index, is-answer, place-there, stands-moved}
+
+-- Places
+
+-- the cursor that stood there, where something stands behind what was passed
+pub at-back : (old now : Cursor) (p : BytePos) (n c : ℕ) → now ≡ passed n old → p.0 ≡ place old → slice_get (rest now) 0 ≡ Some c → at_place p now ≡ old
+at-back old now p n c moved e first =
+    ap (at_place p) moved ∙ ap (λ (i : ℕ). let at : Cursor = record { start = old.start; text = old.text; at = i } in at) (at-index old p old.at within e)
+  where
+    some : length (rest now) ≡ 1 + length (drop 1 (rest now))
+    some = ap length (first-cons (rest now) c first) ∙ (let one : length (c ∷ drop 1 (rest now)) ≡ 1 + length (drop 1 (rest now)) = omega arith in one)
+
+    within : old.at ≤ length old.text
+    within =
+        let there : length (rest (passed n old)) ≡ length old.text - (old.at + n) = length-drop (old.at + n) old.text in
+        let same : length (rest now) ≡ length (rest (passed n old)) = ap (λ c. length (rest c)) moved in
+        omega (arith, some, there, same)
+
+-- it is the same from further on
+pub at-moved : (here now : Cursor) (p : BytePos) (n : ℕ) → now ≡ passed n here → at_place p now ≡ at_place p here
+at-moved here now p n moved = ap (at_place p) moved
+
+pub has-moved : (here now : Cursor) (p n : ℕ) → now ≡ passed n here → HasPlace here p → HasPlace now p
+has-moved here now p n moved has = subst (λ (c : Cursor). HasPlace c p) (sym moved) has
+
+pub has-before : (old now : Cursor) (p n : ℕ) → now ≡ passed n old → p ≡ place old → HasPlace now p
+has-before old now p n moved e = has-moved old now p n moved (old.at, e)
+
+-- A lexer whose cursor moves
+
+pub moved-lexer : (a : Inside) (now : Cursor) (n : ℕ) → IsLexer a → now ≡ passed n a.input → IsLexer (record a { input = now })
+moved-lexer a now n is moved =
+    let opened = is.opened in
+    let further = place-passed-le a.input now n moved in
+    record {
+      opened = omega (arith, opened, further);
+      none_pending = is.none_pending;
+      answered = λ p h. stands-moved a.input now a.state.opened p (ap (λ c. c.start) moved) (ap (λ c. c.text) moved) (is.answered p h);
+      reread = λ p h. stands-moved a.input now a.state.opened p (ap (λ c. c.start) moved) (ap (λ c. c.text) moved) (is.reread p h);
+    }
+
+pub back-lexer : (a : Inside) (now : Cursor) (p : BytePos) → IsLexer a → HasPlace a.input p.0 → a.state.opened.0 ≤ p.0 → now ≡ at_place p a.input → IsLexer (record a { input = now })
+back-lexer a now p is has opened moved =
+    let there : place now ≡ p.0 = ap place moved ∙ place-there a.input p has in
+    record {
+      opened = omega (arith, opened, there);
+      none_pending = is.none_pending;
+      answered = λ q h. stands-moved a.input now a.state.opened q (ap (λ c. c.start) moved) (ap (λ c. c.text) moved) (is.answered q h);
+      reread = λ q h. stands-moved a.input now a.state.opened q (ap (λ c. c.start) moved) (ap (λ c. c.text) moved) (is.reread q h);
+    }
+
+-- the same where the lexer is seen from outside
+pub shown-back : (a : Inside) (l : LexerKept) (now : Cursor) (p : BytePos) → lexer_view a ≡ l → IsLexer a → HasPlace l.input p.0 → l.state.opened.0 ≤ p.0 → now ≡ at_place p a.input
+    → IsLexer (record a { input = now })
+shown-back a l now p shows is has opened moved =
+    back-lexer a now p is (subst (λ (k : LexerKept). HasPlace k.input p.0) (sym shows) has) (subst (λ (k : LexerKept). k.state.opened.0 ≤ p.0) (sym shows) opened) moved
+
+-- What is found
+
+-- a read from before the white space finds the token that stands behind it
+pub behind-read : (before : BytePos) (l : LexerKept) (gap : BlankGap) (t : SpannedView) (now : Cursor) → IsBehindGap before l gap → t.had_line_break ≡ gap.line_break
+    → IsPlain (mode_of (lexer_state l)) t l.input now → reading (mode_of (lexer_state l)) (at_place before l.input) ≡ plain_reading t now
+behind-read before l gap t now behind flag is =
+    let stands = behind.stands in
+    plain-read (mode_of (lexer_state l)) (at_place before l.input) l.input now gap.next t stands.given stands.next
+    (subst (λ (b : Bool). IsBlankGap (gap_mode (mode_of (lexer_state l))) (at_place before l.input) l.input b) (sym flag) stands.blank) is
+
+from-plain : (before : BytePos) (l : LexerKept) (t : SpannedView) → l.reread ≡ None → reading (mode_of (lexer_state l)) (at_place before l.input) ≡ plain_reading t l.input
+    → reading_of (lexer_state (back_at before l)) ≡ plain_reading t l.input
+from-plain before l t none found = ap (λ o. reading_from o (lexer_state (back_at before l))) none ∙ found
+
+-- it is an answer
+pub given-answer : (before : BytePos) (l : LexerKept) (t : SpannedView) → l.reread ≡ None → HasPlace l.input before.0 → l.state.opened.0 ≤ before.0
+    → reading (mode_of (lexer_state l)) (at_place before l.input) ≡ plain_reading t l.input → IsAnswer l (Some (kept_of t))
+given-answer before l t none has opened found =
+    let reads = from-plain before l t none found in
+    let there = place-there l.input before has in
+    is-answer (back_at before l) l.input (Some t) (omega (arith, there, opened)) (λ p e. absurd (none-some p (sym none ∙ e))) (ap (λ r. r.found) (sym reads)) (ap (λ r. r.input) (sym reads))
+
+-- what was given is what that read finds
+pub given-found : (before : BytePos) (l : LexerKept) (t : SpannedView) → l.reread ≡ None → reading (mode_of (lexer_state l)) (at_place before l.input) ≡ plain_reading t l.input
+    → Some t ≡ (reading_of (lexer_state (back_at before l))).found
+given-found before l t none found = ap (λ r. r.found) (sym (from-plain before l t none found))
+
+pub given-state : (before : BytePos) (l : LexerKept) (t : SpannedView) (now : LexerState) → l.reread ≡ None
+    → reading (mode_of (lexer_state l)) (at_place before l.input) ≡ plain_reading t l.input → now ≡ state_taking (lexer_state l) (Some (kept_of t)) (bare t.had_line_break)
+    → now ≡ state_behind (lexer_state (back_at before l)) (reading_of (lexer_state (back_at before l)))
+given-state before l t now none found taken =
+    taken ∙ ap (state_behind (lexer_state (back_at before l))) (sym (from-plain before l t none found))
+
+-- An arm, by what the lexer holds
+
+pub arm-code : (before : BytePos) (a : Inside) (l : LexerKept) (gap : BlankGap) → lexer_view a ≡ l → IsBehindGap before l gap → is_template (mode_of (lexer_state (lexer_view a))).top ≡ false
+arm-code before a l gap shows behind = ap (λ k. is_template (mode_of (lexer_state k)).top) shows ∙ behind.stands.in_code
+
+pub arm-read : (before : BytePos) (a : Inside) (l : LexerKept) (gap : BlankGap) (t : SpannedView) (now : Cursor) (n : ℕ) → lexer_view a ≡ l → IsBehindGap before l gap
+    → t.had_line_break ≡ gap.line_break → IsPlain (mode_of (lexer_state (lexer_view a))) t a.input now → now ≡ passed n a.input
+    → reading (mode_of (lexer_state (lexer_view a))) (at_place before now) ≡ plain_reading t now
+arm-read before a l gap t now n shows behind flag is moved =
+    ap (reading (mode_of (lexer_state (lexer_view a)))) (at-moved a.input now before n moved)
+    ∙ behind-read before (lexer_view a) gap t now (subst (λ (k : LexerKept). IsBehindGap before k gap) (sym shows) behind) flag is

@@ -1,0 +1,35 @@
+use Rattle.std.proofs.Common.{ap, refl, subst, sym, ◌∙◌}
+use Rattle.ecma_place.specs.Cursor.{rest}
+use Rattle.ecma_token.specs.View.{spanned_view}
+use Rattle.ecma_token.specs.declared.token.TokenAndSpan.{TokenAndSpan}
+use Rattle.ecma_state.specs.Reading.{reading}
+use Rattle.ecma_state.specs.Run.{at_place, mode_of}
+use Rattle.ecma_state.specs.Session.{lexer_state}
+use Rattle.ecma_state.specs.TokenAt.{opening}
+use Rattle.ecma_stream.specs.Plain.{plain_reading}
+use Rattle.ecma_stream.specs.View.{lexer_view}
+use Rattle.ecma_stream.proofs.ArmLemmas.{arm-read, moved-lexer}
+use Rattle.ecma_stream.proofs.PlainLemmas.{plain-of-string}
+use Rattle.ecma_stream.proofs.SlashLemmas.{same-lexer}
+use Rattle.ecma_stream.proofs.lexer.Lexer.give_string.Goals as goal
+
+pub give-requires-clause-found : goal.give-requires-clause-found
+give-requires-clause-found c =
+    let a = c.self.inside in
+    let gap = c.args.gap in
+    let now = c.plain_string.new.input in
+    let token = rw c.in-Some.is at c.in_ok-token.ensures.token in
+    let flag = rw c.in-Some.is at c.in_ok-token.ensures.flag in
+    let opens = ap (λ k. opening (mode_of (lexer_state k)) gap.line_break (rest k.input)) c.self.view_is ∙ c.requires.opens in
+    let is = plain-of-string (mode_of (lexer_state (lexer_view a))) gap.line_break a.input now (spanned_view c.in-Some.token) opens token flag c.in_ok-token.ensures.moved in
+    let read = arm-read c.args.before a c.args.self.now gap (spanned_view c.in-Some.token) now _ c.self.view_is c.requires.behind flag is c.in_ok-token.ensures.moved in
+    read ∙ ap (λ (t : TokenAndSpan). plain_reading (spanned_view t) now) (sym c.with_kept.ensures.token)
+
+pub invariant_of-self-in-Some : goal.invariant_of-self-in-Some
+invariant_of-self-in-Some c = moved-lexer c.self.inside c.plain_string.new.input _ c.self.invariant c.in_ok-token.ensures.moved
+
+pub invariant_of-self-in-None : goal.invariant_of-self-in-None
+invariant_of-self-in-None c = moved-lexer c.self.inside c.plain_string.new.input _ c.self.invariant c.in_ok-token.ensures.moved
+
+pub invariant_of-self : goal.invariant_of-self
+invariant_of-self c = same-lexer c.self.inside _ c.self.invariant c.in_err-token.ensures.same refl refl c.self.invariant.none_pending
