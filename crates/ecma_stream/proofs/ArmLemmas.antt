@@ -13,7 +13,8 @@ use Rattle.ecma_state.specs.Mode.{gap_mode, is_template}
 use Rattle.ecma_state.specs.Reading.{reading}
 use Rattle.ecma_state.specs.Run.{at_place, mode_of, reading_from, reading_of, state_behind}
 use Rattle.ecma_state.specs.Session.{LexerKept, LexerState, kept_of, lexer_state}
-use Rattle.ecma_stream.specs.Plain.{IsBehindGap, IsPlain, back_at, plain_reading}
+use Rattle.ecma_stream.specs.Plain.{IsBehindGap, IsPlain, StandsPlain, back_at, plain_reading}
+use Rattle.ecma_state.specs.declared.mode.Mode.{Mode}
 use Rattle.ecma_stream.specs.Slashes.{IsAnswer}
 use Rattle.ecma_stream.specs.View.{IsLexer, lexer_view}
 use Rattle.ecma_stream.specs.declared.lexer.Lexer.TheInside.{Inside}
@@ -119,3 +120,26 @@ pub arm-read : (before : BytePos) (a : Inside) (l : LexerKept) (gap : BlankGap) 
 arm-read before a l gap t now n shows behind flag is moved =
     ap (reading (mode_of (lexer_state (lexer_view a)))) (at-moved a.input now before n moved)
     ∙ behind-read before (lexer_view a) gap t now (subst (λ (k : LexerKept). IsBehindGap before k gap) (sym shows) behind) flag is
+
+-- behind the white space
+
+pub arm-back : (a : Inside) (l : LexerKept) (before : BytePos) (now : Cursor) (n c : ℕ) → lexer_view a ≡ l → before.0 ≡ place a.input → now ≡ passed n a.input → slice_get (rest now) 0 ≡ Some c
+    → back_at before (lexer_view (record a { input = now })) ≡ l
+arm-back a l before now n c shows e moved first =
+    ap (λ (i : Cursor). let k : LexerKept = record (lexer_view a) { input = i } in k) (at-back a.input now before n c moved e first) ∙ shows
+
+pub arm-behind : (a : Inside) (l : LexerKept) (mode : Mode) (before : BytePos) (now : Cursor) (gap : BlankGap) → lexer_view a ≡ l → IsLexer a → l.reread ≡ None
+    → mode ≡ mode_of (lexer_state l) → before.0 ≡ place a.input → StandsPlain mode a.input now gap → IsBehindGap before (lexer_view (record a { input = now })) gap
+arm-behind a l mode before now gap shows is none by e stands =
+    let moved = stands.blank.moved in
+    let own : mode ≡ mode_of (lexer_state (lexer_view a)) = by ∙ ap (λ k. mode_of (lexer_state k)) (sym shows) in
+    let back = at-back a.input now before _ gap.next moved e stands.next in
+    let opened = is.opened in
+    record {
+      none = ap (λ k. k.reread) shows ∙ none;
+      has_place = has-before a.input now before.0 _ moved e;
+      opened = omega (arith, opened, e);
+      stands =
+          subst (λ (i : Cursor). StandsPlain (mode_of (lexer_state (lexer_view a))) i now gap) (sym back)
+          (subst (λ (m : Mode). StandsPlain m a.input now gap) own stands);
+    }

@@ -192,7 +192,7 @@ plain-read mode input here now c t none first gap is =
         ∙ ap (λ cs. let g : GapView = record { line_break = flag; comments = cs; faults = gap_faults_at (place input) (gap_mode mode) (rest input) } in g) gap.comments
         ∙ ap (λ fs. let g : GapView = record { line_break = flag; comments = []; faults = fs } in g) gap.faults
 
-none-is : {A : Type 0} (o : Option A) → is_some o ≡ false → o ≡ None
+pub none-is : {A : Type 0} (o : Option A) → is_some o ≡ false → o ≡ None
 none-is None e = refl
 none-is (Some x) e = cc
 
