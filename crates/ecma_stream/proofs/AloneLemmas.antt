@@ -1,5 +1,5 @@
 -- Punctuators of one character, and the first character of a word: what they open.
-use Rattle.std.proofs.Common.{◌≡◌, ℕ, ◌<◌, Bool, true, false, not, cond, ◌||◌, ◌&&◌, ◌==◌, List, [], ◌∷◌, length, take, drop, Option, Some, None, slice_get, refl, sym, ap, subst, ◌∙◌, eqb-true, eq-eqb, true≢false, arith, nat_lt}
+use Rattle.std.proofs.Common.{◌≡◌, ℕ, ◌<◌, Bool, true, false, not, ◌&&◌, ◌==◌, [], ◌∷◌, length, take, drop, Some, slice_get, refl, sym, ap, subst, ◌∙◌, eqb-true, eq-eqb, true≢false, arith, nat_lt}
 use Rattle.std.proofs.lemmas.Bool.Decides.{nat_tests}
 use Rattle.std.specs.Prelude.{encode_utf8_all}
 use Rattle.std.specs.Char.{is_ascii_digit}
@@ -14,7 +14,7 @@ use Rattle.ecma_scan.specs.Fronts.{next_is, next_passes}
 use Rattle.ecma_scan.specs.Numbers.{digit, opens_number}
 use Rattle.ecma_scan.specs.Strings.{opens_string}
 use Rattle.ecma_scan.specs.Words.{opens_word}
-use Rattle.ecma_scan.specs.Punctuators.{first_of, punctuator_in, punctuators, spells}
+use Rattle.ecma_scan.specs.Punctuators.{first_of, punctuators, spells}
 use Rattle.ecma_scan.specs.PunctuatorKinds.{kind_token}
 use Rattle.ecma_scan.specs.declared.punctuator_kind.PunctuatorKind.{PunctuatorKind}
 use Rattle.ecma_scan.specs.declared.punctuator_kind.PunctuatorKind.TheVariants as kinds

@@ -1,7 +1,7 @@
 -- Reads that look at what stands behind white space: the cursor before it, and what an arm gives.
-use Rattle.std.proofs.Common.{◌≡◌, ◌∙◌, ℕ, ◌+◌, ◌-◌, ◌<◌, ◌≤◌, Bool, true, false, List, [], ◌∷◌, Option, Some, None, length, length-drop, drop, slice_get, refl, sym, subst, ap, arith}
+use Rattle.std.proofs.Common.{◌≡◌, ◌∙◌, ℕ, ◌+◌, ◌-◌, ◌≤◌, Bool, false, ◌∷◌, Some, None, length, length-drop, drop, slice_get, sym, subst, ap, arith}
 use Rattle.std.proofs.lemmas.Option.{none-some}
-use Rattle.ecma_place.specs.Cursor.{Cursor, HasPlace, index_of, passed, place, place_at, rest}
+use Rattle.ecma_place.specs.Cursor.{Cursor, HasPlace, passed, place, rest}
 use Rattle.ecma_place.specs.declared.place.BytePos.{BytePos}
 use Rattle.ecma_place.proofs.MoveLemmas.{place-passed-le}
 use Rattle.ecma_place.proofs.RunLemmas.{first-cons}

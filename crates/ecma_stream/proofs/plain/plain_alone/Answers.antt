@@ -1,4 +1,4 @@
-use Rattle.std.proofs.Common.{Some, ap, sym, ◌∙◌, length}
+use Rattle.std.proofs.Common.{Some, ap, sym, ◌∙◌}
 use Rattle.ecma_place.specs.Cursor.{passed, rest}
 use Rattle.ecma_place.proofs.MoveLemmas.{place-passed-le}
 use Rattle.ecma_state.specs.Mode.{type_mode}

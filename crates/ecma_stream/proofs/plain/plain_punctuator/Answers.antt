@@ -1,4 +1,4 @@
-use Rattle.std.proofs.Common.{Some, ap, refl, subst, sym, ◌∙◌}
+use Rattle.std.proofs.Common.{Some, ap, subst, sym, ◌∙◌}
 use Rattle.ecma_place.specs.Cursor.{rest}
 use Rattle.ecma_place.proofs.MoveLemmas.{place-passed-le}
 use Rattle.ecma_scan.specs.Punctuators.{punctuator_in}

@@ -2,13 +2,11 @@ use Rattle.std.proofs.Common.{ap, refl, subst, sym, ◌∙◌}
 use Rattle.ecma_place.specs.Cursor.{rest}
 use Rattle.ecma_token.specs.View.{spanned_view}
 use Rattle.ecma_token.specs.declared.token.TokenAndSpan.{TokenAndSpan}
-use Rattle.ecma_state.specs.Reading.{reading}
-use Rattle.ecma_state.specs.Run.{at_place, mode_of}
+use Rattle.ecma_state.specs.Run.{mode_of}
 use Rattle.ecma_state.specs.Session.{lexer_state}
 use Rattle.ecma_state.specs.TokenAt.{opening}
 use Rattle.ecma_state.specs.declared.mode.Mode.{Mode}
 use Rattle.ecma_stream.specs.Plain.{IsPlain, plain_reading}
-use Rattle.ecma_stream.specs.View.{lexer_view}
 use Rattle.ecma_stream.proofs.ArmLemmas.{arm-read, moved-lexer}
 use Rattle.ecma_stream.proofs.PlainLemmas.{plain-of-number}
 use Rattle.ecma_stream.proofs.SlashLemmas.{same-lexer}

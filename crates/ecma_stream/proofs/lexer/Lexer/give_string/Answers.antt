@@ -1,9 +1,8 @@
-use Rattle.std.proofs.Common.{ap, refl, subst, sym, ◌∙◌}
+use Rattle.std.proofs.Common.{ap, refl, sym, ◌∙◌}
 use Rattle.ecma_place.specs.Cursor.{rest}
 use Rattle.ecma_token.specs.View.{spanned_view}
 use Rattle.ecma_token.specs.declared.token.TokenAndSpan.{TokenAndSpan}
-use Rattle.ecma_state.specs.Reading.{reading}
-use Rattle.ecma_state.specs.Run.{at_place, mode_of}
+use Rattle.ecma_state.specs.Run.{mode_of}
 use Rattle.ecma_state.specs.Session.{lexer_state}
 use Rattle.ecma_state.specs.TokenAt.{opening}
 use Rattle.ecma_stream.specs.Plain.{plain_reading}
