@@ -23,8 +23,8 @@ use Rattle.ecma_state.specs.declared.mode.Mode.{Mode}
 use Rattle.ecma_state.specs.declared.opening.Opening.TheVariants as opens
 use Rattle.ecma_stream.specs.View.{IsGivenAs}
 use Rattle.ecma_stream.specs.declared.plain.Plain.{Plain}
-use Rattle.ecma_stream.specs.declared.lexer.Quick.{Quick}
-use Rattle.ecma_stream.specs.declared.lexer.Quick.TheVariants.{Given, Behind, Nothing}
+use Rattle.ecma_stream.specs.declared.lexer.arms.Quick.{Quick}
+use Rattle.ecma_stream.specs.declared.lexer.arms.Quick.TheVariants.{Given, Behind, Nothing}
 
 -- a read that finds this token, and nothing besides
 abbrev pub plain_reading : SpannedView → Cursor → Reading

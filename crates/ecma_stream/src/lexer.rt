@@ -1,63 +1,38 @@
 //! The lexer.
-ghost use Rattle.std.specs.Prelude.{◌≡◌, ◌<◌, ◌≤◌, true, false, None, Err, alloc_error, Some, drop, is_some, length, map, option_map, IfNone, IfOk, IfSome, IsOk, OnOk, OnErr, []};
+ghost use Rattle.std.specs.Prelude.{◌≡◌, ◌<◌, true, false, None, Err, alloc_error, Some, drop, is_some, length, map, option_map, IfOk, IsOk, OnOk, OnErr, []};
 ghost use Rattle.ecma_token.specs.View.{error_view, spanned_view};
 ghost use Rattle.ecma_dispatch.specs.Besides.{IsBeside, TakesNone, bare, seen_beside, state_taking};
-ghost use Rattle.ecma_place.specs.Cursor.{HasPlace, rest};
-ghost use Rattle.ecma_stream.specs.Plain.{Comes, back_at, Gives, IsAlone, IsBehindGap, IsKept, IsRefused, begins_word, plain_reading, quick_of};
-ghost use Rattle.ecma_state.specs.Reading.{reading};
-ghost use Rattle.ecma_state.specs.TokenAt.{opening};
-ghost use Rattle.ecma_state.specs.declared.opening.Opening.TheVariants as opens;
+ghost use Rattle.ecma_place.specs.Cursor.{rest};
+ghost use Rattle.ecma_stream.specs.Plain.{back_at, Gives, IsBehindGap, IsRefused};
 ghost use Rattle.ecma_stream.specs.View.{IsGivenAs};
 ghost use Rattle.ecma_stream.specs.Slashes.{IsAnswer, MayReread, slash_answered};
 ghost use Rattle.ecma_state.specs.Session.{Session, kept_in, lexer_state, state_of};
 ghost use Rattle.ecma_state.specs.declared.step.Step.{Step};
-ghost use Rattle.ecma_state.specs.Run.{act, answer_in, at_place, is_free_read, mode_of, reading_of, start_of, state_allowing, state_behind, state_rereading, state_with_contexts};
+ghost use Rattle.ecma_state.specs.Run.{act, answer_in, is_free_read, mode_of, reading_of, start_of, state_allowing, state_behind, state_rereading, state_with_contexts};
 ghost use Rattle.ecma_state.specs.Contexts.{innermost};
 ghost use Rattle.ecma_state.specs.Errors.{errors_view};
 
+mod arms;
+
+use self::arms::Quick;
 use crate::commented::Commented;
-use crate::plain::{
-    Plain, begins_word, is_lone_dot, is_lone_equals, plain_alone, plain_gap, plain_number, plain_punctuator, plain_string,
-    plain_word, with_kept,
-};
 use crate::tokens::Tokens;
 use ecma_dispatch::read::{Besides, Reading, read_again, read_from};
 use ecma_place::{BytePos, StringInput};
-use ecma_scan::{BlankGap, PunctuatorKind};
+use ecma_scan::BlankGap;
 use ecma_state::comments_buffer::{BufferedComment, CommentsBuffer};
 use ecma_state::error_list::ErrorList;
 use ecma_state::errors::ErrorLists;
 use ecma_state::kept::Kept;
 use ecma_state::mode::Mode;
-use ecma_state::opening::Opening;
 use ecma_state::settings::Settings;
 use ecma_state::state::State;
 use ecma_state::token_contexts::TokenContexts;
-use ecma_syntax::{AssignOp, Context, EsVersion, Syntax};
+use ecma_syntax::{Context, EsVersion, Syntax};
 use ecma_token::{Error, TokenAndSpan};
 use std::alloc::{AllocError, Global};
 use std::marker::Model;
 use std::mem;
-
-/// What a quick look at the next token came to.
-#[derive(Clone, Copy)]
-enum Quick {
-    /// The token was given.
-    Given,
-    /// Nothing was given, and the lexer stands behind white space alone, which began at this place.
-    Behind(BytePos, BlankGap),
-    /// Nothing is changed.
-    Nothing,
-}
-
-impl Quick {
-    #[inline(always)]
-    fn of(given: bool) -> Quick
-        ensures { result ≡ quick_of given }
-    {
-        if given { Quick::Given } else { Quick::Nothing }
-    }
-}
 
 /// Reads tokens from a text, one after another.
 #[derive(Drop)]
@@ -329,257 +304,6 @@ impl<'a> Lexer<'a> {
         let Reading { found, besides } = self.find()?;
         self.take_in(Kept::of_answer(&found), besides)?;
         Ok(found)
-    }
-
-    /// Takes in and puts into the slot a token that stands in front of the cursor, and that a read from `before` finds with
-    /// nothing besides.
-    #[inline(always)]
-    fn give(
-        &mut self,
-        slot: &mut Option<TokenAndSpan<'a>>,
-        before: BytePos,
-        plain: Plain<'a>,
-    ) -> Result<(), AllocError>
-        requires none { self.old.reread ≡ None }
-        requires place { HasPlace self.old.input before.0 }
-        requires opened { self.old.state.opened.0 ≤ before.0 }
-        requires found { reading (mode_of (lexer_state self.old)) (at_place before self.old.input) ≡ plain_reading (spanned_view plain.token) self.old.input }
-        requires kept { IsKept plain }
-        ensures done { OnOk result (Gives (back_at before self.old) self.new slot.old slot.new true) }
-        ensures refused { OnErr result (IsRefused self.old self.new slot.old slot.new) }
-        ensures free { length self.old.state.contexts < 128 → IsOk result }
-    {
-        self.take_plain(plain.kept)?;
-        *slot = Some(plain.token);
-        Ok(())
-    }
-
-    /// Puts the cursor back, since nothing was given.
-    #[inline(always)]
-    fn go_before(&mut self, before: BytePos)
-        requires place { HasPlace self.old.input before.0 }
-        requires opened { self.old.state.opened.0 ≤ before.0 }
-        ensures { self.new ≡ back_at before self.old }
-    {
-        self.input.reset_to(before);
-    }
-
-    /// Gives the word at the cursor, where it is written with no escape, and says whether it did.
-    #[inline(always)]
-    fn give_word(
-        &mut self,
-        slot: &mut Option<TokenAndSpan<'a>>,
-        before: BytePos,
-        gap: BlankGap,
-    ) -> Result<bool, AllocError>
-        requires behind { IsBehindGap before self.old gap }
-        requires begins { begins_word gap.next ≡ true }
-        ensures done { IfOk result (λ done. Gives (back_at before self.old) self.new slot.old slot.new done) }
-        ensures refused { OnErr result (IsRefused self.old self.new slot.old slot.new) }
-        ensures free { length self.old.state.contexts < 128 → IsOk result }
-    {
-        match plain_word(&mut self.input, gap) {
-            Some(plain) => {
-                self.give(slot, before, plain)?;
-                Ok(true)
-            }
-            None => {
-                self.go_before(before);
-                Ok(false)
-            }
-        }
-    }
-
-    /// Gives the punctuator at the cursor, which is the character there alone.
-    #[inline(always)]
-    fn give_alone(
-        &mut self,
-        slot: &mut Option<TokenAndSpan<'a>>,
-        before: BytePos,
-        gap: BlankGap,
-        kind: PunctuatorKind,
-    ) -> Result<(), AllocError>
-        requires behind { IsBehindGap before self.old gap }
-        requires alone { IsAlone kind (rest self.old.input) }
-        ensures done { OnOk result (Gives (back_at before self.old) self.new slot.old slot.new true) }
-        ensures refused { OnErr result (IsRefused self.old self.new slot.old slot.new) }
-        ensures free { length self.old.state.contexts < 128 → IsOk result }
-    {
-        let plain = plain_alone(&mut self.input, gap, kind);
-        self.give(slot, before, plain)
-    }
-
-    /// Gives the word, or the punctuator of one character, that stands at the cursor; before anything else the lexer stays
-    /// there.
-    #[inline(always)]
-    fn give_quick(
-        &mut self,
-        slot: &mut Option<TokenAndSpan<'a>>,
-        before: BytePos,
-        gap: BlankGap,
-    ) -> Result<Quick, AllocError>
-        requires behind { IsBehindGap before self.old gap }
-        ensures came { IfOk result (λ quick. Comes (back_at before self.old) self.new slot.old slot.new quick) }
-        ensures refused { OnErr result (IsRefused self.old self.new slot.old slot.new) }
-        ensures free { length self.old.state.contexts < 128 → IsOk result }
-    {
-        if begins_word(gap.next) {
-            return Ok(Quick::of(self.give_word(slot, before, gap)?));
-        }
-        match gap.next {
-            b'(' => self.give_alone(slot, before, gap, PunctuatorKind::LParen)?,
-            b')' => self.give_alone(slot, before, gap, PunctuatorKind::RParen)?,
-            b'{' => self.give_alone(slot, before, gap, PunctuatorKind::LBrace)?,
-            b'}' => self.give_alone(slot, before, gap, PunctuatorKind::RBrace)?,
-            b'[' => self.give_alone(slot, before, gap, PunctuatorKind::LBracket)?,
-            b']' => self.give_alone(slot, before, gap, PunctuatorKind::RBracket)?,
-            b';' => self.give_alone(slot, before, gap, PunctuatorKind::Semi)?,
-            b',' => self.give_alone(slot, before, gap, PunctuatorKind::Comma)?,
-            b':' => self.give_alone(slot, before, gap, PunctuatorKind::Colon)?,
-            b'.' if is_lone_dot(&self.input) => {
-                self.give_alone(slot, before, gap, PunctuatorKind::Dot)?;
-            }
-            b'=' if is_lone_equals(&self.input) => {
-                let assign = PunctuatorKind::AssignOp(AssignOp::Assign);
-                self.give_alone(slot, before, gap, assign)?;
-            }
-            _ => return Ok(Quick::Behind(before, gap)),
-        }
-        Ok(Quick::Given)
-    }
-
-    /// Passes the white space with which most reads begin, and gives what stands behind it where its first character tells
-    /// what it is.
-    #[inline(always)]
-    fn quick_into(
-        &mut self,
-        slot: &mut Option<TokenAndSpan<'a>>,
-    ) -> Result<Quick, AllocError>
-        ensures came { IfOk result (λ quick. Comes self.old self.new slot.old slot.new quick) }
-        ensures refused { OnErr result (IsRefused self.old self.new slot.old slot.new) }
-        ensures free { length self.old.state.contexts < 128 → IsOk result }
-        ensures ended { rest self.old.input ≡ [] → IsOk result }
-    {
-        if self.reads_again() {
-            return Ok(Quick::Nothing);
-        }
-        let stood = self.input.clone()?;
-        let before = self.input.cur_pos();
-        let mode = self.mode();
-        match plain_gap(&mut self.input, &mode) {
-            Some(gap) => self.give_quick(slot, before, gap),
-            None => {
-                self.input = stood;
-                Ok(Quick::Nothing)
-            }
-        }
-    }
-
-    /// Gives the punctuator at the cursor, if there is one, and says whether it did.
-    #[inline(always)]
-    fn give_punctuator(
-        &mut self,
-        slot: &mut Option<TokenAndSpan<'a>>,
-        before: BytePos,
-        gap: BlankGap,
-    ) -> Result<bool, AllocError>
-        requires behind { IsBehindGap before self.old gap }
-        requires opens { opening (mode_of (lexer_state self.old)) gap.line_break (rest self.old.input) ≡ opens.Other }
-        ensures done { IfOk result (λ done. Gives (back_at before self.old) self.new slot.old slot.new done) }
-        ensures refused { OnErr result (IsRefused self.old self.new slot.old slot.new) }
-        ensures free { length self.old.state.contexts < 128 → IsOk result }
-    {
-        let mode = self.mode();
-        match plain_punctuator(&mut self.input, &mode, gap.line_break) {
-            Some(plain) => {
-                self.give(slot, before, plain)?;
-                Ok(true)
-            }
-            None => {
-                self.go_before(before);
-                Ok(false)
-            }
-        }
-    }
-
-    /// Gives the string at the cursor, where nothing is wrong with it and it holds no line terminator, and says whether it
-    /// did.
-    #[inline(never)]
-    fn give_string(
-        &mut self,
-        slot: &mut Option<TokenAndSpan<'a>>,
-        before: BytePos,
-        gap: BlankGap,
-    ) -> Result<bool, AllocError>
-        requires behind { IsBehindGap before self.old gap }
-        requires opens { opening (mode_of (lexer_state self.old)) gap.line_break (rest self.old.input) ≡ opens.String }
-        ensures done { IfOk result (λ done. Gives (back_at before self.old) self.new slot.old slot.new done) }
-        ensures refused { OnErr result (IsRefused self.old self.new slot.old slot.new) }
-        ensures free { length self.old.state.contexts < 128 → is_free_read (lexer_state (back_at before self.old)) ≡ true → IsOk result }
-    {
-        match plain_string(self.alloc, &mut self.input, gap.line_break)? {
-            Some(token) => {
-                self.give(slot, before, with_kept(token))?;
-                Ok(true)
-            }
-            None => {
-                self.go_before(before);
-                Ok(false)
-            }
-        }
-    }
-
-    /// Gives the number at the cursor, where nothing is wrong with it, and says whether it did.
-    #[inline(never)]
-    fn give_number(
-        &mut self,
-        slot: &mut Option<TokenAndSpan<'a>>,
-        before: BytePos,
-        gap: BlankGap,
-    ) -> Result<bool, AllocError>
-        requires behind { IsBehindGap before self.old gap }
-        requires opens { opening (mode_of (lexer_state self.old)) gap.line_break (rest self.old.input) ≡ opens.Number }
-        ensures done { IfOk result (λ done. Gives (back_at before self.old) self.new slot.old slot.new done) }
-        ensures refused { OnErr result (IsRefused self.old self.new slot.old slot.new) }
-        ensures free { length self.old.state.contexts < 128 → is_free_read (lexer_state (back_at before self.old)) ≡ true → IsOk result }
-    {
-        let mode = self.mode();
-        match plain_number(self.alloc, &mut self.input, &mode, gap.line_break)? {
-            Some(token) => {
-                self.give(slot, before, with_kept(token))?;
-                Ok(true)
-            }
-            None => {
-                self.go_before(before);
-                Ok(false)
-            }
-        }
-    }
-
-    /// Gives the punctuator, string or number at the cursor, where nothing is to be told of it besides, and says whether it
-    /// did; else the cursor is put back.
-    #[inline(always)]
-    fn give_other(
-        &mut self,
-        slot: &mut Option<TokenAndSpan<'a>>,
-        before: BytePos,
-        gap: BlankGap,
-    ) -> Result<bool, AllocError>
-        requires behind { IsBehindGap before self.old gap }
-        ensures done { IfOk result (λ done. Gives (back_at before self.old) self.new slot.old slot.new done) }
-        ensures refused { OnErr result (IsRefused self.old self.new slot.old slot.new) }
-        ensures free { length self.old.state.contexts < 128 → is_free_read (lexer_state (back_at before self.old)) ≡ true → IsOk result }
-    {
-        let mode = self.mode();
-        match Opening::at(&self.input, &mode, gap.line_break, gap.next as char) {
-            Opening::Other => self.give_punctuator(slot, before, gap),
-            Opening::String => self.give_string(slot, before, gap),
-            Opening::Number => self.give_number(slot, before, gap),
-            Opening::Word | Opening::Template | Opening::Bars => {
-                self.go_before(before);
-                Ok(false)
-            }
-        }
     }
 
     /// Reads with all that is found besides the token, which it puts into the slot.
