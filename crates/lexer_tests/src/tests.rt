@@ -15,6 +15,7 @@ mod numbers;
 mod played;
 mod replays;
 mod rereads;
+mod slots;
 mod states;
 mod strings;
 mod templates;
