@@ -140,5 +140,13 @@ fn measures(rt: HostRuntime) -> Result<(), Fail> {
     assert_run(&rt, &Still, alloc, words, b"/a/ ; b=/=/;;", 0, both)?;
     let words = ["time", "2", "kept", "reread", "1", "reread", "5"].as_slice();
     assert_run(&rt, &Still, alloc, words, b"/a/ ; b=/=/;;", 0, both)?;
-    assert_run(&rt, &Still, alloc, &["time", "1", "ts", "kept"], b"x = /a/", 0, still)
+    assert_run(
+        &rt,
+        &Still,
+        alloc,
+        &["time", "1", "ts", "kept"],
+        b"x = /a/",
+        0,
+        still,
+    )
 }

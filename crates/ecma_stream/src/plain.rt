@@ -129,7 +129,11 @@ pub fn plain_word<'a>(input: &mut StringInput<'a>, gap: BlankGap) -> Option<Plai
 
 /// The punctuator at the cursor, behind this gap, which is the character there alone.
 #[inline(always)]
-pub fn plain_alone<'a>(input: &mut StringInput<'a>, gap: BlankGap, kind: PunctuatorKind) -> Plain<'a>
+pub fn plain_alone<'a>(
+    input: &mut StringInput<'a>,
+    gap: BlankGap,
+    kind: PunctuatorKind,
+) -> Plain<'a>
     requires first { slice_get (rest input.old) 0 ≡ Some gap.next }
     requires alone { IsAlone kind (rest input.old) }
     ensures token { (mode : Mode) → is_template mode.top ≡ false → IsPlain mode (spanned_view result.token) input.old input.new }

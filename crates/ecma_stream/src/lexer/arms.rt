@@ -10,7 +10,6 @@ ghost use Rattle.ecma_state.specs.declared.opening.Opening.TheVariants as opens;
 ghost use Rattle.ecma_state.specs.Session.{lexer_state};
 ghost use Rattle.ecma_state.specs.Run.{at_place, is_free_read, mode_of};
 
-
 use super::Lexer;
 use crate::plain::{
     Plain, begins_word, is_lone_dot, is_lone_equals, plain_alone, plain_gap, plain_number,
