@@ -1,11 +1,13 @@
 -- Reads that look at what stands behind white space: the cursor before it, and what an arm gives.
-use Rattle.std.proofs.Common.{◌≡◌, ◌∙◌, ℕ, ◌+◌, ◌-◌, ◌≤◌, Bool, false, ◌∷◌, Some, None, length, length-drop, drop, slice_get, sym, subst, ap, arith}
+use Rattle.std.proofs.Common.{◌≡◌, ◌∙◌, ℕ, ◌+◌, ◌-◌, ◌≤◌, Bool, true, false, ◌∷◌, Some, None, length, length-drop, drop, slice_get, sym, subst, ap, arith}
 use Rattle.std.proofs.lemmas.Option.{none-some}
 use Rattle.ecma_place.specs.Cursor.{Cursor, HasPlace, passed, place, rest}
 use Rattle.ecma_place.specs.declared.place.BytePos.{BytePos}
 use Rattle.ecma_place.proofs.MoveLemmas.{place-passed-le}
 use Rattle.ecma_place.proofs.RunLemmas.{first-cons}
-use Rattle.ecma_token.specs.View.{SpannedView}
+use Rattle.ecma_syntax.specs.declared.word.WordKind.{WordKind}
+use Rattle.ecma_token.specs.View.{SpannedView, spanned_view}
+use Rattle.ecma_token.specs.declared.token.TokenAndSpan.{TokenAndSpan}
 use Rattle.ecma_scan.specs.BlankGaps.{IsBlankGap}
 use Rattle.ecma_scan.specs.declared.blank_gap.BlankGap.{BlankGap}
 use Rattle.ecma_dispatch.specs.Besides.{bare, state_taking}
@@ -13,7 +15,7 @@ use Rattle.ecma_state.specs.Mode.{gap_mode, is_template}
 use Rattle.ecma_state.specs.Reading.{reading}
 use Rattle.ecma_state.specs.Run.{at_place, mode_of, reading_from, reading_of, state_behind}
 use Rattle.ecma_state.specs.Session.{LexerKept, LexerState, kept_of, lexer_state}
-use Rattle.ecma_stream.specs.Plain.{IsBehindGap, IsPlain, StandsPlain, back_at, plain_reading}
+use Rattle.ecma_stream.specs.Plain.{IsBehindGap, IsPlain, PassesWord, StandsPlain, back_at, begins_word, plain_reading}
 use Rattle.ecma_state.specs.declared.mode.Mode.{Mode}
 use Rattle.ecma_stream.specs.Slashes.{IsAnswer}
 use Rattle.ecma_stream.specs.View.{IsLexer, lexer_view}
@@ -120,6 +122,18 @@ pub arm-read : (before : BytePos) (a : Inside) (l : LexerKept) (gap : BlankGap) 
 arm-read before a l gap t now n shows behind flag is moved =
     ap (reading (mode_of (lexer_state (lexer_view a)))) (at-moved a.input now before n moved)
     ∙ behind-read before (lexer_view a) gap t now (subst (λ (k : LexerKept). IsBehindGap before k gap) (sym shows) behind) flag is
+
+-- the arm of words
+
+pub word-read : (before : BytePos) (a : Inside) (l : LexerKept) (gap : BlankGap) (token : TokenAndSpan) (start : BytePos) (kind : WordKind) (now : Cursor) → lexer_view a ≡ l
+    → IsBehindGap before l gap → begins_word gap.next ≡ true → start.0 ≡ place a.input → PassesWord a.input now kind
+    → ((mode : Mode) (old : Cursor) → is_template mode.top ≡ false → start.0 ≡ place old → slice_get (rest old) 0 ≡ Some gap.next → begins_word gap.next ≡ true → PassesWord old now kind
+    → IsPlain mode (spanned_view token) old now)
+    → token.had_line_break ≡ gap.line_break → reading (mode_of (lexer_state (lexer_view a))) (at_place before now) ≡ plain_reading (spanned_view token) now
+word-read before a l gap token start kind now shows behind begins there passes told flag =
+    let code = arm-code before a l gap shows behind in
+    let first : slice_get (rest a.input) 0 ≡ Some gap.next = ap (λ k. slice_get (rest k.input) 0) shows ∙ behind.stands.next in
+    arm-read before a l gap (spanned_view token) now _ shows behind flag (told (mode_of (lexer_state (lexer_view a))) a.input code there first begins passes) passes.moved
 
 -- behind the white space
 

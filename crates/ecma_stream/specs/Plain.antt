@@ -1,12 +1,18 @@
 -- Reads of tokens of which nothing is to be told besides.
-use Rattle.std.specs.Prelude.{◌≡◌, ◌≤◌, ℕ, Bool, true, false, ◌||◌, ◌==◌, Option, Some, None, [], length, option_map, slice_get, take, Ok}
+use Rattle.std.specs.Prelude.{◌≡◌, ◌≤◌, ℕ, Bool, true, false, ◌||◌, ◌==◌, Option, Some, None, [], length, option_map, slice_get, take, encode_utf8_all, Ok}
 use Rattle.std.specs.Char.{is_ascii_alphabetic}
+use Rattle.std.specs.List.{prefix_len, take_while}
+use Rattle.ecma_place.specs.Character.{is_ident_part}
 use Rattle.ecma_place.specs.Cursor.{Cursor, HasPlace, rest, place, passed}
 use Rattle.ecma_place.specs.Text.{Text}
 use Rattle.ecma_place.specs.declared.place.BytePos.{BytePos}
 use Rattle.ecma_token.specs.View.{SpannedView, TokenView, spanned_view}
 use Rattle.ecma_token.specs.declared.token.TokenAndSpan.{TokenAndSpan}
-use Rattle.ecma_scan.specs.Found.{FoundView}
+use Rattle.ecma_syntax.specs.Word.{word_kind, word_of}
+use Rattle.ecma_syntax.specs.declared.context.Context.{Context}
+use Rattle.ecma_syntax.specs.declared.word.WordKind.{WordKind}
+use Rattle.ecma_scan.specs.Found.{FoundView, scanned}
+use Rattle.ecma_scan.specs.Words.{word}
 use Rattle.ecma_scan.specs.BlankGaps.{IsBlankGap}
 use Rattle.ecma_scan.specs.Punctuators.{punctuator_in, spells}
 use Rattle.ecma_scan.specs.PunctuatorKinds.{kind_token}
@@ -47,6 +53,12 @@ IsKept plain = plain.kept ≡ kept_of (spanned_view plain.token)
 -- a word begins with the character, which is ASCII and no backslash
 abbrev pub begins_word : ℕ → Bool
 begins_word c = (c == 36 || c == 95) || is_ascii_alphabetic c
+
+-- a word with no escape, which is of this kind, stands between two cursors
+pub record PassesWord (old now : Cursor) (kind : WordKind) : Type 0 where
+  pub of_kind : kind ≡ word_kind (word_of (encode_utf8_all (take_while is_ident_part (rest old))))
+  pub word : (context : Context) → word context (rest old) ≡ scanned (word_of (encode_utf8_all (take_while is_ident_part (rest old)))) (take_while is_ident_part (rest old))
+  pub moved : now ≡ passed (prefix_len is_ident_part (rest old)) old
 
 -- the first character of the text is a punctuator, which is found in each mode of code, and begins nothing else
 pub record IsAlone (kind : PunctuatorKind) (text : Text) : Type 0 where

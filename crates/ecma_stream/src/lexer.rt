@@ -306,6 +306,21 @@ impl<'a> Lexer<'a> {
         Ok(found)
     }
 
+    /// The same in a room of its own, which is cleared where this is called: that of a local of the caller would be at the
+    /// caller's start, for most reads in vain.
+    #[inline(always)]
+    fn besides_answer(&mut self) -> Result<Option<TokenAndSpan<'a>>, AllocError>
+        ensures answer { IfOk result (λ answer. option_map spanned_view answer ≡ (reading_of (lexer_state self.old)).found) }
+        ensures after { OnOk result (lexer_state self.new ≡ state_behind (lexer_state self.old) (reading_of (lexer_state self.old))) }
+        ensures kept { OnErr result (self.new.errors ≡ self.old.errors) }
+        ensures given { OnErr result (IsGivenAs self.old self.new) }
+        ensures free { length self.old.state.contexts < 128 → is_free_read (lexer_state self.old) ≡ true → IsOk result }
+        ensures ended { self.old.reread ≡ None → rest self.old.input ≡ [] → IsOk result }
+    {
+        let answer = self.next_with_besides();
+        answer
+    }
+
     /// Reads with all that is found besides the token, which it puts into the slot.
     #[inline(never)]
     fn besides_into(&mut self, slot: &mut Option<TokenAndSpan<'a>>) -> Result<(), AllocError>
@@ -371,10 +386,7 @@ impl<'a> Lexer<'a> {
         match self.quick_into(&mut plain)? {
             Quick::Given => Ok(plain),
             Quick::Behind(before, gap) => self.other_answer(before, gap),
-            Quick::Nothing => {
-                let answer = self.next_with_besides();
-                answer
-            }
+            Quick::Nothing => self.besides_answer(),
         }
     }
 

@@ -1,11 +1,11 @@
 //! Reads of tokens of which nothing is to be told besides: most reads, without lists. Our own, for speed.
-ghost use Rattle.std.specs.Prelude.{◌≡◌, true, false, Some, length, slice_get, IfOk, IfSome, IsOk, OnErr, OnOk};
-ghost use Rattle.ecma_place.specs.Cursor.{rest, place, passed};
+ghost use Rattle.std.specs.Prelude.{◌≡◌, ◌≤◌, true, false, Some, length, slice_get, IfOk, IfSome, IsOk, OnErr, OnOk};
+ghost use Rattle.ecma_place.specs.Cursor.{Cursor, HasPlace, rest, place, passed};
 ghost use Rattle.ecma_token.specs.View.{spanned_view, token_view};
 ghost use Rattle.ecma_scan.specs.Found.{found_at, found_view, token_behind};
 ghost use Rattle.ecma_scan.specs.Numbers.{number, opens_number};
 ghost use Rattle.ecma_scan.specs.Strings.{opens_string, string_literal};
-ghost use Rattle.ecma_stream.specs.Plain.{IsAhead, IsAlone, IsKept, IsPlain, StandsPlain, assignment, begins_word, plain_view};
+ghost use Rattle.ecma_stream.specs.Plain.{IsAhead, IsAlone, IsKept, IsPlain, PassesWord, StandsPlain, assignment, begins_word, plain_view};
 ghost use Rattle.ecma_scan.specs.declared.punctuator_kind.PunctuatorKind.{PunctuatorKind};
 ghost use Rattle.ecma_state.specs.Mode.{is_template};
 ghost use Rattle.ecma_state.specs.TokenAt.{is_free_token, opening, ts1085};
@@ -13,14 +13,14 @@ ghost use Rattle.ecma_state.specs.declared.opening.Opening.TheVariants as opens;
 ghost use Rattle.ecma_state.specs.declared.mode.Mode.{Mode};
 ghost use Rattle.ecma_state.specs.declared.opening.Opening.{Opening};
 
-use ecma_place::{Span, StringInput};
+use ecma_place::{BytePos, Span, StringInput};
 use ecma_scan::{
-    BlankGap, Found, PunctuatorKind, eat_plain_kind, eat_punctuator, scan_blank_gap, scan_number,
+    BlankGap, Found, PunctuatorKind, eat_punctuator, scan_blank_gap, scan_number,
     scan_string,
 };
 use ecma_state::kept::Kept;
 use ecma_state::mode::Mode;
-use ecma_syntax::Word;
+use ecma_syntax::{Word, WordKind};
 use ecma_token::{Token, TokenAndSpan, TokenKind};
 use std::alloc::{AllocError, Global};
 
@@ -98,22 +98,26 @@ pub fn is_lone_equals(input: &StringInput) -> bool
     }
 }
 
-/// The word at the cursor, behind this gap, where it is written with no escape.
+/// The word of this kind between the place and the cursor, which is all of a word with no escape, behind this gap.
 #[inline(always)]
-pub fn plain_word<'a>(input: &mut StringInput<'a>, gap: BlankGap) -> Option<Plain<'a>>
-    requires first { slice_get (rest input.old) 0 ≡ Some gap.next }
-    requires begins { begins_word gap.next ≡ true }
-    ensures token { IfSome result (λ plain. (mode : Mode) → is_template mode.top ≡ false → IsPlain mode (spanned_view plain.token) input.old input.new) }
-    ensures flag { IfSome result (λ plain. plain.token.had_line_break ≡ gap.line_break) }
-    ensures kept { IfSome result IsKept }
-    ensures moved { IsAhead input.old input.new }
+pub fn word_behind<'a>(
+    input: &StringInput<'a>,
+    gap: BlankGap,
+    start: BytePos,
+    kind: WordKind,
+) -> Plain<'a>
+    requires there { HasPlace input.now start.0 }
+    requires before { start.0 ≤ place input.now }
+    ensures token { (mode : Mode) (old : Cursor) → is_template mode.top ≡ false → start.0 ≡ place old
+        → slice_get (rest old) 0 ≡ Some gap.next → begins_word gap.next ≡ true → PassesWord old input.now kind
+        → IsPlain mode (spanned_view result.token) old input.now }
+    ensures flag { result.token.had_line_break ≡ gap.line_break }
+    ensures kept { IsKept result }
 {
-    let start = input.cur_pos();
-    let kind = eat_plain_kind(input)?;
     let end = input.cur_pos();
     let span = Span::new(start, end);
     let word = Word::of_kind(kind, input.slice(start, end));
-    Some(Plain {
+    Plain {
         token: TokenAndSpan {
             token: Token::Word(word),
             had_line_break: gap.line_break,
@@ -124,7 +128,7 @@ pub fn plain_word<'a>(input: &mut StringInput<'a>, gap: BlankGap) -> Option<Plai
             span,
             flag: gap.line_break,
         },
-    })
+    }
 }
 
 /// The punctuator at the cursor, behind this gap, which is the character there alone.

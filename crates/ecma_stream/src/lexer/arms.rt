@@ -13,12 +13,12 @@ ghost use Rattle.ecma_state.specs.Run.{at_place, is_free_read, mode_of};
 use super::Lexer;
 use crate::plain::{
     Plain, begins_word, is_lone_dot, is_lone_equals, plain_alone, plain_gap, plain_number,
-    plain_punctuator, plain_string, plain_word, with_kept,
+    plain_punctuator, plain_string, with_kept, word_behind,
 };
 use ecma_place::BytePos;
-use ecma_scan::{BlankGap, PunctuatorKind};
+use ecma_scan::{BlankGap, PunctuatorKind, eat_plain_kind};
 use ecma_state::opening::Opening;
-use ecma_syntax::AssignOp;
+use ecma_syntax::{AssignOp, IdentKind, WordKind};
 use ecma_token::TokenAndSpan;
 use std::alloc::AllocError;
 
@@ -90,16 +90,21 @@ impl<'a> Lexer<'a> {
         ensures refused { OnErr result (IsRefused self.old self.new slot.old slot.new) }
         ensures free { length self.old.state.contexts < 128 → IsOk result }
     {
-        match plain_word(&mut self.input, gap) {
-            Some(plain) => {
-                self.give(slot, before, plain)?;
-                Ok(true)
-            }
-            None => {
-                self.go_before(before);
-                Ok(false)
-            }
+        let start = self.input.cur_pos();
+        let Some(kind) = eat_plain_kind(&mut self.input) else {
+            self.go_before(before);
+            return Ok(false);
+        };
+        // Names have an arm of their own, in which the kind is a constant, up to and with the change of the state.
+        let name = WordKind::Ident(IdentKind::Other);
+        if kind == name {
+            let plain = word_behind(&self.input, gap, start, name);
+            self.give(slot, before, plain)?;
+        } else {
+            let plain = word_behind(&self.input, gap, start, kind);
+            self.give(slot, before, plain)?;
         }
+        Ok(true)
     }
 
     /// Gives the punctuator at the cursor, which is the character there alone.
