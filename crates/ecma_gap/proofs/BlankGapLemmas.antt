@@ -1,19 +1,24 @@
 -- Gaps of white space alone.
-use Rattle.std.proofs.Common.{◌≡◌, ℕ, Bool, true, false, cond, ◌==◌, ◌∷◌, [], length, refl, sym, ap, subst, ◌∙◌, Option, Some, None}
-use Rattle.std.specs.Prelude.{◌||◌, ◌&&◌, not, codes, nat_lt, slice_get}
+use Rattle.std.proofs.Common.{◌≡◌, ℕ, ◌<◌, Bool, true, false, cond, ◌==◌, ◌∷◌, ◌++◌, [], length, drop, refl, sym, ap, subst, ◌∙◌, Option, Some, None, arith, eqb-true, encode_utf8_all}
+use Rattle.std.specs.Prelude.{◌||◌, ◌&&◌, IfSome, not, codes, nat_lt, replicate, slice_get}
 use Rattle.std.specs.List.{list_any, prefix_len, take_while}
+use Rattle.std.proofs.Math.Bool.{and-false}
+use Rattle.std.proofs.lemmas.Bool.{or_parts}
+use Rattle.std.proofs.lemmas.Bool.Decides.{nat_tests}
+use Rattle.std.proofs.lemmas.Str.{encode_ascii}
 use Rattle.ecma_place.specs.Text.{Text}
 use Rattle.ecma_place.specs.Character.{is_white_space, is_line_terminator}
 use Rattle.ecma_place.specs.Cursor.{Cursor, ascii_of, rest, place, passed}
 use Rattle.ecma_gap.specs.BlankGaps.{IsBlankGap, may_begin}
 use Rattle.ecma_grammar.specs.Comments.{collected, comments_of}
-use Rattle.ecma_grammar.specs.Fronts.{begins_with, next_passes}
-use Rattle.ecma_grammar.specs.Gaps.{element, elements, faults_of, gap, gap_cutter, special_element}
+use Rattle.ecma_grammar.specs.Fronts.{begins_with, next_is, next_passes}
+use Rattle.ecma_grammar.specs.Gaps.{element, elements, faults_of, flagged_element, gap, gap_cutter, is_marker, marks, special_element}
 use Rattle.ecma_grammar.specs.Pieces.{spelled}
 use Rattle.ecma_gap.specs.Readings.{nothing_read, with_flag}
 use Rattle.ecma_grammar.specs.declared.gap_mode.GapMode.{GapMode}
 use Rattle.ecma_grammar.proofs.GapForms.{cond_false}
-use Rattle.ecma_grammar.proofs.GapLaws.{special_none}
+use Rattle.ecma_place.proofs.CursorLemmas.{first_byte}
+use Rattle.ecma_gap.proofs.NextElements.{special-flagged}
 use Rattle.ecma_gap.proofs.ReadingLemmas.{ended-at, gap-reads, white-passed, white-stops, whole-ended, whole-is}
 
 -- no white space stands first
@@ -42,40 +47,124 @@ blank-gap mode now behind terminator moved said none template keeps =
       moved = sym ended.ends ∙ ap (λ es. passed (length (spelled (gap_cutter mode) es)) now) (sym all);
     }
 
--- Which characters begin no element
+-- Which texts begin no element
 
-or_parts : (a b : Bool) → (a || b) ≡ false → (a ≡ false) × (b ≡ false)
-or_parts false false e = (refl, refl)
-or_parts false true e = cc
-or_parts true b e = cc
-
-none-begins : (mode : GapMode) (flag : Bool) (c : ℕ) (cs : Text) → is_white_space c ≡ false → may_begin flag c ≡ false → element mode flag (c ∷ cs) ≡ None
-none-begins mode flag c cs white none =
-    cond_false _ _ _ white
-    ∙ cond_false _ _ _ (ap (λ x. x && begins_with (codes "/") cs) opened.0)
-    ∙ cond_false _ _ _ (ap (λ x. x && begins_with (codes "*") cs) opened.0)
-    ∙ special flag sides.1
+longer : (xs ys text : Text) → begins_with xs text ≡ false → begins_with (xs ++ ys) text ≡ false
+longer [] ys text e = cc
+longer (x ∷ xs) ys [] e = refl
+longer (x ∷ xs) ys (c ∷ cs) e = go (c == x) e (longer xs ys cs)
   where
-    sides : ((c == 47 || c == 60) ≡ false) × ((flag && ((c == 45 || c == 61) || c == 62)) ≡ false)
+    go : (b : Bool) → (b && begins_with xs cs) ≡ false → (begins_with xs cs ≡ false → begins_with (xs ++ ys) cs ≡ false) → (b && begins_with (xs ++ ys) cs) ≡ false
+    go false e more = refl
+    go true e more = more e
+
+-- of the characters of a marker, `<` is told by the second
+no-marker : (type_mode : Bool) (c : ℕ) (cs : Text) → (c == 61) ≡ false → (c == 62) ≡ false → begins_with (codes "<<") (c ∷ cs) ≡ false
+    → is_marker type_mode c (c ∷ cs) ≡ false
+no-marker type_mode c cs equals greater less = go (c == 60) refl
+  where
+    go : (b : Bool) → (c == 60) ≡ b → is_marker type_mode c (c ∷ cs) ≡ false
+    go true e =
+        let seven = longer (codes "<<") (codes "<<<<<") (c ∷ cs) less in
+        ap (λ x. begins_with (replicate 7 x) (c ∷ cs) && marks type_mode c (drop 6 cs)) (eqb-true c 60 e) ∙ ap (λ x. x && marks type_mode c (drop 6 cs)) seven
+    go false e = rw (equals, greater, e) (and-false (begins_with (replicate 7 c) (c ∷ cs)))
+
+none-begins : (mode : GapMode) (flag : Bool) (c : ℕ) (cs : Text) → is_white_space c ≡ false → may_begin flag (c ∷ cs) ≡ false → element mode flag (c ∷ cs) ≡ None
+none-begins mode flag c cs white none =
+    cond_false _ _ _ white ∙ cond_false _ _ _ slashes.0 ∙ cond_false _ _ _ slashes.1 ∙ special flag sides.1
+  where
+    text : Text
+    text = c ∷ cs
+
+    sides : (((begins_with (codes "//") text || begins_with (codes "/*") text) || (begins_with (codes "<!") text || begins_with (codes "<<") text)) ≡ false)
+        × ((flag && ((c == 45 || c == 61) || c == 62)) ≡ false)
     sides = or_parts _ _ none
 
-    opened : ((c == 47) ≡ false) × ((c == 60) ≡ false)
-    opened = or_parts _ _ sides.0
+    openings : ((begins_with (codes "//") text || begins_with (codes "/*") text) ≡ false) × ((begins_with (codes "<!") text || begins_with (codes "<<") text) ≡ false)
+    openings = or_parts _ _ sides.0
 
-    special : (flag : Bool) → (flag && ((c == 45 || c == 61) || c == 62)) ≡ false → special_element mode.type_mode flag (c ∷ cs) ≡ None
-    special false e = cond_false _ _ _ (ap (λ x. (x && begins_with (codes "!--") cs) && not mode.type_mode) opened.1)
-    special true e =
-        let flagged = or_parts _ _ e in
-        let marks = or_parts _ _ flagged.0 in
-        special_none mode.type_mode true c cs marks.0 marks.1 opened.1 flagged.1
+    slashes : (begins_with (codes "//") text ≡ false) × (begins_with (codes "/*") text ≡ false)
+    slashes = or_parts _ _ openings.0
 
--- nor a text that begins with one
-pub none-next : (mode : GapMode) (flag : Bool) (text : Text) (c : ℕ) → slice_get text 0 ≡ Some c → next_passes is_white_space text ≡ false → may_begin flag c ≡ false
+    less : (begins_with (codes "<!") text ≡ false) × (begins_with (codes "<<") text ≡ false)
+    less = or_parts _ _ openings.1
+
+    special : (flag : Bool) → (flag && ((c == 45 || c == 61) || c == 62)) ≡ false → special_element mode.type_mode flag text ≡ None
+    special flag e = special-flagged mode.type_mode flag text (ap (λ x. x && not mode.type_mode) (longer (codes "<!") (codes "--") text less.0)) ∙ go flag e
+      where
+        go : (flag : Bool) → (flag && ((c == 45 || c == 61) || c == 62)) ≡ false → cond flag (flagged_element mode.type_mode text) None ≡ None
+        go false e = refl
+        go true e =
+            let flagged = or_parts _ _ e in
+            let marks = or_parts _ _ flagged.0 in
+            cond_false _ _ _ (ap (λ x. x && begins_with (codes "->") cs) marks.0)
+            ∙ cond_false _ _ _ (no-marker mode.type_mode c cs marks.1 flagged.1 less.1)
+
+-- white space begins none of another kind, either
+pub none-next : (mode : GapMode) (flag : Bool) (text : Text) (c : ℕ) → slice_get text 0 ≡ Some c → next_passes is_white_space text ≡ false → may_begin flag text ≡ false
     → element mode flag text ≡ None
 none-next mode flag [] c e white none = cc
-none-next mode flag (d ∷ ds) c e white none =
-    let same : d ≡ c = cc in
-    none-begins mode flag d ds white (ap (may_begin flag) same ∙ none)
+none-next mode flag (d ∷ ds) c e white none = none-begins mode flag d ds white none
+
+-- Two characters by their bytes
+
+-- behind an ASCII character, the second byte is the first of what follows
+second-byte : (text : Text) → IfSome (slice_get text 0) (λ c. c < 128) → slice_get (encode_utf8_all text) 1 ≡ slice_get (encode_utf8_all (drop 1 text)) 0
+second-byte [] l = refl
+second-byte (c ∷ cs) l = rw (encode_ascii c l) refl
+
+same-number : (x : ℕ) → (x == x) ≡ true
+same-number x = grind (arith, nat_tests)
+
+next-first : (x : ℕ) (text : Text) → next_is x text ≡ true → slice_get text 0 ≡ Some x
+next-first x [] e = cc
+next-first x (c ∷ cs) e = ap Some (eqb-true c x e)
+
+first-next : (x : ℕ) (text : Text) → slice_get text 0 ≡ Some x → next_is x text ≡ true
+first-next x [] e = cc
+first-next x (c ∷ cs) e = let same : c ≡ x = cc in rw same (same-number x)
+
+byte-next : (text : Text) (b x : ℕ) → x < 128 → Some b ≡ slice_get (encode_utf8_all text) 0 → (b == x) ≡ next_is x text
+byte-next text b x l e = go (b == x) (next_is x text) refl refl
+  where
+    go : (s t : Bool) → (b == x) ≡ s → next_is x text ≡ t → s ≡ t
+    go true true f g = refl
+    go false false f g = refl
+    go true false f g = sym (first-next x text ((first_byte text x l).0 (sym e ∙ ap Some (eqb-true b x f)))) ∙ g
+    go false true f g =
+        let at : Some b ≡ Some x = e ∙ (first_byte text x l).1 (next-first x text g) in
+        let same : b ≡ x = cc in
+        sym f ∙ (rw same (same-number x))
+
+second-is : (text : Text) (b x : ℕ) → IfSome (slice_get text 0) (λ c. c < 128) → x < 128 → Some b ≡ slice_get (encode_utf8_all text) 1 → (b == x) ≡ next_is x (drop 1 text)
+second-is text b x low l e = byte-next (drop 1 text) b x l (e ∙ second-byte text low)
+
+no-second : (text : Text) (x : ℕ) → IfSome (slice_get text 0) (λ c. c < 128) → x < 128 → None ≡ slice_get (encode_utf8_all text) 1 → next_is x (drop 1 text) ≡ false
+no-second text x low l e = go (next_is x (drop 1 text)) refl
+  where
+    go : (t : Bool) → next_is x (drop 1 text) ≡ t → next_is x (drop 1 text) ≡ false
+    go false g = g
+    go true g =
+        let at : None ≡ Some x = e ∙ second-byte text low ∙ (first_byte (drop 1 text) x l).1 (next-first x (drop 1 text) g) in
+        cc
+
+pub second-either : (text : Text) (b x y : ℕ) → IfSome (slice_get text 0) (λ c. c < 128) → (x < 128) × (y < 128) → Some b ≡ slice_get (encode_utf8_all text) 1
+    → ((b == x) || (b == y)) ≡ (next_is x (drop 1 text) || next_is y (drop 1 text))
+second-either text b x y low l e = rw (second-is text b x low l.0 e, second-is text b y low l.1 e) refl
+
+pub either-first : (b x y : ℕ) (r : Bool) → b ≡ x → ((b == x) || (b == y)) ≡ r → (b == x) ≡ r
+either-first b x y r e h =
+    let same : (b == x) ≡ true = grind (arith, nat_tests) in
+    same ∙ sym (ap (λ t. t || (b == y)) same) ∙ h
+
+pub either-other : (b x y : ℕ) (r : Bool) → (b ≡ x → ⊥) → ((b == x) || (b == y)) ≡ r → (b == y) ≡ r
+either-other b x y r e h =
+    let other : (b == x) ≡ false = grind (arith, nat_tests) in
+    sym (ap (λ t. t || (b == y)) other) ∙ h
+
+pub second-neither : (text : Text) (x y : ℕ) → IfSome (slice_get text 0) (λ c. c < 128) → (x < 128) × (y < 128) → None ≡ slice_get (encode_utf8_all text) 1
+    → false ≡ (next_is x (drop 1 text) || next_is y (drop 1 text))
+second-neither text x y low l e = rw (no-second text x low l.0 e, no-second text y low l.1 e) refl
 
 -- a byte that is ASCII is the first character
 pub ascii-is : (first : Option ℕ) (b : ℕ) → ascii_of first ≡ Some b → first ≡ Some b
@@ -90,10 +179,10 @@ ascii-is (Some c) b e = go (nat_lt c 128) e
 pub told : (flag : Bool) (now behind : Cursor) (terminator : Bool) (c : ℕ)
     → behind ≡ passed (prefix_len is_white_space (rest now)) now
     → terminator ≡ list_any is_line_terminator (take_while is_white_space (rest now))
-    → slice_get (rest behind) 0 ≡ Some c → may_begin (flag || terminator) c ≡ false
+    → slice_get (rest behind) 0 ≡ Some c → may_begin (flag || terminator) (rest behind) ≡ false
     → (mode : GapMode) → mode.first ≡ flag → mode.template ≡ false → mode.keeps_space ≡ false → IsBlankGap mode now behind (flag || terminator)
 told flag now behind terminator c moved said first none mode is template keeps =
     let same : (mode.first || terminator) ≡ (flag || terminator) = ap (λ b. b || terminator) is in
     subst (IsBlankGap mode now behind) same
     (blank-gap mode now behind terminator moved said
-    (none-next mode (mode.first || terminator) (rest behind) c first (white-stops now behind moved) (ap (λ b. may_begin b c) same ∙ none)) template keeps)
+    (none-next mode (mode.first || terminator) (rest behind) c first (white-stops now behind moved) (ap (λ b. may_begin b (rest behind)) same ∙ none)) template keeps)

@@ -1,7 +1,9 @@
 -- Gaps of white space alone, of which nothing is to be told but the flag.
-use Rattle.std.specs.Prelude.{◌≡◌, ℕ, Bool, false, ◌||◌, ◌&&◌, ◌==◌, [], length, slice_get, Option, Some, None, if◌then◌else◌}
-use Rattle.ecma_place.specs.Cursor.{Cursor, rest, place, passed}
+use Rattle.std.specs.Prelude.{◌≡◌, Bool, false, ◌||◌, ◌&&◌, [], codes, length, slice_get, Option, Some, None, option_map, if◌then◌else◌}
+use Rattle.ecma_place.specs.Cursor.{Cursor, ascii_of, rest, place, passed}
+use Rattle.ecma_place.specs.Text.{Text}
 use Rattle.ecma_grammar.specs.Comments.{comments_at}
+use Rattle.ecma_grammar.specs.Fronts.{begins_with, next_is}
 use Rattle.ecma_grammar.specs.Gaps.{gap_faults_at, gap_spelling, has_line_break}
 use Rattle.ecma_grammar.specs.declared.gap_mode.GapMode.{GapMode}
 use Rattle.ecma_gap.specs.declared.blank_gap.BlankGap.{BlankGap}
@@ -20,11 +22,14 @@ IsTold first now behind gap =
     × ((mode : GapMode) → mode.first ≡ first → mode.template ≡ false → mode.keeps_space ≡ false
     → IsBlankGap mode now behind gap.line_break)
 
--- an element other than white space may begin with the character, where the flag stands or not
-abbrev pub may_begin : Bool → ℕ → Bool
-may_begin flag c = (c == 47 || c == 60) || (flag && ((c == 45 || c == 61) || c == 62))
+-- an element other than white space may begin the text: a comment, or `<!--` or a marker of `<` by their first two
+-- characters, and where the flag stands what one of three characters begins
+abbrev pub may_begin : Bool → Text → Bool
+may_begin flag text =
+    ((begins_with (codes "//") text || begins_with (codes "/*") text) || (begins_with (codes "<!") text || begins_with (codes "<<") text))
+    || (flag && ((next_is 45 text || next_is 61 text) || next_is 62 text))
 
--- what is told where this character stands behind the white space, if one stands there that is ASCII
-abbrev pub told_of : Bool → Option ℕ → Option BlankGap
-told_of flag None = None
-told_of flag (Some c) = if may_begin flag c then None else Some (record { line_break = flag; next = c })
+-- what is told where this text stands behind the white space, if no element may begin it and its first character is ASCII
+abbrev pub told_of : Bool → Text → Option BlankGap
+told_of flag text =
+    if may_begin flag text then None else option_map (λ c. record { line_break = flag; next = c }) (ascii_of (slice_get text 0))

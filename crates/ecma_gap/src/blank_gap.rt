@@ -1,8 +1,9 @@
 //! Gaps of white space alone, before most tokens: our own, for speed.
-ghost use Rattle.std.specs.Prelude.{◌≡◌, ◌||◌, slice_get, IfSome};
+ghost use Rattle.std.specs.Prelude.{◌≡◌, ◌<◌, ◌||◌, Some, drop, slice_get, IfSome};
 ghost use Rattle.std.specs.List.{list_any, prefix_len, take_while};
 ghost use Rattle.ecma_place.specs.Character.{is_line_terminator, is_white_space};
-ghost use Rattle.ecma_place.specs.Cursor.{ascii_of, passed, rest};
+ghost use Rattle.ecma_place.specs.Cursor.{passed, rest};
+ghost use Rattle.ecma_grammar.specs.Fronts.{next_is};
 ghost use Rattle.ecma_gap.specs.BlankGaps.{IsTold, may_begin, told_of};
 
 use crate::white_space::skip_white_space;
@@ -17,17 +18,33 @@ pub struct BlankGap {
     pub next: u8,
 }
 
-/// Whether a comment or a conflict marker may begin with the byte, where the flag stands or not.
+/// Whether behind the character at the cursor, which is ASCII, one of two stands that are ASCII, too.
 #[inline(always)]
-fn may_begin(flag: bool, b: u8) -> bool
-    ensures { result ≡ may_begin flag b }
+fn goes_on(input: &StringInput, one: u8, other: u8) -> bool
+    requires first { IfSome (slice_get (rest input.now) 0) (λ c. c < 128) }
+    requires ascii { (one < 128) × (other < 128) }
+    ensures { result ≡ (next_is one (drop 1 (rest input.now)) || next_is other (drop 1 (rest input.now))) }
 {
-    // No letter does.
+    match input.byte_ahead(1) {
+        Some(b) => b == one || b == other,
+        None => false,
+    }
+}
+
+/// Whether a comment or a conflict marker may begin at the cursor, where this character stands and the flag stands or not.
+#[inline(always)]
+fn may_begin(input: &StringInput, flag: bool, b: u8) -> bool
+    requires { slice_get (rest input.now) 0 ≡ Some b }
+    ensures { result ≡ may_begin flag (rest input.now) }
+{
+    // No letter begins one.
     if b > b'>' {
         return false;
     }
     match b {
-        b'/' | b'<' => true,
+        // A division and a comparison go on otherwise.
+        b'/' => goes_on(input, b'/', b'*'),
+        b'<' => goes_on(input, b'!', b'<'),
         b'-' | b'=' | b'>' => flag,
         _ => false,
     }
@@ -42,13 +59,13 @@ fn may_begin(flag: bool, b: u8) -> bool
 pub fn scan_blank_gap(input: &mut StringInput, first: bool) -> Option<BlankGap>
     ensures gap { IfSome result (IsTold first input.old input.new) }
     ensures answer { result ≡ told_of (first || list_any is_line_terminator (take_while is_white_space (rest input.old)))
-        (ascii_of (slice_get (rest input.new) 0)) }
+        (rest input.new) }
     ensures moved { input.new ≡ passed (prefix_len is_white_space (rest input.old)) input.old }
 {
     let terminator = skip_white_space(input);
     let line_break = first | terminator;
     match input.cur_as_ascii() {
-        Some(next) if !may_begin(line_break, next) => Some(BlankGap { line_break, next }),
+        Some(next) if !may_begin(input, line_break, next) => Some(BlankGap { line_break, next }),
         _ => None,
     }
 }

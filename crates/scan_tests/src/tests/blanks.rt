@@ -5,7 +5,7 @@ use ecma_scan::{BlankGap, eat_plain_word, scan_blank_gap};
 /// A text, whether no token came before, and what is told of the gap with which it begins.
 type Row = (&'static str, bool, Option<(bool, u8)>);
 
-const BLANK_GAPS: [Row; 16] = [
+const BLANK_GAPS: [Row; 19] = [
     ("x", false, Some((false, b'x'))),
     ("x", true, Some((true, b'x'))),
     ("  \tx", false, Some((false, b'x'))),
@@ -16,9 +16,12 @@ const BLANK_GAPS: [Row; 16] = [
     ("=x", true, None),
     (" >", false, Some((false, b'>'))),
     ("\r>", false, None),
-    (" /", false, None),
+    (" /", false, Some((false, b'/'))),
+    ("\n/=", false, Some((true, b'/'))),
+    (" //x", false, None),
     (" /* */x", false, None),
-    ("<", false, None),
+    ("<", false, Some((false, b'<'))),
+    ("<!--", false, None),
     ("é", false, None),
     ("", false, None),
     (" ", true, None),
