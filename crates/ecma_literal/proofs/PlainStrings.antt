@@ -1,19 +1,19 @@
 -- A string that is closed and holds no escape, seen by its quotes and the run of characters between them.
-use Rattle.std.proofs.Common.{◌≡◌, ℕ, ◌+◌, ◌-◌, ◌<◌, ◌≤◌, Bool, true, false, cond, List, [], ◌∷◌, length, length-drop, take, drop, refl, sym, ap, ◌∙◌, arith, encode_utf8_all, ⊎_elim, Some, Ok, slice_get, slice_range}
+use Rattle.std.proofs.Common.{◌≡◌, ℕ, ◌+◌, ◌-◌, ◌<◌, ◌≤◌, Bool, true, false, cond, List, [], ◌∷◌, length, length-drop, take, refl, sym, ap, ◌∙◌, arith, encode_utf8_all, ⊎_elim, Some, Ok, slice_get, slice_range}
 use Rattle.std.specs.List.{prefix_len}
 use Rattle.std.proofs.lemmas.Bool.{cases_Bool, eqb-true}
 use Rattle.std.proofs.lemmas.Bool.Decides.{nat_tests}
 use Rattle.std.proofs.lemmas.Str.{len_utf8_ascii}
 use Rattle.ecma_place.specs.Text.{Text, byte_len, count_within}
 use Rattle.ecma_place.specs.Atom.{AtomView, borrowed_atom}
-use Rattle.ecma_place.specs.Cursor.{Cursor, HasPlace, index_of, moved_to, passed, place, place_at, rest}
+use Rattle.ecma_place.specs.Cursor.{Cursor, HasPlace, index_of, moved_to, passed, place, rest}
 use Rattle.ecma_place.specs.Run.{is_in_class, quote_byte}
 use Rattle.ecma_place.specs.declared.run.Quote.{Quote}
 use Rattle.ecma_place.specs.declared.run.Quote.TheVariants.{Single, Double}
 use Rattle.ecma_place.specs.declared.run.ByteClass.{ByteClass}
 use Rattle.ecma_place.specs.declared.run.ByteClass.TheVariants.{Plain}
 use Rattle.ecma_place.proofs.ChunkLemmas.{chunk-run}
-use Rattle.ecma_place.proofs.CursorLemmas.{count_within-byte_len, count_within-more, count_within-none, byte_len-cons}
+use Rattle.ecma_place.proofs.CursorLemmas.{count_within-byte_len, byte_len-cons}
 use Rattle.ecma_place.proofs.MoveLemmas.{place-passed}
 use Rattle.ecma_place.proofs.RunLemmas.{IsFurther, first-cons, text-passed}
 use Rattle.ecma_token.specs.View.{TokenView, owns_nothing, plain_token}
@@ -24,7 +24,7 @@ use Rattle.ecma_grammar.specs.Strings.{opens_string, string_literal}
 use Rattle.ecma_literal.proofs.PlainRuns.{plain-run}
 use Rattle.ecma_escape.specs.EscapeAnswers.{opens_escape}
 use Rattle.ecma_escape.proofs.StringReading.{not-borrowed, plain-value}
-use Rattle.ecma_escape.proofs.StringFound.{IsScanned, free-close, free-value, literal-accepted, literal-found, literal-raw}
+use Rattle.ecma_escape.proofs.StringFound.{IsScanned, free-close, free-value, literal-accepted, literal-found}
 
 -- The opening quote
 
