@@ -3,6 +3,7 @@ pub mod ExpressionFound
 pub mod ExpressionLaws
 pub mod ExpressionPieces
 pub mod PlainRuns
+pub mod PlainStrings
 pub mod TemplateFound
 pub mod TemplateLaws
 pub mod TemplatePieces

@@ -6,5 +6,5 @@ pub mod string;
 pub mod template;
 
 pub use expression::scan_regexp;
-pub use string::scan_string;
+pub use string::{eat_plain_string, scan_string};
 pub use template::scan_template;

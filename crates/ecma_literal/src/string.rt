@@ -1,36 +1,41 @@
 //! Strings.
-ghost use Rattle.std.specs.Prelude.{◌≡◌, ◌≤◌, ◌++◌, true, Some, [], length, take, map, slice_get, encode_utf8_all, string_bytes, if◌then◌else◌, Ok, IfOk, IsOk, OnErr, OnOk};
+ghost use Rattle.std.specs.Prelude.{◌≡◌, ◌≤◌, ◌++◌, true, false, Some, [], length, take, map, slice_get, encode_utf8_all, string_bytes, if◌then◌else◌, Ok, IfNone, IfOk, IfSome, IsOk, IsSome, OnErr, OnOk};
 ghost use Rattle.std.specs.List.{prefix_len};
 ghost use Rattle.ecma_place.specs.Atom.{AtomView};
 ghost use Rattle.ecma_place.specs.Cursor.{rest, place, passed};
 ghost use Rattle.ecma_place.specs.Run.{is_in_class, quote_byte};
 ghost use Rattle.ecma_place.specs.declared.run.ByteClass.TheVariants.{Plain};
 ghost use Rattle.ecma_token.specs.View.{TokenView, token_view, owns_nothing};
-ghost use Rattle.ecma_grammar.specs.Found.{found_view, found_at, fault_view, fault_behind, value_view, value_behind, token_behind};
+ghost use Rattle.ecma_grammar.specs.Found.{found_view, found_at, fault_view, fault_behind, value_view, value_behind, token_behind, span_of};
 ghost use Rattle.ecma_grammar.specs.Fronts.{next_is};
 ghost use Rattle.ecma_escape.specs.PieceParts.{quoted, faults_from, text_from, atom_from, behind_pieces, closing_faults};
 ghost use Rattle.ecma_grammar.specs.Strings as grammar;
 
 use ecma_escape::escape::{Use, at_escape, push_escape};
 use ecma_grammar::found::{Blame, Found, push_fault};
-use ecma_place::{Atom, ByteClass, BytePos, Quote, Span, StringInput};
+use ecma_place::{Atom, ByteClass, BytePos, Quote, Span, StringInput, plain_lanes};
 use ecma_token::{Error, SyntaxError, Token};
 use std::alloc::{AllocError, Global};
+use std::simd::prelude::*;
 
 /// Moves behind the quote at the cursor, and answers which it is.
+#[inline(always)]
 fn opening_quote(input: &mut StringInput) -> Quote
     requires { grammar.opens_string (rest input.old) ≡ true }
     ensures quote { slice_get (rest input.old) 0 ≡ Some (quote_byte result) }
     ensures moved { input.new ≡ passed 1 input.old }
 {
-    if input.eat_byte(b'"') {
-        return Quote::Double;
-    }
-    input.bump();
-    Quote::Single
+    let quote = if input.is_byte(b'"') {
+        Quote::Double
+    } else {
+        Quote::Single
+    };
+    input.bump_bytes(1);
+    quote
 }
 
 /// The byte of a quote.
+#[inline(always)]
 fn quote_byte(quote: Quote) -> u8
     ensures { result ≡ quote_byte quote }
 {
@@ -40,6 +45,31 @@ fn quote_byte(quote: Quote) -> u8
     }
 }
 
+// Moves behind the characters at the cursor that a string in these quotes holds as they are, of any length.
+#[tactic(auto, using(crate::proofs::PlainRuns::plain_runs))]
+#[inline(never)]
+fn pass_long_run(input: &mut StringInput, quote: Quote)
+    ensures { input.new ≡ passed (prefix_len (is_in_class (Plain quote)) (rest input.old)) input.old }
+{
+    input.bump_bytes(input.run_bytes(ByteClass::Plain(quote)) as usize);
+}
+
+/// Moves behind the characters at the cursor that a string in these quotes holds as they are.
+#[inline(always)]
+fn pass_plain(input: &mut StringInput, quote: Quote)
+    ensures { input.new ≡ passed (prefix_len (is_in_class (Plain quote)) (rest input.old)) input.old }
+{
+    // Most strings end within the 16 bytes at the cursor.
+    if let Some(chunk) = input.chunk() {
+        let length = plain_lanes(u8x16::from_array(*chunk), quote);
+        if length < 16 {
+            input.bump_bytes(length as usize);
+            return;
+        }
+    }
+    pass_long_run(input, quote);
+}
+
 /// Moves behind the characters at the cursor that a string in these quotes holds as they are, and answers their text.
 #[tactic(auto, using(crate::proofs::PlainRuns::plain_runs))]
 fn plain_text<'a>(input: &mut StringInput<'a>, quote: Quote) -> &'a str
@@ -47,7 +77,7 @@ fn plain_text<'a>(input: &mut StringInput<'a>, quote: Quote) -> &'a str
     ensures moved { input.new ≡ passed (prefix_len (is_in_class (Plain quote)) (rest input.old)) input.old }
 {
     let start = input.cur_pos();
-    input.bump_bytes(input.run_bytes(ByteClass::Plain(quote)) as usize);
+    pass_plain(input, quote);
     input.slice(start, input.cur_pos())
 }
 
@@ -188,5 +218,35 @@ pub fn scan_string<'a>(
         faults,
         extent: Span::new(start, input.cur_pos()),
         line_break: false,
+    })
+}
+
+/// Reads the string at the cursor (ECMA-262 StringLiteral, 12.9.4), and moves behind it, where it is closed and holds no
+/// escape: its token is what [`scan_string`] finds, with nothing to be told of besides.
+///
+/// The cursor stands at a quote. Where the string holds an escape or is not closed there is no answer, and the cursor
+/// stays. No memory is taken: value and raw text borrow from the source. Our own, for speed.
+#[inline(always)]
+pub fn eat_plain_string<'a>(input: &mut StringInput<'a>) -> Option<Token<'a>>
+    requires { grammar.opens_string (rest input.old) ≡ true }
+    ensures found { IfSome result (λ t. found_at token_behind (place input.old) (grammar.string_literal (rest input.old))
+        ≡ record { value = Ok (token_view t); faults = []; extent = span_of (place input.old) (place input.new); line_break = false }) }
+    ensures moved { IfSome result (λ t. input.new ≡ passed (length (grammar.string_literal (rest input.old)).spelling) input.old) }
+    ensures plain { (token : TokenView) → (grammar.string_literal (rest input.old)).value ≡ Ok token → owns_nothing token ≡ true
+        → (grammar.string_literal (rest input.old)).faults ≡ [] → IsSome result }
+    ensures same { IfNone result (input.new ≡ input.old) }
+{
+    let start = input.cur_pos();
+    let quote = opening_quote(input);
+    let from = input.cur_pos();
+    pass_plain(input, quote);
+    let to = input.cur_pos();
+    if !input.eat_byte(quote_byte(quote)) {
+        input.reset_to(start);
+        return None;
+    }
+    Some(Token::Str {
+        value: Atom::from(input.slice(from, to)),
+        raw: Atom::from(input.slice(start, input.cur_pos())),
     })
 }
