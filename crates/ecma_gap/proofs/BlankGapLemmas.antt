@@ -1,6 +1,6 @@
 -- Gaps of white space alone.
 use Rattle.std.proofs.Common.{◌≡◌, ℕ, ◌<◌, Bool, true, false, cond, ◌==◌, ◌∷◌, ◌++◌, [], length, drop, refl, sym, ap, subst, ◌∙◌, Option, Some, None, arith, eqb-true, encode_utf8_all}
-use Rattle.std.specs.Prelude.{◌||◌, ◌&&◌, IfSome, not, codes, nat_lt, replicate, slice_get}
+use Rattle.std.specs.Prelude.{◌||◌, ◌&&◌, IfSome, not, codes, nat_lt, option_map, replicate, slice_get}
 use Rattle.std.specs.List.{list_any, prefix_len, take_while}
 use Rattle.std.proofs.Math.Bool.{and-false}
 use Rattle.std.proofs.lemmas.Bool.{or_parts}
@@ -9,7 +9,8 @@ use Rattle.std.proofs.lemmas.Str.{encode_ascii}
 use Rattle.ecma_place.specs.Text.{Text}
 use Rattle.ecma_place.specs.Character.{is_white_space, is_line_terminator}
 use Rattle.ecma_place.specs.Cursor.{Cursor, ascii_of, rest, place, passed}
-use Rattle.ecma_gap.specs.BlankGaps.{IsBlankGap, may_begin}
+use Rattle.ecma_gap.specs.BlankGaps.{IsBlankGap, IsTold, may_begin, told_of}
+use Rattle.ecma_gap.specs.declared.blank_gap.BlankGap.{BlankGap}
 use Rattle.ecma_grammar.specs.Comments.{collected, comments_of}
 use Rattle.ecma_grammar.specs.Fronts.{begins_with, next_is, next_passes}
 use Rattle.ecma_grammar.specs.Gaps.{element, elements, faults_of, flagged_element, gap, gap_cutter, is_marker, marks, special_element}
@@ -175,6 +176,25 @@ ascii-is (Some c) b e = go (nat_lt c 128) e
     go true e = e
     go false e = cc
 
+-- what is told at a text
+pub record Tells (flag : Bool) (text : Text) (gap : BlankGap) : Type 0 where
+  pub first : slice_get text 0 ≡ Some gap.next
+  pub none : may_begin flag text ≡ false
+  pub line_break : flag ≡ gap.line_break
+
+pub told-parts : (flag : Bool) (text : Text) → IfSome (told_of flag text) (Tells flag text)
+told-parts flag text = go (may_begin flag text) (ascii_of (slice_get text 0)) refl refl
+  where
+    go : (b : Bool) (o : Option ℕ) → may_begin flag text ≡ b → ascii_of (slice_get text 0) ≡ o
+        → IfSome (cond b None (option_map (λ c. let gap : BlankGap = record { line_break = flag; next = c } in gap) o)) (Tells flag text)
+    go true o e f = tt
+    go false None e f = tt
+    go false (Some c) e f = record { first = ascii-is _ _ f; none = e; line_break = refl }
+
+pub if-told : (o : Option BlankGap) (P Q : BlankGap → Type 0) → IfSome o P → ((gap : BlankGap) → P gap → Q gap) → IfSome o Q
+if-told None P Q p f = tt
+if-told (Some gap) P Q p f = f gap p
+
 -- so it is told before a character with which no element may begin
 pub told : (flag : Bool) (now behind : Cursor) (terminator : Bool) (c : ℕ)
     → behind ≡ passed (prefix_len is_white_space (rest now)) now
@@ -186,3 +206,13 @@ told flag now behind terminator c moved said first none mode is template keeps =
     subst (IsBlankGap mode now behind) same
     (blank-gap mode now behind terminator moved said
     (none-next mode (mode.first || terminator) (rest behind) c first (white-stops now behind moved) (ap (λ b. may_begin b (rest behind)) same ∙ none)) template keeps)
+
+pub told-gap : (flag : Bool) (now behind : Cursor) (terminator : Bool) (o : Option BlankGap) → behind ≡ passed (prefix_len is_white_space (rest now)) now
+    → terminator ≡ list_any is_line_terminator (take_while is_white_space (rest now)) → o ≡ told_of (flag || terminator) (rest behind) → IfSome o (IsTold flag now behind)
+told-gap flag now behind terminator o moved said is =
+    subst (λ (x : Option BlankGap). IfSome x (IsTold flag now behind)) (sym is)
+    (if-told (told_of (flag || terminator) (rest behind)) (Tells (flag || terminator) (rest behind)) (IsTold flag now behind) (told-parts (flag || terminator) (rest behind))
+    (λ gap t. (
+      t.first,
+      λ mode is template keeps. subst (IsBlankGap mode now behind) t.line_break (told flag now behind terminator gap.next moved said t.first t.none mode is template keeps),
+    )))

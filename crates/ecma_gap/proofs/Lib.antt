@@ -7,4 +7,5 @@ pub mod GapFaults
 pub mod MarkerLemmas
 pub mod NextElements
 pub mod ReadingLemmas
+pub mod UncollectedGapLemmas
 pub mod WhiteLemmas

@@ -1,10 +1,14 @@
--- Gaps of white space alone, of which nothing is to be told but the flag.
-use Rattle.std.specs.Prelude.{◌≡◌, Bool, false, ◌||◌, ◌&&◌, [], codes, length, slice_get, Option, Some, None, option_map, if◌then◌else◌}
+-- Gaps of which nothing is to be told but the flag: of white space alone, or with comments of which none is collected.
+use Rattle.std.specs.Prelude.{◌≡◌, Bool, true, false, ◌||◌, ◌&&◌, [], codes, length, slice_get, Option, Some, None, option_map, if◌then◌else◌}
 use Rattle.ecma_place.specs.Cursor.{Cursor, ascii_of, rest, place, passed}
+use Rattle.std.specs.List.{list_any}
 use Rattle.ecma_place.specs.Text.{Text}
+use Rattle.ecma_place.specs.Character.{is_line_terminator}
+use Rattle.ecma_grammar.specs.Bars.{common_element}
+use Rattle.ecma_grammar.specs.Pieces.{pieces, spelled}
 use Rattle.ecma_grammar.specs.Comments.{comments_at}
 use Rattle.ecma_grammar.specs.Fronts.{begins_with, next_is}
-use Rattle.ecma_grammar.specs.Gaps.{gap_faults_at, gap_spelling, has_line_break}
+use Rattle.ecma_grammar.specs.Gaps.{Element, Blank, LineComment, BlockComment, OpenComment, HtmlOpening, HtmlClosing, Marker, element_text, faults_of, gap_cutter, gap_faults_at, gap_spelling, has_line_break}
 use Rattle.ecma_grammar.specs.declared.gap_mode.GapMode.{GapMode}
 use Rattle.ecma_gap.specs.declared.blank_gap.BlankGap.{BlankGap}
 
@@ -21,6 +25,37 @@ IsTold first now behind gap =
     (slice_get (rest behind) 0 ≡ Some gap.next)
     × ((mode : GapMode) → mode.first ≡ first → mode.template ≡ false → mode.keeps_space ≡ false
     → IsBlankGap mode now behind gap.line_break)
+
+-- the same where comments are not collected, and may stand in it
+abbrev pub IsToldUncollected : Bool → Cursor → Cursor → BlankGap → Type 0
+IsToldUncollected first now behind gap =
+    (slice_get (rest behind) 0 ≡ Some gap.next)
+    × ((mode : GapMode) → mode.first ≡ first → mode.template ≡ false → mode.keeps_space ≡ false → mode.collect ≡ false
+    → IsBlankGap mode now behind gap.line_break)
+
+-- the elements from one cursor on, before which the flag stands or not, end at another, and none has a fault
+pub record ArePassed (mode : GapMode) (flag : Bool) (now behind : Cursor) (told : Bool) : Type 0 where
+  pub line_break : (flag || list_any is_line_terminator (spelled (gap_cutter mode) (pieces (gap_cutter mode) flag (rest now)))) ≡ told
+  pub faults : faults_of None (place now) (pieces (gap_cutter mode) flag (rest now)) ≡ []
+  pub moved : behind ≡ passed (length (spelled (gap_cutter mode) (pieces (gap_cutter mode) flag (rest now)))) now
+
+-- a comment that has its end
+abbrev pub is_comment : Element → Bool
+is_comment (Blank c) = false
+is_comment (LineComment line) = true
+is_comment (BlockComment body) = true
+is_comment (OpenComment body) = false
+is_comment (HtmlOpening line) = false
+is_comment (HtmlClosing line) = false
+is_comment (Marker c line) = false
+
+-- such a comment stands at one cursor, and the other behind it
+pub record PassesComment (now behind : Cursor) (terminator : Bool) : Type 0 where
+  pub comment : Element
+  pub stands : common_element (rest now) ≡ Some comment
+  pub ends : is_comment comment ≡ true
+  pub holds : terminator ≡ list_any is_line_terminator (element_text comment)
+  pub moved : behind ≡ passed (length (element_text comment)) now
 
 -- an element other than white space may begin the text: a comment, or `<!--` or a marker of `<` by their first two
 -- characters, and where the flag stands what one of three characters begins

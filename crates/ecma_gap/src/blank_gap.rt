@@ -33,7 +33,7 @@ fn goes_on(input: &StringInput, one: u8, other: u8) -> bool
 
 /// Whether a comment or a conflict marker may begin at the cursor, where this character stands and the flag stands or not.
 #[inline(always)]
-fn may_begin(input: &StringInput, flag: bool, b: u8) -> bool
+pub(crate) fn may_begin(input: &StringInput, flag: bool, b: u8) -> bool
     requires { slice_get (rest input.now) 0 ≡ Some b }
     ensures { result ≡ may_begin flag (rest input.now) }
 {
@@ -47,6 +47,18 @@ fn may_begin(input: &StringInput, flag: bool, b: u8) -> bool
         b'<' => goes_on(input, b'!', b'<'),
         b'-' | b'=' | b'>' => flag,
         _ => false,
+    }
+}
+
+/// What is told at a cursor behind white space: nothing where another element may begin there, at the end, and before a
+/// character that isn't ASCII.
+#[inline(always)]
+pub(crate) fn told_at(input: &StringInput, line_break: bool) -> Option<BlankGap>
+    ensures { result ≡ told_of line_break (rest input.now) }
+{
+    match input.cur_as_ascii() {
+        Some(next) if !may_begin(input, line_break, next) => Some(BlankGap { line_break, next }),
+        _ => None,
     }
 }
 
@@ -64,8 +76,5 @@ pub fn scan_blank_gap(input: &mut StringInput, first: bool) -> Option<BlankGap>
 {
     let terminator = skip_white_space(input);
     let line_break = first | terminator;
-    match input.cur_as_ascii() {
-        Some(next) if !may_begin(input, line_break, next) => Some(BlankGap { line_break, next }),
-        _ => None,
-    }
+    told_at(input, line_break)
 }

@@ -9,7 +9,7 @@ use ecma_place::{ByteClass, CharExt, StringInput};
 
 /// Moves to the first `*/` or the end, and says whether a line terminator was passed.
 #[tactic(auto, using(crate::proofs::BodyLemmas::bodies))]
-fn skip_body(input: &mut StringInput) -> bool
+pub(crate) fn skip_body(input: &mut StringInput) -> bool
     ensures terminator { result ≡ list_any is_line_terminator (grammar.body_before (rest input.old)) }
     ensures moved { input.new ≡ passed (length (grammar.body_before (rest input.old))) input.old }
 {
