@@ -207,12 +207,12 @@ told flag now behind terminator c moved said first none mode is template keeps =
     (blank-gap mode now behind terminator moved said
     (none-next mode (mode.first || terminator) (rest behind) c first (white-stops now behind moved) (ap (λ b. may_begin b (rest behind)) same ∙ none)) template keeps)
 
-pub told-gap : (flag : Bool) (now behind : Cursor) (terminator : Bool) (o : Option BlankGap) → behind ≡ passed (prefix_len is_white_space (rest now)) now
-    → terminator ≡ list_any is_line_terminator (take_while is_white_space (rest now)) → o ≡ told_of (flag || terminator) (rest behind) → IfSome o (IsTold flag now behind)
-told-gap flag now behind terminator o moved said is =
-    subst (λ (x : Option BlankGap). IfSome x (IsTold flag now behind)) (sym is)
-    (if-told (told_of (flag || terminator) (rest behind)) (Tells (flag || terminator) (rest behind)) (IsTold flag now behind) (told-parts (flag || terminator) (rest behind))
+pub told-gap : (flag collect : Bool) (now behind : Cursor) (terminator : Bool) (o : Option BlankGap) → behind ≡ passed (prefix_len is_white_space (rest now)) now
+    → terminator ≡ list_any is_line_terminator (take_while is_white_space (rest now)) → o ≡ told_of (flag || terminator) (rest behind) → IfSome o (IsTold flag collect now behind)
+told-gap flag collect now behind terminator o moved said is =
+    subst (λ (x : Option BlankGap). IfSome x (IsTold flag collect now behind)) (sym is)
+    (if-told (told_of (flag || terminator) (rest behind)) (Tells (flag || terminator) (rest behind)) (IsTold flag collect now behind) (told-parts (flag || terminator) (rest behind))
     (λ gap t. (
       t.first,
-      λ mode is template keeps. subst (IsBlankGap mode now behind) t.line_break (told flag now behind terminator gap.next moved said t.first t.none mode is template keeps),
+      λ mode is template keeps collects. subst (IsBlankGap mode now behind) t.line_break (told flag now behind terminator gap.next moved said t.first t.none mode is template keeps),
     )))

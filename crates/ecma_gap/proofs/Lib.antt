@@ -7,5 +7,5 @@ pub mod GapFaults
 pub mod MarkerLemmas
 pub mod NextElements
 pub mod ReadingLemmas
-pub mod UncollectedGapLemmas
+pub mod PlainCommentLemmas
 pub mod WhiteLemmas

@@ -19,18 +19,12 @@ pub record IsBlankGap (mode : GapMode) (now behind : Cursor) (flag : Bool) : Typ
   pub faults : gap_faults_at (place now) mode (rest now) ≡ []
   pub moved : behind ≡ passed (length (gap_spelling mode (rest now))) now
 
--- what is told of one: so it is in each mode that passes white space, and this character stands behind it
-abbrev pub IsTold : Bool → Cursor → Cursor → BlankGap → Type 0
-IsTold first now behind gap =
+-- what is told of one: so it is in each mode that passes white space, and collects comments as said, and this character
+-- stands behind it
+abbrev pub IsTold : Bool → Bool → Cursor → Cursor → BlankGap → Type 0
+IsTold first collect now behind gap =
     (slice_get (rest behind) 0 ≡ Some gap.next)
-    × ((mode : GapMode) → mode.first ≡ first → mode.template ≡ false → mode.keeps_space ≡ false
-    → IsBlankGap mode now behind gap.line_break)
-
--- the same where comments are not collected, and may stand in it
-abbrev pub IsToldUncollected : Bool → Cursor → Cursor → BlankGap → Type 0
-IsToldUncollected first now behind gap =
-    (slice_get (rest behind) 0 ≡ Some gap.next)
-    × ((mode : GapMode) → mode.first ≡ first → mode.template ≡ false → mode.keeps_space ≡ false → mode.collect ≡ false
+    × ((mode : GapMode) → mode.first ≡ first → mode.template ≡ false → mode.keeps_space ≡ false → mode.collect ≡ collect
     → IsBlankGap mode now behind gap.line_break)
 
 -- the elements from one cursor on, before which the flag stands or not, end at another, and none has a fault

@@ -1,15 +1,16 @@
-//! Gaps of white space alone, before most tokens: our own, for speed.
-ghost use Rattle.std.specs.Prelude.{◌≡◌, ◌<◌, ◌||◌, Some, drop, slice_get, IfSome};
+//! Gaps of which nothing is to be told but the flag, before most tokens: our own, for speed.
+ghost use Rattle.std.specs.Prelude.{◌≡◌, ◌<◌, ◌||◌, ℕ, true, Some, drop, slice_get, IfSome};
 ghost use Rattle.std.specs.List.{list_any, prefix_len, take_while};
 ghost use Rattle.ecma_place.specs.Character.{is_line_terminator, is_white_space};
 ghost use Rattle.ecma_place.specs.Cursor.{passed, rest};
 ghost use Rattle.ecma_grammar.specs.Fronts.{next_is};
 ghost use Rattle.ecma_gap.specs.BlankGaps.{IsTold, may_begin, told_of};
 
+use crate::plain_comments::pass_comments;
 use crate::white_space::skip_white_space;
 use ecma_place::StringInput;
 
-/// A gap of white space alone.
+/// A gap of which nothing is to be told but the flag.
 #[derive(Debug, Clone, Copy, PartialEq, Eq)]
 pub struct BlankGap {
     /// Whether no token came before, or a line terminator stands in the gap.
@@ -33,7 +34,7 @@ fn goes_on(input: &StringInput, one: u8, other: u8) -> bool
 
 /// Whether a comment or a conflict marker may begin at the cursor, where this character stands and the flag stands or not.
 #[inline(always)]
-pub(crate) fn may_begin(input: &StringInput, flag: bool, b: u8) -> bool
+fn may_begin(input: &StringInput, flag: bool, b: u8) -> bool
     requires { slice_get (rest input.now) 0 ≡ Some b }
     ensures { result ≡ may_begin flag (rest input.now) }
 {
@@ -62,19 +63,26 @@ pub(crate) fn told_at(input: &StringInput, line_break: bool) -> Option<BlankGap>
     }
 }
 
-/// Passes the gap at the cursor, where it is white space alone, and answers what is to be told of it; `first` says that no
-/// token came before. [`scan_gap`](crate::scan_gap) finds the same where white space may be passed.
+/// Passes the gap at the cursor, where nothing is to be told of it but the flag, and answers that; `first` says that no
+/// token came before, `collect` that comments are collected. [`scan_gap`](crate::scan_gap) finds the same where white space
+/// may be passed.
 ///
-/// Where another element may stand behind the white space, at the end, and before a character that isn't ASCII, there is no
-/// answer, and the cursor stands behind the white space. No memory is taken.
+/// Such a gap is white space, and where comments are not collected, line comments and closed block comments. Where another
+/// element may stand behind it, at the end, and before a character that isn't ASCII, there is no answer, and the cursor
+/// stands somewhere ahead; where comments are collected, behind the white space. No memory is taken.
 #[inline(always)]
-pub fn scan_blank_gap(input: &mut StringInput, first: bool) -> Option<BlankGap>
-    ensures gap { IfSome result (IsTold first input.old input.new) }
-    ensures answer { result ≡ told_of (first || list_any is_line_terminator (take_while is_white_space (rest input.old)))
+pub fn scan_blank_gap(input: &mut StringInput, first: bool, collect: bool) -> Option<BlankGap>
+    ensures gap { IfSome result (IsTold first collect input.old input.new) }
+    ensures answer { collect ≡ true → result ≡ told_of (first || list_any is_line_terminator (take_while is_white_space (rest input.old)))
         (rest input.new) }
-    ensures moved { input.new ≡ passed (prefix_len is_white_space (rest input.old)) input.old }
+    ensures moved { collect ≡ true → input.new ≡ passed (prefix_len is_white_space (rest input.old)) input.old }
+    ensures ahead { (n : ℕ) × (input.new ≡ passed n input.old) }
 {
     let terminator = skip_white_space(input);
     let line_break = first | terminator;
-    told_at(input, line_break)
+    let told = told_at(input, line_break);
+    if told.is_none() && !collect && input.is_byte(b'/') {
+        return pass_comments(input, line_break);
+    }
+    told
 }

@@ -8,14 +8,13 @@ mod comment;
 mod element;
 pub mod gap;
 mod marker;
+mod plain_comments;
 mod reading;
 pub mod skip_whitespace;
-pub mod uncollected_gap;
 pub mod white_space;
 
 pub use bars::{Bars, scan_bars};
 pub use blank_gap::{BlankGap, scan_blank_gap};
 pub use gap::{Gap, scan_gap};
 pub use skip_whitespace::SkipWhitespace;
-pub use uncollected_gap::scan_uncollected_gap;
 pub use white_space::skip_white_space;

@@ -1,5 +1,25 @@
+use Rattle.std.proofs.Common.{◌≡◌, Bool, false, subst, sym}
+use Rattle.std.specs.Prelude.{IfSome}
+use Rattle.ecma_gap.specs.BlankGaps.{IsTold}
 use Rattle.ecma_gap.proofs.BlankGapLemmas.{told-gap}
+use Rattle.ecma_gap.proofs.PlainCommentLemmas.{ahead-more, told-behind}
+use Rattle.ecma_gap.proofs.ReadingLemmas.{white-stops}
 use Rattle.ecma_gap.proofs.blank_gap.scan_blank_gap.Goals as goal
 
+pub pass_comments-requires : goal.pass_comments-requires
+pass_comments-requires c = white-stops _ _ c.skip_white_space-terminator.ensures.moved
+
+pub returns-then-is_byte-clause-gap : goal.returns-then-is_byte-clause-gap
+returns-then-is_byte-clause-gap c =
+    let white = c.skip_white_space-terminator.ensures in
+    let off : c.args.collect ≡ false = c.if-not-collect.true in
+    subst (λ (b : Bool). IfSome c.pass_comments.result (IsTold c.args.first b c.args.input.now c.pass_comments.new.input)) (sym off)
+    (told-behind c.args.first _ _ _ c.pass_comments.new.input _ white.moved white.terminator c.pass_comments.ensures.gap)
+
+pub returns-then-is_byte-clause-ahead : goal.returns-then-is_byte-clause-ahead
+returns-then-is_byte-clause-ahead c =
+    ahead-more _ c.skip_white_space-terminator.new.input _ (_, c.skip_white_space-terminator.ensures.moved) c.pass_comments.ensures.ahead
+
 pub returns-clause-gap : goal.returns-clause-gap
-returns-clause-gap c = told-gap c.args.first _ _ _ _ c.skip_white_space-terminator.ensures.moved c.skip_white_space-terminator.ensures.terminator c.told_at.ensures
+returns-clause-gap c =
+    told-gap c.args.first c.args.collect _ _ _ _ c.skip_white_space-terminator.ensures.moved c.skip_white_space-terminator.ensures.terminator c.told_at-told.ensures

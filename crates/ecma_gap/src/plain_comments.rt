@@ -1,12 +1,13 @@
-//! Gaps of white space and of comments of which none is collected: our own, for speed.
+//! Comments of which none is collected, where they begin a gap of which nothing is to be told but the flag: our own, for
+//! speed.
 ghost use Rattle.std.specs.Prelude.{◌≡◌, ◌⊎◌, ℕ, Some, [], true, false, codes, drop, length, slice_get, IfNone, IfSome};
 ghost use Rattle.ecma_place.specs.Character.{is_white_space};
 ghost use Rattle.ecma_place.specs.Cursor.{passed, rest};
 ghost use Rattle.ecma_grammar.specs.declared.gap_mode.GapMode.{GapMode};
 ghost use Rattle.ecma_grammar.specs.Fronts.{begins_with, line, next_passes};
-ghost use Rattle.ecma_gap.specs.BlankGaps.{ArePassed, IsToldUncollected, PassesComment};
+ghost use Rattle.ecma_gap.specs.BlankGaps.{ArePassed, PassesComment};
 
-use crate::blank_gap::{BlankGap, may_begin, told_at};
+use crate::blank_gap::{BlankGap, told_at};
 use crate::comment::skip_body;
 use crate::element::pass;
 use crate::white_space::skip_white_space;
@@ -61,9 +62,9 @@ fn pass_comment(input: &mut StringInput) -> Option<bool>
 }
 
 /// Passes the comments at the cursor and the white space behind each, and answers what is to be told of them, as
-/// [`scan_uncollected_gap`] does; `flag` says whether a line terminator stands before them, or no token.
+/// [`scan_blank_gap`](crate::scan_blank_gap) does; `flag` says whether a line terminator stands before them, or no token.
 #[inline(never)]
-fn pass_comments(input: &mut StringInput, flag: bool) -> Option<BlankGap>
+pub(crate) fn pass_comments(input: &mut StringInput, flag: bool) -> Option<BlankGap>
     requires { next_passes is_white_space (rest input.old) ≡ false }
     ensures gap { IfSome result (λ gap. (slice_get (rest input.new) 0 ≡ Some gap.next)
         × ((mode : GapMode) → mode.collect ≡ false → ArePassed mode flag input.old input.new gap.line_break)) }
@@ -75,24 +76,4 @@ fn pass_comments(input: &mut StringInput, flag: bool) -> Option<BlankGap>
         line_break |= skip_white_space(input);
     }
     told_at(input, line_break)
-}
-
-/// Passes the gap at the cursor, where it is white space, line comments and closed block comments, of which none is
-/// collected, and answers what is to be told of it; `first` says that no token came before.
-/// [`scan_gap`](crate::scan_gap) finds the same where white space may be passed.
-///
-/// Where another element may stand behind them, at the end, and before a character that isn't ASCII, there is no answer,
-/// and the cursor stands somewhere ahead. No memory is taken.
-#[inline(always)]
-pub fn scan_uncollected_gap(input: &mut StringInput, first: bool) -> Option<BlankGap>
-    ensures gap { IfSome result (IsToldUncollected first input.old input.new) }
-    ensures ahead { (n : ℕ) × (input.new ≡ passed n input.old) }
-{
-    let terminator = skip_white_space(input);
-    let line_break = first | terminator;
-    match input.cur_as_ascii() {
-        Some(next) if !may_begin(input, line_break, next) => Some(BlankGap { line_break, next }),
-        Some(b'/') => pass_comments(input, line_break),
-        _ => None,
-    }
 }

@@ -2,8 +2,8 @@ use Rattle.std.proofs.Common.{◌≡◌, ℕ, false, length}
 use Rattle.ecma_place.specs.Character.{is_white_space}
 use Rattle.ecma_place.specs.Cursor.{passed, rest}
 use Rattle.ecma_grammar.specs.Fronts.{next_passes}
-use Rattle.ecma_gap.proofs.UncollectedGapLemmas.{SameFrom}
-use Rattle.ecma_gap.proofs.uncollected_gap.pass_comments.Given as goal
+use Rattle.ecma_gap.proofs.PlainCommentLemmas.{SameFrom}
+use Rattle.ecma_gap.proofs.plain_comments.pass_comments.Given as goal
 
 abbrev pub invariant-comments : goal.invariant-comments
 invariant-comments l = record {

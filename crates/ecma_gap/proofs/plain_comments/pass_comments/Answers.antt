@@ -1,7 +1,7 @@
 use Rattle.std.proofs.Common.{◌||◌}
 use Rattle.ecma_gap.proofs.ReadingLemmas.{white-stops}
-use Rattle.ecma_gap.proofs.UncollectedGapLemmas.{ahead-more, same-comment, same-white, told-passed}
-use Rattle.ecma_gap.proofs.uncollected_gap.pass_comments.Goals as goal
+use Rattle.ecma_gap.proofs.PlainCommentLemmas.{ahead-more, same-comment, same-white, told-passed}
+use Rattle.ecma_gap.proofs.plain_comments.pass_comments.Goals as goal
 
 pub comments-preserved : goal.comments-preserved
 comments-preserved c =

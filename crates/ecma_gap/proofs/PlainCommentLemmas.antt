@@ -14,7 +14,7 @@ use Rattle.ecma_grammar.specs.Fronts.{begins_with, line, next_passes}
 use Rattle.ecma_grammar.specs.Gaps.{Element, Blank, LineComment, BlockComment, OpenComment, HtmlOpening, HtmlClosing, Marker, block_of, body_before, comment_body, element, element_text, faults_of, gap, gap_cutter}
 use Rattle.ecma_grammar.specs.Pieces.{pieces, spelled}
 use Rattle.ecma_grammar.specs.declared.gap_mode.GapMode.{GapMode}
-use Rattle.ecma_gap.specs.BlankGaps.{ArePassed, IsBlankGap, IsToldUncollected, PassesComment, is_comment, told_of}
+use Rattle.ecma_gap.specs.BlankGaps.{ArePassed, IsBlankGap, IsTold, PassesComment, is_comment, told_of}
 use Rattle.ecma_gap.specs.declared.blank_gap.BlankGap.{BlankGap}
 use Rattle.ecma_gap.specs.Readings.{ReadingView, next_text, nothing_read, with_element}
 use Rattle.ecma_gap.proofs.BlankGapLemmas.{Tells, if-told, none-next, told-parts}
@@ -146,9 +146,9 @@ blank-passed mode first terminator told old mid new moved holds p is template ke
 
 pub told-behind : (first terminator : Bool) (old mid new : Cursor) (o : Option BlankGap) → mid ≡ passed (prefix_len is_white_space (rest old)) old
     → terminator ≡ list_any is_line_terminator (take_while is_white_space (rest old)) → IfSome o (TellsPassed (first || terminator) mid new)
-    → IfSome o (IsToldUncollected first old new)
+    → IfSome o (IsTold first false old new)
 told-behind first terminator old mid new o moved holds told =
-    if-told o (TellsPassed (first || terminator) mid new) (IsToldUncollected first old new) told
+    if-told o (TellsPassed (first || terminator) mid new) (IsTold first false old new) told
     (λ gap t. (t.0, λ mode is template keeps off. blank-passed mode first terminator gap.line_break old mid new moved holds (t.1 mode off) is template keeps off))
 
 -- Somewhere ahead

@@ -1,5 +1,5 @@
-use Rattle.ecma_gap.proofs.UncollectedGapLemmas.{ahead-more, block-open, block-passes, signs-there}
-use Rattle.ecma_gap.proofs.uncollected_gap.pass_block_comment.Goals as goal
+use Rattle.ecma_gap.proofs.PlainCommentLemmas.{ahead-more, block-open, block-passes, signs-there}
+use Rattle.ecma_gap.proofs.plain_comments.pass_block_comment.Goals as goal
 
 pub pass-requires-then-is_str : goal.pass-requires-then-is_str
 pass-requires-then-is_str c = signs-there c.skip_body-terminator.new.input _ c.is_str.ensures c.if-is_str.true
