@@ -5,5 +5,6 @@ pub mod NumberLaws
 pub mod NumberLocal
 pub mod NumberReading
 pub mod OctalFaults
+pub mod PlainNumber
 pub mod Refusals
 pub mod RunFaults

@@ -114,7 +114,7 @@ number-some number text follows e opens none =
 neither_any : (c : ℕ) (cs : Text) → list_any is_separator (c ∷ cs) ≡ false → (is_separator c ≡ false) × (list_any is_separator cs ≡ false)
 neither_any c cs none = neither (is_separator c) (list_any is_separator cs) none
 
-all_kept : (text : Text) → list_any is_separator text ≡ false → without_separators text ≡ text
+pub all_kept : (text : Text) → list_any is_separator text ≡ false → without_separators text ≡ text
 all_kept [] none = refl
 all_kept (c ∷ cs) none =
     let parts = neither_any c cs none in

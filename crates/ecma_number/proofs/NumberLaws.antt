@@ -118,7 +118,7 @@ prefixed_back radix letter run suffix tail all suf h =
 
 -- a decimal number has no prefix
 
-abbrev is_letter : ℕ → Bool
+abbrev pub is_letter : ℕ → Bool
 is_letter c = is_some (radix_of c)
 
 from_no_letter : (o : Option Radix) → is_some o ≡ false → o ≡ None
@@ -135,7 +135,7 @@ second_letter : (x : Bool) (d : ℕ) → is_letter d ≡ false → cond x (optio
 second_letter true d e = rw (from_no_letter (radix_of d) e)
 second_letter false d e = refl
 
-no_prefix : (run tail : Text) → IsRun Decimal run → next_passes (in_run Decimal) tail ≡ false → next_passes is_letter tail ≡ false → prefix (run ++ tail) ≡ None
+pub no_prefix : (run tail : Text) → IsRun Decimal run → next_passes (in_run Decimal) tail ≡ false → next_passes is_letter tail ≡ false → prefix (run ++ tail) ≡ None
 no_prefix [] [] all stop letter = refl
 no_prefix [] (c ∷ []) all stop letter = refl
 no_prefix [] (c ∷ (d ∷ ds)) all stop letter = rw (no_zero c stop)
@@ -143,7 +143,7 @@ no_prefix (c ∷ []) [] all stop letter = refl
 no_prefix (c ∷ []) (d ∷ ds) all stop letter = second_letter (c == 48) d letter
 no_prefix (c ∷ (d ∷ ds)) tail all stop letter = second_letter (c == 48) d (no_letter d (and_parts _ _ (and_parts _ _ all).1).0)
 
-number_decimal : (run tail : Text) → IsRun Decimal run → next_passes (in_run Decimal) tail ≡ false → next_passes is_letter tail ≡ false
+pub number_decimal : (run tail : Text) → IsRun Decimal run → next_passes (in_run Decimal) tail ≡ false → next_passes is_letter tail ≡ false
     → number_parts (run ++ tail) ≡ decimal_number run tail
 number_decimal run tail all stop letter =
     rw (no_prefix run tail all stop letter) (rw (front_run (in_run Decimal) run tail all stop, after_run (in_run Decimal) run tail all stop))
@@ -170,7 +170,7 @@ parts_begin p NoFraction e tail is_exponent h dot small large space line = expon
 
 -- the parts are read again
 
-fraction_back : (f : Fraction) (tail : Text) → IsFraction f → next_passes (in_run Decimal) tail ≡ false → next_is 46 tail ≡ false
+pub fraction_back : (f : Fraction) (tail : Text) → IsFraction f → next_passes (in_run Decimal) tail ≡ false → next_is 46 tail ≡ false
     → fraction (fraction_text f ++ tail) ≡ f
 fraction_back NoFraction tail all stop dot = rw dot
 fraction_back (Point run) tail all stop dot = ap Point (front_run (in_run Decimal) run tail all stop)

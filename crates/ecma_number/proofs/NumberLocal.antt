@@ -44,7 +44,7 @@ part_refusal_none (BigRun run) rest r h = refl
 part_refusal_none (OctalRun run) rest r h = refl
 part_refusal_none (DecimalRun run f e) rest r h = exponent_refusal_none (byte_len (run ++ fraction_text f)) e rest r h
 
-name_refusal_none : (n : Number) (r : Text) → next_passes is_ident_start r ≡ false → name_refusal n r ≡ None
+pub name_refusal_none : (n : Number) (r : Text) → next_passes is_ident_start r ≡ false → name_refusal n r ≡ None
 name_refusal_none n r stop = rw (and_right (not (is_big_number n)) (next_passes is_ident_start r) stop)
 
 pub first_none : (a b : Option ErrorView) → or_else a b ≡ None → a ≡ None

@@ -47,7 +47,7 @@ turn start radix seen n c cs was now all run e h =
 none_faulty : (seen : Bool) (radix : Radix) (c : ℕ) (cs : Text) → is_separator c ≡ false → is_faulty radix seen c cs ≡ false
 none_faulty seen radix c cs e = rw e refl
 
-or_none : (a b : Bool) → (a || b) ≡ false → (a ≡ false) × (b ≡ false)
+pub or_none : (a b : Bool) → (a || b) ≡ false → (a ≡ false) × (b ≡ false)
 or_none true b e = cc
 or_none false b e = (refl, e)
 

@@ -1,3 +1,4 @@
+pub mod PlainNumbers
 pub mod WrittenNumbers
 pub use Rattle.ecma_grammar.specs.Bars
 pub use Rattle.ecma_grammar.specs.Comments

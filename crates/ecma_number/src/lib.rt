@@ -3,4 +3,4 @@
 
 pub mod number;
 
-pub use number::scan_number;
+pub use number::{eat_plain_number, scan_number};

@@ -12,12 +12,14 @@ ghost use Rattle.ecma_number.specs.WrittenNumbers.{number_of};
 mod digits;
 mod faults;
 mod parts;
+mod plain;
 mod refusals;
 mod runs;
 mod token;
 
 use crate::number::faults::{push_octal_faults, push_part_faults};
 use crate::number::parts::{WrittenNumber, read_parts};
+pub use crate::number::plain::eat_plain_number;
 use crate::number::refusals::refusal;
 use crate::number::token::number_token;
 use ecma_grammar::found::Found;
