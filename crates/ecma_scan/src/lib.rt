@@ -11,8 +11,10 @@ pub use ecma_gap::{
     skip_white_space, skip_whitespace, white_space,
 };
 pub use ecma_grammar::{Blame, Found, GapMode, found, gap_mode};
-pub use ecma_literal::{eat_plain_string, expression, scan_regexp, scan_string, scan_template, string, template};
-pub use ecma_number::{number, scan_number};
+pub use ecma_literal::{
+    eat_plain_string, expression, scan_regexp, scan_string, scan_template, string, template,
+};
+pub use ecma_number::{eat_plain_number, number, scan_number};
 pub use punctuator::{eat_punctuator, scan_punct};
 pub use punctuator_kind::PunctuatorKind;
 pub use shebang::scan_shebang;

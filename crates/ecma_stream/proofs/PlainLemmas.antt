@@ -147,11 +147,11 @@ passes-parts (Some context.JSXOpeningTag) e = (refl, refl)
 passes-parts (Some context.JSXClosingTag) e = (refl, refl)
 passes-parts (Some context.JSXExpr) e = cc
 
--- a gap of white space alone
-pub stands-plain : (mode : Mode) (old now : Cursor) (gap : BlankGap) → mode.none_given ≡ false → passes_space mode.top ≡ true → IsTold mode.first old now gap → StandsPlain mode old now gap
+-- a gap of which nothing is told but the flag
+pub stands-plain : (mode : Mode) (old now : Cursor) (gap : BlankGap) → mode.none_given ≡ false → passes_space mode.top ≡ true → IsTold mode.first mode.settings.comments old now gap → StandsPlain mode old now gap
 stands-plain mode old now gap given passes told =
     let parts = passes-parts mode.top passes in
-    record { given = given; in_code = parts.0; next = told.0; blank = told.1 (gap_mode mode) refl parts.0 parts.1 }
+    record { given = given; in_code = parts.0; next = told.0; blank = told.1 (gap_mode mode) refl parts.0 parts.1 refl }
 
 -- a read behind it takes no memory where its token takes none
 pub free-plain : (mode : Mode) (old now : Cursor) (gap : BlankGap) → StandsPlain mode old now gap → is_free mode old ≡ true → is_free_at mode gap.line_break (rest now) ≡ true

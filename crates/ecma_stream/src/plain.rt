@@ -15,8 +15,8 @@ ghost use Rattle.ecma_state.specs.declared.opening.Opening.{Opening};
 
 use ecma_place::{BytePos, Span, StringInput};
 use ecma_scan::{
-    BlankGap, Found, PunctuatorKind, eat_punctuator, scan_blank_gap, scan_number,
-    scan_string,
+    BlankGap, Found, PunctuatorKind, eat_plain_number, eat_plain_string, eat_punctuator,
+    scan_blank_gap, scan_number, scan_string,
 };
 use ecma_state::kept::Kept;
 use ecma_state::mode::Mode;
@@ -199,6 +199,15 @@ pub fn plain_number<'a>(
     ensures same { OnErr result (input.new ≡ input.old) }
     ensures free { is_free_token Opening.Number (rest input.old) (number (ts1085 mode.now) (rest input.old)) ≡ true → IsOk result }
 {
+    let start = input.cur_pos();
+    if let Some(token) = eat_plain_number(input) {
+        let span = Span::new(start, input.cur_pos());
+        return Ok(Some(TokenAndSpan {
+            token,
+            had_line_break: flag,
+            span,
+        }));
+    }
     let found = scan_number(alloc, input, mode.ts1085())?;
     Ok(plain_found(found, flag))
 }
@@ -218,12 +227,20 @@ pub fn plain_string<'a>(
     ensures same { OnErr result (input.new ≡ input.old) }
     ensures free { is_free_token Opening.String (rest input.old) (string_literal (rest input.old)) ≡ true → IsOk result }
 {
+    let start = input.cur_pos();
+    if let Some(token) = eat_plain_string(input) {
+        let span = Span::new(start, input.cur_pos());
+        return Ok(Some(TokenAndSpan {
+            token,
+            had_line_break: flag,
+            span,
+        }));
+    }
     let found = scan_string(alloc, input)?;
     Ok(plain_found(found, flag))
 }
 
-/// The white space at the cursor with which a read begins, where nothing is to be told of what stands before its token but
-/// the flag.
+/// The gap at the cursor with which a read begins, where nothing is to be told of it but the flag.
 #[inline(always)]
 pub fn plain_gap(input: &mut StringInput, mode: &Mode) -> Option<BlankGap>
     ensures { IfSome result (λ gap. StandsPlain mode.now input.old input.new gap) }
@@ -231,5 +248,5 @@ pub fn plain_gap(input: &mut StringInput, mode: &Mode) -> Option<BlankGap>
     if mode.none_given || !mode.passes_space() {
         return None;
     }
-    scan_blank_gap(input, mode.first)
+    scan_blank_gap(input, mode.first, mode.settings.comments)
 }
