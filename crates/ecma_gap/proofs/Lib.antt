@@ -6,6 +6,7 @@ pub mod ElementLemmas
 pub mod GapFaults
 pub mod MarkerLemmas
 pub mod NextElements
+pub mod PairLemmas
 pub mod ReadingLemmas
 pub mod UncollectedGapLemmas
 pub mod WhiteLemmas
