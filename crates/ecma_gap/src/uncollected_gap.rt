@@ -1,10 +1,11 @@
 //! Gaps of white space and of comments of which none is collected: our own, for speed.
-ghost use Rattle.std.specs.Prelude.{◌≡◌, ◌⊎◌, ℕ, Some, [], true, false, codes, drop, length, slice_get, IfNone, IfSome};
-ghost use Rattle.ecma_place.specs.Character.{is_white_space};
+ghost use Rattle.std.specs.Prelude.{◌≡◌, ◌||◌, ◌⊎◌, ℕ, Some, [], true, false, codes, drop, length, slice_get, IfNone, IfSome};
+ghost use Rattle.std.specs.List.{list_any, prefix_len, take_while};
+ghost use Rattle.ecma_place.specs.Character.{is_line_terminator, is_white_space};
 ghost use Rattle.ecma_place.specs.Cursor.{passed, rest};
 ghost use Rattle.ecma_grammar.specs.declared.gap_mode.GapMode.{GapMode};
 ghost use Rattle.ecma_grammar.specs.Fronts.{begins_with, line, next_passes};
-ghost use Rattle.ecma_gap.specs.BlankGaps.{ArePassed, IsToldUncollected, PassesComment};
+ghost use Rattle.ecma_gap.specs.BlankGaps.{ArePassed, IsToldUncollected, PassesComment, told_of};
 
 use crate::blank_gap::{BlankGap, may_begin, told_at};
 use crate::comment::{skip_body, stands_pair};
@@ -82,10 +83,13 @@ fn pass_comments(input: &mut StringInput, flag: bool) -> Option<BlankGap>
 /// [`scan_gap`](crate::scan_gap) finds the same where white space may be passed.
 ///
 /// Where another element may stand behind them, at the end, and before a character that isn't ASCII, there is no answer,
-/// and the cursor stands somewhere ahead. No memory is taken.
+/// and the cursor stands somewhere ahead. Where [`scan_blank_gap`](crate::scan_blank_gap) answers, this is its answer. No
+/// memory is taken.
 #[inline(always)]
 pub fn scan_uncollected_gap(input: &mut StringInput, first: bool) -> Option<BlankGap>
     ensures gap { IfSome result (IsToldUncollected first input.old input.new) }
+    ensures blank { IfSome (told_of (first || list_any is_line_terminator (take_while is_white_space (rest input.old)))
+        (drop (prefix_len is_white_space (rest input.old)) (rest input.old))) (λ gap. result ≡ Some gap) }
     ensures ahead { (n : ℕ) × (input.new ≡ passed n input.old) }
 {
     let terminator = skip_white_space(input);
