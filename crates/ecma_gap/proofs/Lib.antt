@@ -6,6 +6,7 @@ pub mod ElementLemmas
 pub mod GapFaults
 pub mod MarkerLemmas
 pub mod NextElements
-pub mod ReadingLemmas
+pub mod PairLemmas
 pub mod PlainCommentLemmas
+pub mod ReadingLemmas
 pub mod WhiteLemmas

@@ -1,10 +1,9 @@
--- Gaps of white space and of comments of which none is collected.
-use Rattle.std.proofs.Common.{◌≡◌, ℕ, ◌+◌, ◌≤◌, ◌<◌, ◌⊎◌, Bool, true, false, cond, List, ◌∷◌, [], length, refl, sym, ap, subst, ◌∙◌, Option, Some, None, arith, ⊎_elim, drop, eqb-true, ◌==◌, nat_eq}
+-- Comments of which none is collected, in gaps of which nothing is told but the flag.
+use Rattle.std.proofs.Common.{◌≡◌, ℕ, ◌+◌, ◌≤◌, ◌<◌, ◌⊎◌, Bool, true, false, cond, List, ◌∷◌, [], length, refl, sym, ap, subst, ◌∙◌, Option, Some, None, arith, ⊎_elim, drop, eqb-true, ◌==◌}
 use Rattle.std.proofs.Math.Bool.{and-false}
 use Rattle.std.proofs.lemmas.Bool.{and_parts}
-use Rattle.std.specs.Str.{chars}
 use Rattle.std.specs.Prelude.{◌||◌, ◌&&◌, IfSome, codes, is_some, slice_get, unwrap_or}
-use Rattle.std.specs.List.{list_any, prefix_len, starts_with, take_while}
+use Rattle.std.specs.List.{list_any, prefix_len, take_while}
 use Rattle.ecma_place.specs.Text.{Text}
 use Rattle.ecma_place.specs.Character.{is_white_space, is_line_terminator}
 use Rattle.ecma_place.specs.Cursor.{Cursor, rest, place, passed}
@@ -21,7 +20,7 @@ use Rattle.ecma_gap.proofs.BlankGapLemmas.{Tells, if-told, none-next, told-parts
 use Rattle.ecma_gap.proofs.BodyLemmas.{body-ended}
 use Rattle.ecma_gap.proofs.ElementLemmas.{block-closed, block-flag, flag-stays, line-moved, two-moves}
 use Rattle.ecma_gap.proofs.NextElements.{common-block, common-line}
-use Rattle.ecma_grammar.proofs.SignLemmas.{ending-seen, rest-behind, signs-within}
+use Rattle.ecma_grammar.proofs.SignLemmas.{rest-behind, signs-within}
 use Rattle.ecma_gap.proofs.ReadingLemmas.{common-reads, ended-at, gap-reads, next-smaller, whole, whole-ended, whole-is, whole-step, white-passed}
 
 -- One comment
@@ -195,13 +194,13 @@ left-none [] = refl
 left-none (x ∷ xs) = left-none xs
 
 -- whether the comment ends, by what stands behind its body
-is_ended : (behind there : Cursor) (b x : Bool) → there ≡ passed (length (body_before (rest behind))) behind → b ≡ starts_with nat_eq (rest there) (chars (codes "*/")) → b ≡ x
+is_ended : (behind there : Cursor) (b x : Bool) → there ≡ passed (length (body_before (rest behind))) behind → b ≡ begins_with (codes "*/") (rest there) → b ≡ x
     → is_some (comment_body (rest behind)) ≡ x
-is_ended behind there b x moved seen e = sym (body-ended behind there moved) ∙ sym (ending-seen (rest there)) ∙ sym seen ∙ e
+is_ended behind there b x moved seen e = sym (body-ended behind there moved) ∙ sym seen ∙ e
 
 pub block-passes : (old behind there new : Cursor) (terminator b : Bool) → begins_with (codes "/*") (rest old) ≡ true → next_passes is_white_space (rest old) ≡ false
     → behind ≡ passed 2 old → there ≡ passed (length (body_before (rest behind))) behind → terminator ≡ list_any is_line_terminator (body_before (rest behind))
-    → b ≡ starts_with nat_eq (rest there) (chars (codes "*/")) → b ≡ true → new ≡ passed 2 there → PassesComment old new terminator
+    → b ≡ begins_with (codes "*/") (rest there) → b ≡ true → new ≡ passed 2 there → PassesComment old new terminator
 block-passes old behind there new terminator b h white m t holds seen e n =
     let d = rest behind in
     let some : is_some (comment_body d) ≡ true = is_ended behind there b true t seen e in
@@ -214,12 +213,12 @@ block-passes old behind there new terminator b h white m t holds seen e n =
     }
 
 pub block-open : (behind there : Cursor) (b : Bool) → there ≡ passed (length (body_before (rest behind))) behind
-    → b ≡ starts_with nat_eq (rest there) (chars (codes "*/")) → b ≡ false → rest there ≡ []
+    → b ≡ begins_with (codes "*/") (rest there) → b ≡ false → rest there ≡ []
 block-open behind there b t seen e = rest-behind behind there _ t ∙ go (comment_body (rest behind)) (is_ended behind there b false t seen e)
   where
     go : (o : Option Text) → is_some o ≡ false → drop (length (unwrap_or o (rest behind))) (rest behind) ≡ []
     go (Some body) e = cc
     go None e = left-none (rest behind)
 
-pub signs-there : (there : Cursor) (b : Bool) → b ≡ starts_with nat_eq (rest there) (chars (codes "*/")) → b ≡ true → 2 ≤ length (rest there)
-signs-there there b seen e = signs-within (codes "*/") (rest there) (sym (ending-seen (rest there)) ∙ sym seen ∙ e)
+pub signs-there : (there : Cursor) (b : Bool) → b ≡ begins_with (codes "*/") (rest there) → b ≡ true → 2 ≤ length (rest there)
+signs-there there b seen e = signs-within (codes "*/") (rest there) (sym seen ∙ e)

@@ -1,11 +1,27 @@
 //! Block comments.
-ghost use Rattle.std.specs.Prelude.{◌≡◌, length, encode_utf8_all};
+ghost use Rattle.std.specs.Prelude.{◌≡◌, ◌<◌, ◌∷◌, [], length, encode_utf8_all};
 ghost use Rattle.std.specs.List.{list_any};
 ghost use Rattle.ecma_place.specs.Character.{is_line_terminator};
 ghost use Rattle.ecma_place.specs.Cursor.{rest, passed};
+ghost use Rattle.ecma_grammar.specs.Fronts.{begins_with};
 ghost use Rattle.ecma_grammar.specs.Gaps as grammar;
 
 use ecma_place::{ByteClass, CharExt, StringInput};
+
+/// Whether these two characters, which are ASCII, stand at the cursor. None is decoded.
+#[inline(always)]
+pub(crate) fn stands_pair(input: &StringInput, one: u8, other: u8) -> bool
+    requires { (one < 128) × (other < 128) }
+    ensures { result ≡ begins_with (one ∷ other ∷ []) (rest input.now) }
+{
+    if !input.is_byte(one) {
+        return false;
+    }
+    match input.byte_ahead(1) {
+        Some(b) => b == other,
+        None => false,
+    }
+}
 
 /// Moves to the first `*/` or the end, and says whether a line terminator was passed.
 #[tactic(auto, using(crate::proofs::BodyLemmas::bodies))]
@@ -16,7 +32,7 @@ pub(crate) fn skip_body(input: &mut StringInput) -> bool
     let mut terminator = false;
     input.bump_bytes(input.run_bytes(ByteClass::Block) as usize);
     'chars: while let Some(c) = input.cur() {
-        if input.is_str("*/") {
+        if stands_pair(input, b'*', b'/') {
             break;
         }
         terminator |= c.is_line_terminator();

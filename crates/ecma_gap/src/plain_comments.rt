@@ -8,7 +8,7 @@ ghost use Rattle.ecma_grammar.specs.Fronts.{begins_with, line, next_passes};
 ghost use Rattle.ecma_gap.specs.BlankGaps.{ArePassed, PassesComment};
 
 use crate::blank_gap::{BlankGap, told_at};
-use crate::comment::skip_body;
+use crate::comment::{skip_body, stands_pair};
 use crate::element::pass;
 use crate::white_space::skip_white_space;
 use ecma_grammar::line::read_line;
@@ -35,7 +35,7 @@ fn pass_block_comment(input: &mut StringInput) -> Option<bool>
 {
     pass(input, 2);
     let terminator = skip_body(input);
-    if input.is_str("*/") {
+    if stands_pair(input, b'*', b'/') {
         pass(input, 2);
         Some(terminator)
     } else {
@@ -51,10 +51,10 @@ fn pass_comment(input: &mut StringInput) -> Option<bool>
     ensures none { IfNone result ((input.new ≡ input.old) ⊎ (rest input.new ≡ [])) }
     ensures ahead { (n : ℕ) × (input.new ≡ passed n input.old) }
 {
-    if input.is_str("//") {
+    if stands_pair(input, b'/', b'/') {
         pass_line_comment(input);
         Some(false)
-    } else if input.is_str("/*") {
+    } else if stands_pair(input, b'/', b'*') {
         pass_block_comment(input)
     } else {
         None

@@ -1,6 +1,6 @@
 use Rattle.std.proofs.Common.{sym, ◌∙◌}
 use Rattle.ecma_place.specs.Cursor.{rest}
-use Rattle.ecma_gap.proofs.BlankGapLemmas.{either-first, either-other, second-either, second-neither}
+use Rattle.ecma_gap.proofs.PairLemmas.{either-first, either-other, second-either, second-neither}
 use Rattle.ecma_gap.proofs.blank_gap.goes_on.Goals as goal
 
 pub returns-then-b-one : goal.returns-then-b-one
