@@ -1,5 +1,5 @@
 -- A plain decimal number is read as it is, and nothing is told of it besides.
-use Rattle.std.proofs.Common.{◌≡◌, ℕ, ◌+◌, ◌-◌, ◌*◌, ◌<◌, ◌≤◌, ◌^◌, Bool, true, false, not, cond, ◌&&◌, ◌||◌, ◌==◌, nat_lt, List, [], ◌∷◌, ◌++◌, take, drop, get_or, length, map, Ok, Option, take-append-drop, length-take-le, length-append, length-drop, drop-cons, add-one, Some, None, refl, sym, ap, ◌∙◌, arith, append_assoc, append-nil, encode_utf8_all, encode_utf8, eqb-true}
+use Rattle.std.proofs.Common.{◌≡◌, ℕ, ◌+◌, ◌-◌, ◌*◌, ◌<◌, ◌≤◌, ◌^◌, Bool, true, false, not, ◌==◌, nat_lt, List, [], ◌∷◌, ◌++◌, take, drop, get_or, length, map, Ok, Option, take-append-drop, length-take-le, length-append, length-drop, drop-cons, add-one, Some, None, refl, sym, ap, ◌∙◌, arith, append_assoc, append-nil, encode_utf8_all, encode_utf8}
 use borrow.Author.Count.{below_more}
 use Rattle.std.specs.Char.{digit_value}
 use Rattle.std.specs.List.{list_all, list_any, prefix_len}
@@ -25,11 +25,11 @@ use Rattle.ecma_token.specs.declared.token.Token.{Num}
 use Rattle.ecma_token.specs.declared.token.Radix.TheVariants.{Decimal}
 use Rattle.ecma_grammar.specs.Found.{found_at, token_behind, fault_behind, span_of}
 use Rattle.ecma_grammar.specs.Fronts.{next_passes, next_is, is}
-use Rattle.ecma_grammar.specs.Numbers.{digit, in_run, is_separator, is_exponent_mark, is_legacy, is_octal_run, is_past_octal, Number, DecimalRun, Fraction, NoFraction, Point, NoExponent, fraction_text, number_text, number_parts, behind_number, refusal, fraction, exponent, number, number_token, whole_value, raw_atom, digits_atom, part_faults, fraction_faults, octal_faults, found_number, run_faults, IsRun, IsFraction, IsNumber}
+use Rattle.ecma_grammar.specs.Numbers.{digit, in_run, is_separator, is_exponent_mark, is_legacy, is_octal_run, Number, DecimalRun, Fraction, NoFraction, Point, NoExponent, fraction_text, number_text, number_parts, behind_number, refusal, fraction, number, number_token, whole_value, raw_atom, digits_atom, part_faults, fraction_faults, octal_faults, found_number, IsRun, IsFraction, IsNumber}
 use Rattle.ecma_grammar.proofs.NumberFound.{front-taken, small-token, accepted-found, seen}
 use Rattle.ecma_grammar.proofs.Fronts.{front_run, front-is, front_all}
 use Rattle.ecma_number.specs.PlainNumbers.{AreDigits, fraction_digits, ends_number, goes_on, IsPlain}
-use Rattle.ecma_number.proofs.NumberLaws.{number_decimal, fraction_back, is_letter}
+use Rattle.ecma_number.proofs.NumberLaws.{number_decimal, is_letter}
 use Rattle.ecma_number.proofs.NumberDigits.{all_kept}
 use Rattle.ecma_number.proofs.NumberForms.{number-bytes, number-length}
 use Rattle.ecma_number.proofs.NumberLocal.{name_refusal_none}

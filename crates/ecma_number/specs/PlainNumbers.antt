@@ -4,7 +4,7 @@ use Rattle.std.specs.List.{list_all}
 use Rattle.ecma_place.specs.Text.{Text}
 use Rattle.ecma_place.specs.Character.{is_ident_start}
 use Rattle.ecma_token.specs.declared.token.Radix.TheVariants.{Decimal}
-use Rattle.ecma_grammar.specs.Numbers.{digit, is_legacy, whole_value, number_text, Number, DecimalRun, Fraction, NoFraction, Point, NoExponent}
+use Rattle.ecma_grammar.specs.Numbers.{digit, is_legacy, whole_value, number_text, DecimalRun, Fraction, NoFraction, Point, NoExponent}
 
 -- digits alone, no separator among them
 abbrev pub AreDigits : Text → Type 0
