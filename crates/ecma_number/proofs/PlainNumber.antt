@@ -1,17 +1,19 @@
 -- A plain decimal number is read as it is, and nothing is told of it besides.
-use Rattle.std.proofs.Common.{◌≡◌, ℕ, ◌+◌, ◌-◌, ◌*◌, ◌<◌, ◌≤◌, ◌^◌, Bool, true, false, not, cond, ◌&&◌, ◌||◌, ◌==◌, nat_lt, List, [], ◌∷◌, ◌++◌, take, drop, get_or, length, map, Ok, Option, take-append-drop, length-take-le, length-append, length-drop, drop-cons, add-one, Some, None, refl, sym, ap, ◌∙◌, arith, append_assoc, append-nil, encode_utf8_all, encode_utf8, eqb-true}
+use Rattle.std.proofs.Common.{◌≡◌, ℕ, ◌+◌, ◌-◌, ◌*◌, ◌<◌, ◌≤◌, ◌^◌, Bool, true, false, not, ◌==◌, nat_lt, List, [], ◌∷◌, ◌++◌, take, drop, get_or, length, map, Ok, Option, take-append-drop, length-take-le, length-append, length-drop, drop-cons, drop-drop, add-one, Some, None, refl, sym, ap, ◌∙◌, arith, zero, suc, nat_le, ⊎_elim, lit<, add-zero, append_assoc, append-nil, encode_utf8_all, encode_utf8}
 use borrow.Author.Count.{below_more}
 use Rattle.std.specs.Char.{digit_value}
 use Rattle.std.specs.List.{list_all, list_any, prefix_len}
-use Rattle.std.specs.Str.Parse.{digits_value}
-use Rattle.std.proofs.lemmas.Bool.{and_parts, and_right, not-true}
-use Rattle.std.proofs.lemmas.Bool.Decides.{nat_tests}
-use Rattle.std.proofs.lemmas.Int.Digits.{digits_value_more}
-use Rattle.std.proofs.lemmas.List.{drop_at, get_or-drop}
+use Rattle.std.specs.Str.Parse.{digits_value, AllDigits}
+use Rattle.std.proofs.lemmas.Bool.{true≢false, and_parts, and_right, not-true}
+use Rattle.std.proofs.lemmas.Bool.Decides.{nat_tests, leb_tells}
+use Rattle.std.proofs.lemmas.Int.Digits.{digits_value_more, digits_value-lt}
+use Rattle.std.proofs.lemmas.Int.Digits as Digits
+use Rattle.std.proofs.Math.Nat.{pow-le-pow_right}
+use Rattle.std.proofs.lemmas.List.{drop_at, take_at, get_or-drop}
 use Rattle.std.proofs.lemmas.Grind.{common_steps}
 use Rattle.std.proofs.lemmas.List.Folds.{list_any-append}
 use Rattle.std.proofs.lemmas.List.Sums.{prefix_len_is, prefix_len_stops}
-use Rattle.std.proofs.lemmas.Str.{cons_from_encodes, encode_ascii, digit_value_digit}
+use Rattle.std.proofs.lemmas.Str.{encodes-append, cons_from_encodes, encode_ascii, digit_value_digit}
 use Rattle.std.proofs.lemmas.Str.Parse.{digit_from_value}
 use Rattle.ecma_place.specs.Text.{Text, byte_len}
 use Rattle.ecma_place.specs.Cursor.{Cursor, rest, place, passed, HasPlace, count_within}
@@ -25,11 +27,11 @@ use Rattle.ecma_token.specs.declared.token.Token.{Num}
 use Rattle.ecma_token.specs.declared.token.Radix.TheVariants.{Decimal}
 use Rattle.ecma_grammar.specs.Found.{found_at, token_behind, fault_behind, span_of}
 use Rattle.ecma_grammar.specs.Fronts.{next_passes, next_is, is}
-use Rattle.ecma_grammar.specs.Numbers.{digit, in_run, is_separator, is_exponent_mark, is_legacy, is_octal_run, is_past_octal, Number, DecimalRun, Fraction, NoFraction, Point, NoExponent, fraction_text, number_text, number_parts, behind_number, refusal, fraction, exponent, number, number_token, whole_value, raw_atom, digits_atom, part_faults, fraction_faults, octal_faults, found_number, run_faults, IsRun, IsFraction, IsNumber}
+use Rattle.ecma_grammar.specs.Numbers.{digit, in_run, is_separator, is_exponent_mark, is_legacy, is_octal_run, Number, DecimalRun, Fraction, NoFraction, Point, NoExponent, fraction_text, number_text, number_parts, behind_number, refusal, fraction, number, number_token, whole_value, raw_atom, digits_atom, part_faults, fraction_faults, octal_faults, found_number, IsRun, IsFraction, IsNumber}
 use Rattle.ecma_grammar.proofs.NumberFound.{front-taken, small-token, accepted-found, seen}
-use Rattle.ecma_grammar.proofs.Fronts.{front_run, front-is, front_all}
-use Rattle.ecma_number.specs.PlainNumbers.{AreDigits, fraction_digits, ends_number, goes_on, IsPlain}
-use Rattle.ecma_number.proofs.NumberLaws.{number_decimal, fraction_back, is_letter}
+use Rattle.ecma_grammar.proofs.Fronts.{front_run, front-is, front_all, length-take_while}
+use Rattle.ecma_number.specs.PlainNumbers.{AreDigits, fraction_digits, ends_number, goes_on, IsPlain, StartsPlain}
+use Rattle.ecma_number.proofs.NumberLaws.{number_decimal, is_letter}
 use Rattle.ecma_number.proofs.NumberDigits.{all_kept}
 use Rattle.ecma_number.proofs.NumberForms.{number-bytes, number-length}
 use Rattle.ecma_number.proofs.NumberLocal.{name_refusal_none}
@@ -58,6 +60,37 @@ digits-more bytes count below here = below_more (λ k. digit Decimal (get_or byt
 pub digits-stop : (bytes : List ℕ) (count : ℕ) → count ≤ length bytes → AllBelow bytes count → (count < length bytes → digit Decimal (get_or bytes count 0) ≡ false)
     → count ≡ prefix_len (digit Decimal) bytes
 digits-stop bytes count within below stop = sym (prefix_len_is (digit Decimal) bytes count 0 within below stop)
+
+all-digits : (bytes : List ℕ) (count : ℕ) → count ≤ length bytes → AllBelow bytes count → AllDigits 10 (take count bytes)
+all-digits bytes zero within below = tt
+all-digits bytes (suc k) within below =
+    let last : k + 1 ≡ suc k = omega arith in
+    rw last at (Digits.digits_more 10 bytes k (omega arith) (all-digits bytes k (omega arith) (λ i less. below i (omega arith))) (low_value (get_or bytes k 0) (below k (omega arith))))
+
+-- so large a value has more than 17 digits
+long-value : (bytes : List ℕ) (count value : ℕ) → count ≤ length bytes → AllBelow bytes count → value ≡ digits_value 10 (take count bytes) → 100000000000000000 ≤ value → 18 ≤ count
+long-value bytes count value within below worth long =
+    ⊎_elim
+    (λ (h : (nat_le 18 count ≡ true) × (18 ≤ count)). h.1)
+    (λ (h : (nat_le 18 count ≡ false) × (count < 18)).
+    let low : digits_value 10 (take count bytes) < 10 ^ length (take count bytes) = digits_value-lt 10 (take count bytes) (all-digits bytes count within below) in
+    let here : digits_value 10 (take count bytes) < 10 ^ count = rw (length-take-le count bytes within) at low in
+    let few : count ≤ 17 = omega (arith, h.1) in
+    let bound : 10 ^ count ≤ 100000000000000000 = pow-le-pow_right {n = 10} (lit< tt) few in
+    absurd (omega (arith, here, bound, worth, long)))
+    (leb_tells 18 count)
+
+-- and then one digit more
+pub value-long : (bytes : List ℕ) (count value : ℕ) → count < length bytes → AllBelow bytes count → digit Decimal (get_or bytes count 0) ≡ true
+    → value ≡ digits_value 10 (take count bytes) → 100000000000000000 ≤ value → 18 < prefix_len (digit Decimal) bytes
+value-long bytes count value inside below here worth long =
+    let many : 18 ≤ count = long-value bytes count value (omega arith) below worth long in
+    let n : ℕ = prefix_len (digit Decimal) bytes in
+    ⊎_elim
+    (λ (h : (nat_le n count ≡ true) × (n ≤ count)).
+    absurd (true≢false (sym (digits-more bytes count below here n (omega (arith, h.1))) ∙ prefix_len_stops (digit Decimal) bytes 0 (omega (arith, h.1)))))
+    (λ (h : (nat_le n count ≡ false) × (count < n)). omega (arith, h.1, many))
+    (leb_tells n count)
 
 -- a run of bytes that pass, and the byte behind it
 run-split : (p : ℕ → Bool) (xs : List ℕ) (n : ℕ) → n ≡ prefix_len p xs → n < length xs
@@ -108,18 +141,20 @@ whole-plain bytes count value e worth small unpadded other ends =
     let split = run-split (digit Decimal) bytes count e ends.0 in
     let run : Text = take count bytes in
     record {
-      run = run;
-      fraction = NoFraction;
-      next = get_or bytes count 0;
-      behind = drop (count + 1) bytes;
-      splits = rw append-nil split.0;
+      start = record {
+        run = run;
+        fraction = NoFraction;
+        next = get_or bytes count 0;
+        behind = drop (count + 1) bytes;
+        splits = rw append-nil split.0;
+        digits = split.1;
+        unpadded = unpadded;
+        tail_digits = refl;
+        ends = ends.1;
+        stops = rw (split.2, no_point (get_or bytes count 0) other) refl;
+      };
       reaches = rw append-nil (sym (length-take-le count bytes (omega (arith, ends.0))));
       worth = digits-worth run value split.1 worth small;
-      digits = split.1;
-      unpadded = unpadded;
-      tail_digits = refl;
-      ends = ends.1;
-      stops = rw (split.2, no_point (get_or bytes count 0) other) refl;
     }
 
 -- a slice up to the end
@@ -143,18 +178,20 @@ pointed-plain bytes count more end e unpadded inside point f sum ends =
     let long : length (run ++ (46 ∷ digits)) ≡ end =
     length-append run (46 ∷ digits) ∙ omega (arith, length-take-le count bytes (omega arith), length-take-le more tail (omega arith)) in
     record {
-      run = run;
-      fraction = Point digits;
-      next = get_or tail more 0;
-      behind = drop (more + 1) tail;
-      splits = rw (append-nil digits, append_assoc) parts;
+      start = record {
+        run = run;
+        fraction = Point digits;
+        next = get_or tail more 0;
+        behind = drop (more + 1) tail;
+        splits = rw (append-nil digits, append_assoc) parts;
+        digits = split.1;
+        unpadded = unpadded;
+        tail_digits = behind.1;
+        ends = rw next ends.1;
+        stops = behind.2;
+      };
       reaches = rw append-nil (sym long);
       worth = refl;
-      digits = split.1;
-      unpadded = unpadded;
-      tail_digits = behind.1;
-      ends = rw next ends.1;
-      stops = behind.2;
     }
 
 -- What the byte behind is not
@@ -238,14 +275,14 @@ number-read ts1085 run f c r all unpadded tail none stops =
 -- In the text at a cursor
 
 abbrev pub plain_of : {bytes : List ℕ} {count : ℕ} {whole : Option ℕ} → IsPlain bytes count whole → Number
-plain_of p = DecimalRun p.run p.fraction NoExponent
+plain_of p = DecimalRun p.start.run p.start.fraction NoExponent
 
 fraction-form : (f : Fraction) → fraction_digits f ≡ true → IsFraction f
 fraction-form NoFraction all = tt
 fraction-form (Point run) all = digits-run run all
 
 plain-form : {bytes : List ℕ} {count : ℕ} {whole : Option ℕ} (p : IsPlain bytes count whole) → IsNumber (plain_of p)
-plain-form p = (digits-run p.run p.digits, octal-none p.run p.unpadded, fraction-form p.fraction p.tail_digits, tt)
+plain-form p = (digits-run p.start.run p.start.digits, octal-none p.start.run p.start.unpadded, fraction-form p.start.fraction p.start.tail_digits, tt)
 
 -- a text whose bytes begin with those of another begins with it
 text-split : (a : Text) (bs : List ℕ) (cs : Text) → encode_utf8_all cs ≡ encode_utf8_all a ++ bs → (r : Text) × (cs ≡ a ++ r) × (encode_utf8_all r ≡ bs)
@@ -256,12 +293,12 @@ text-split (x ∷ xs) bs cs e =
     (more.0, first.1 ∙ ap (λ l. x ∷ l) more.1, more.2)
 
 plain-split : {bytes : List ℕ} {count : ℕ} {whole : Option ℕ} (p : IsPlain bytes count whole) (cs : Text) → bytes ≡ encode_utf8_all cs
-    → (r : Text) × (cs ≡ number_text (plain_of p) ++ (p.next ∷ r))
+    → (r : Text) × (cs ≡ number_text (plain_of p) ++ (p.start.next ∷ r))
 plain-split p cs e =
     let text = number_text (plain_of p) in
     let ascii = number-bytes (plain_of p) (plain-form p) in
-    let cut = text-split text (p.next ∷ p.behind) cs (sym e ∙ p.splits ∙ ap (λ l. l ++ (p.next ∷ p.behind)) (sym ascii)) in
-    let last = cons_from_encodes cut.0 p.behind p.next (cut.2 ∙ ap (λ l. l ++ p.behind) (sym (encode_ascii p.next (ends-low p.next p.ends)))) in
+    let cut = text-split text (p.start.next ∷ p.start.behind) cs (sym e ∙ p.start.splits ∙ ap (λ l. l ++ (p.start.next ∷ p.start.behind)) (sym ascii)) in
+    let last = cons_from_encodes cut.0 p.start.behind p.start.next (cut.2 ∙ ap (λ l. l ++ p.start.behind) (sym (encode_ascii p.start.next (ends-low p.start.next p.start.ends)))) in
     (last.0, cut.1 ∙ ap (λ l. text ++ l) last.1)
 
 -- what the grammar finds there
@@ -269,20 +306,20 @@ pub plain-number : {bytes : List ℕ} {count : ℕ} {whole : Option ℕ} (p : Is
     → number ts1085 cs ≡ found_number ts1085 (plain_of p) None
 plain-number p cs ts1085 e =
     let cut = plain-split p cs e in
-    ap (number ts1085) cut.1 ∙ number-read ts1085 p.run p.fraction p.next cut.0 p.digits p.unpadded p.tail_digits (starts-none p.next p.ends) p.stops
+    ap (number ts1085) cut.1 ∙ number-read ts1085 p.start.run p.start.fraction p.start.next cut.0 p.start.digits p.start.unpadded p.start.tail_digits (starts-none p.start.next p.start.ends) p.start.stops
 
 pub plain-front : {bytes : List ℕ} {count : ℕ} {whole : Option ℕ} (p : IsPlain bytes count whole) (cs : Text) → bytes ≡ encode_utf8_all cs
     → take (length (number_text (plain_of p))) cs ≡ number_text (plain_of p)
 plain-front p cs e =
     let cut = plain-split p cs e in
-    front-taken (number_text (plain_of p)) (p.next ∷ cut.0) cs (sym cut.1)
+    front-taken (number_text (plain_of p)) (p.start.next ∷ cut.0) cs (sym cut.1)
 
 pub plain-within : {bytes : List ℕ} {count : ℕ} {whole : Option ℕ} (p : IsPlain bytes count whole) (cs : Text) → bytes ≡ encode_utf8_all cs
     → count_within count cs ≡ length (number_text (plain_of p))
 plain-within p cs e =
     let n : Number = plain_of p in
     let cut = plain-split p cs e in
-    let fits : length (number_text n) ≤ length cs = omega (arith, ap length cut.1, length-append (number_text n) (p.next ∷ cut.0)) in
+    let fits : length (number_text n) ≤ length cs = omega (arith, ap length cut.1, length-append (number_text n) (p.start.next ∷ cut.0)) in
     let bytes : byte_len (take (length (number_text n)) cs) ≡ _ = ap byte_len (plain-front p cs e) ∙ number-length n (plain-form p) ∙ sym p.reaches in
     ap (λ (k : ℕ). count_within k cs) (sym bytes) ∙ count_within-byte_len cs (length (number_text n)) fits
 
@@ -305,7 +342,7 @@ pub plain-token : {bytes : List ℕ} {count : ℕ} {whole : Option ℕ} (p : IsP
     → plain_token (Num raw Decimal digits whole) ≡ number_token (plain_of p)
 plain-token p raw digits e f =
     let n : Number = plain_of p in
-    let none : list_any is_separator (number_text n) ≡ false = list_any-append is_separator p.run (fraction_text p.fraction ++ []) ∙ rw (digits-none p.run p.digits) (no_separator_in p.fraction p.tail_digits) in
+    let none : list_any is_separator (number_text n) ≡ false = list_any-append is_separator p.start.run (fraction_text p.start.fraction ++ []) ∙ rw (digits-none p.start.run p.start.digits) (no_separator_in p.start.fraction p.start.tail_digits) in
     let same : digits_atom (number_text n) ≡ raw_atom n = rw none refl in
     small-token n raw digits Decimal _ refl e refl (f ∙ sym same) p.worth
 
@@ -315,6 +352,100 @@ pub plain-found : {bytes : List ℕ} {count : ℕ} {whole : Option ℕ} (p : IsP
     → found_at token_behind start (found_number ts1085 (plain_of p) None) ≡ seen (Ok token) [] extent
 plain-found p start ts1085 token extent e f =
     let n : Number = plain_of p in
-    let parts : [] ≡ map (fault_behind start) (part_faults n) = ap (map (fault_behind start)) (sym (parts-said p.run p.fraction p.digits p.unpadded p.tail_digits)) in
-    let octals : [] ≡ [] ++ map (fault_behind start) (octal_faults ts1085 n) = ap (map (fault_behind start)) (sym (octal-said ts1085 p.run p.fraction)) in
+    let parts : [] ≡ map (fault_behind start) (part_faults n) = ap (map (fault_behind start)) (sym (parts-said p.start.run p.start.fraction p.start.digits p.start.unpadded p.start.tail_digits)) in
+    let octals : [] ≡ [] ++ map (fault_behind start) (octal_faults ts1085 n) = ap (map (fault_behind start)) (sym (octal-said ts1085 p.start.run p.start.fraction)) in
     sym (accepted-found start ts1085 n None token [] [] extent refl e parts octals f)
+
+-- Each plain number is answered
+
+shape : (bytes : List ℕ) (q : StartsPlain bytes) → bytes ≡ q.run ++ (fraction_text q.fraction ++ (q.next ∷ q.behind))
+shape bytes q =
+    q.splits ∙ append_assoc q.run (fraction_text q.fraction ++ []) (q.next ∷ q.behind) ∙ ap (λ l. q.run ++ l) (append_assoc (fraction_text q.fraction) [] (q.next ∷ q.behind))
+
+run-length : (run tail : Text) → AreDigits run → next_passes (digit Decimal) tail ≡ false → prefix_len (digit Decimal) (run ++ tail) ≡ length run
+run-length run tail all stop =
+    sym (length-take_while (digit Decimal) (run ++ tail)) ∙ ap length (sym (front-is (digit Decimal) (run ++ tail)) ∙ front_run (digit Decimal) run tail all stop)
+
+start-length : (bytes : List ℕ) (q : StartsPlain bytes) (count : ℕ) → count ≡ prefix_len (digit Decimal) bytes → count ≡ length q.run
+start-length bytes q count e =
+    e ∙ ap (prefix_len (digit Decimal)) (shape bytes q)
+    ∙ run-length q.run _ q.digits (behind-begins (digit Decimal) q.fraction q.next q.behind refl (digit-stops q.fraction q.next q.stops))
+
+start-behind : (bytes : List ℕ) (q : StartsPlain bytes) (count : ℕ) → count ≡ prefix_len (digit Decimal) bytes → drop count bytes ≡ fraction_text q.fraction ++ (q.next ∷ q.behind)
+start-behind bytes q count e = ap (drop count) (shape bytes q) ∙ drop_at q.run _ count (sym (start-length bytes q count e))
+
+pub not-long : (bytes : List ℕ) (q : StartsPlain bytes) → length q.run ≤ 18 → 18 < prefix_len (digit Decimal) bytes → ⊥
+not-long bytes q short long = let same = start-length bytes q _ refl in omega arith
+
+some_text : (f : Fraction) (c : ℕ) (cs : Text) → 0 < length (fraction_text f ++ (c ∷ cs))
+some_text NoFraction c cs = omega arith
+some_text (Point run) c cs = omega arith
+
+pub not-ended : (bytes : List ℕ) (q : StartsPlain bytes) (count : ℕ) → count ≡ prefix_len (digit Decimal) bytes → count ≡ length bytes → ⊥
+not-ended bytes q count e all =
+    let left = ap length (start-behind bytes q count e) in
+    omega (arith, left, length-drop count bytes, some_text q.fraction q.next q.behind)
+
+pub not-padded : (bytes : List ℕ) (q : StartsPlain bytes) (count : ℕ) → count ≡ prefix_len (digit Decimal) bytes → is_legacy (take count bytes) ≡ true → ⊥
+not-padded bytes q count e padded =
+    let front : take count bytes ≡ q.run = ap (take count) (shape bytes q) ∙ take_at q.run _ count (sym (start-length bytes q count e)) in
+    true≢false (sym padded ∙ ap is_legacy front ∙ q.unpadded)
+
+next_whole : (f : Fraction) (c : ℕ) (cs xs : Text) → xs ≡ fraction_text f ++ (c ∷ cs) → (get_or xs 0 0 ≡ 46 → ⊥) → get_or xs 0 0 ≡ c
+next_whole NoFraction c cs xs e other = ap (λ l. get_or l 0 0) e
+next_whole (Point run) c cs xs e other = absurd (other (ap (λ l. get_or l 0 0) e))
+
+first-left : (bytes : List ℕ) (count : ℕ) → get_or (drop count bytes) 0 0 ≡ get_or bytes count 0
+first-left bytes count = get_or-drop count bytes 0 0 ∙ ap (λ (i : ℕ). get_or bytes i 0) (add-zero count)
+
+-- without a point
+pub whole-ends : (bytes : List ℕ) (q : StartsPlain bytes) (count : ℕ) → count ≡ prefix_len (digit Decimal) bytes → (get_or bytes count 0 ≡ 46 → ⊥)
+    → (count < length bytes) × (ends_number (get_or bytes count 0) ≡ true)
+whole-ends bytes q count e other =
+    let left = start-behind bytes q count e in
+    let first = first-left bytes count in
+    let next = next_whole q.fraction q.next q.behind _ left (λ point. other (sym first ∙ point)) in
+    (omega (arith, ap length left, length-drop count bytes, some_text q.fraction q.next q.behind), ap ends_number (sym first ∙ next) ∙ q.ends)
+
+pointed_tail : (f : Fraction) (c : ℕ) (cs xs : Text) → xs ≡ fraction_text f ++ (c ∷ cs) → get_or xs 0 0 ≡ 46 → fraction_digits f ≡ true → goes_on f c ≡ false
+    → (digits : Text) × AreDigits digits × (digit Decimal c ≡ false) × (drop 1 xs ≡ digits ++ (c ∷ cs))
+pointed_tail NoFraction c cs xs e point all stops =
+    let same : 46 ≡ c = sym point ∙ ap (λ l. get_or l 0 0) e in
+    let stop = (or_none (digit Decimal c) (c == 46) stops).1 in
+    let none = rw (← same) at stop in
+    cc
+pointed_tail (Point run) c cs xs e point all stops = (run, all, stops, ap (drop 1) e)
+
+-- with a point
+pub pointed-ends : (bytes : List ℕ) (q : StartsPlain bytes) (count more end : ℕ) → count ≡ prefix_len (digit Decimal) bytes → get_or bytes count 0 ≡ 46
+    → more ≡ prefix_len (digit Decimal) (take (length bytes - (count + 1)) (drop (count + 1) bytes)) → end ≡ count + 1 + more
+    → (end < length bytes) × (ends_number (get_or bytes end 0) ≡ true)
+pointed-ends bytes q count more end e point f sum =
+    let left = start-behind bytes q count e in
+    let tail = pointed_tail q.fraction q.next q.behind _ left (first-left bytes count ∙ point) q.tail_digits q.stops in
+    let behind : drop (count + 1) bytes ≡ tail.0 ++ (q.next ∷ q.behind) = sym (drop-drop 1 count bytes) ∙ tail.3 in
+    let long : more ≡ length tail.0 = f ∙ ap (prefix_len (digit Decimal)) (rest-whole bytes (count + 1) ∙ behind) ∙ run-length tail.0 (q.next ∷ q.behind) tail.1 tail.2 in
+    let last : drop end bytes ≡ q.next ∷ q.behind = ap (λ k. drop k bytes) sum ∙ sym (drop-drop more (count + 1) bytes) ∙ ap (drop more) behind ∙ drop_at tail.0 (q.next ∷ q.behind) more (sym long) in
+    (omega (arith, ap length last, length-drop end bytes), ap ends_number (sym (first-left bytes end) ∙ ap (λ l. get_or l 0 0) last) ∙ q.ends)
+
+pub start-encoded : (cs : Text) (q : StartsPlain cs) → let n : Number = DecimalRun q.run q.fraction NoExponent in encode_utf8_all (number_text n ++ (q.next ∷ q.behind)) ≡ number_text n ++ (q.next ∷ encode_utf8_all q.behind)
+start-encoded cs q =
+    let n : Number = DecimalRun q.run q.fraction NoExponent in
+    let form : IsNumber n = (digits-run q.run q.digits, octal-none q.run q.unpadded, fraction-form q.fraction q.tail_digits, tt) in
+    encodes-append (number_text n) (q.next ∷ q.behind) ∙ ap (λ l. l ++ encode_utf8_all (q.next ∷ q.behind)) (number-bytes n form)
+    ∙ ap (λ l. number_text n ++ (l ++ encode_utf8_all q.behind)) (encode_ascii q.next (ends-low q.next q.ends))
+
+-- the bytes of a text that begins with a plain number
+abbrev pub start-bytes : (bytes : List ℕ) (cs : Text) → bytes ≡ encode_utf8_all cs → StartsPlain cs → StartsPlain bytes
+start-bytes bytes cs e q = record {
+  run = q.run;
+  fraction = q.fraction;
+  next = q.next;
+  behind = encode_utf8_all q.behind;
+  splits = e ∙ ap encode_utf8_all q.splits ∙ start-encoded cs q;
+  digits = q.digits;
+  unpadded = q.unpadded;
+  tail_digits = q.tail_digits;
+  ends = q.ends;
+  stops = q.stops;
+}

@@ -4,7 +4,7 @@ use Rattle.std.specs.List.{list_all}
 use Rattle.ecma_place.specs.Text.{Text}
 use Rattle.ecma_place.specs.Character.{is_ident_start}
 use Rattle.ecma_token.specs.declared.token.Radix.TheVariants.{Decimal}
-use Rattle.ecma_grammar.specs.Numbers.{digit, is_legacy, whole_value, number_text, Number, DecimalRun, Fraction, NoFraction, Point, NoExponent}
+use Rattle.ecma_grammar.specs.Numbers.{digit, is_legacy, whole_value, number_text, DecimalRun, Fraction, NoFraction, Point, NoExponent}
 
 -- digits alone, no separator among them
 abbrev pub AreDigits : Text → Type 0
@@ -24,18 +24,22 @@ abbrev pub goes_on : Fraction → ℕ → Bool
 goes_on NoFraction c = digit Decimal c || c == 46
 goes_on (Point run) c = digit Decimal c
 
--- The bytes begin with a number of digits alone, whose first is no zero before others, with a fraction or without. It has
--- this many bytes and this whole value, and ends before a character that neither goes on with it nor begins a name.
-pub record IsPlain (bytes : List ℕ) (count : ℕ) (whole : Option ℕ) : Type 0 where
+-- The text, or its bytes, begins with a number of digits alone, whose first is no zero before others, with a fraction or
+-- without, and behind it stands a character that neither goes on with it nor begins a name.
+pub record StartsPlain (text : List ℕ) : Type 0 where
   pub run : Text
   pub fraction : Fraction
   pub next : ℕ
   pub behind : List ℕ
-  pub splits : bytes ≡ number_text (DecimalRun run fraction NoExponent) ++ (next ∷ behind)
-  pub reaches : count ≡ length (number_text (DecimalRun run fraction NoExponent))
-  pub worth : whole ≡ whole_value (DecimalRun run fraction NoExponent)
+  pub splits : text ≡ number_text (DecimalRun run fraction NoExponent) ++ (next ∷ behind)
   pub digits : AreDigits run
   pub unpadded : is_legacy run ≡ false
   pub tail_digits : fraction_digits fraction ≡ true
   pub ends : ends_number next ≡ true
   pub stops : goes_on fraction next ≡ false
+
+-- The bytes begin with such a number, of this many bytes and this whole value.
+pub record IsPlain (bytes : List ℕ) (count : ℕ) (whole : Option ℕ) : Type 0 where
+  pub start : StartsPlain bytes
+  pub reaches : count ≡ length (number_text (DecimalRun start.run start.fraction NoExponent))
+  pub worth : whole ≡ whole_value (DecimalRun start.run start.fraction NoExponent)

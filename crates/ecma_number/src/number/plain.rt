@@ -1,5 +1,5 @@
 //! Plain decimal numbers, which most numbers are: our own, for speed.
-ghost use Rattle.std.specs.Prelude.{◌≡◌, ◌==◌, ◌||◌, ◌<◌, ◌≤◌, [], Ok, true, false, Bool, length, take, slice_index_or, IfSome, IfNone, IsTrue};
+ghost use Rattle.std.specs.Prelude.{◌≡◌, ◌==◌, ◌||◌, ◌<◌, ◌≤◌, [], Ok, true, false, Bool, length, take, slice_index_or, IfSome, IfNone, IsSome, IsTrue, ◌↔◌};
 ghost use Rattle.std.specs.Char.{is_ascii_alphabetic};
 ghost use Rattle.std.specs.List.{prefix_len};
 ghost use Rattle.std.specs.Str.Parse.{digits_value};
@@ -8,7 +8,7 @@ ghost use Rattle.ecma_token.specs.declared.token.Radix.TheVariants.{Decimal};
 ghost use Rattle.ecma_token.specs.View.{token_view};
 ghost use Rattle.ecma_grammar.specs.Found.{found_at, span_of, token_behind};
 ghost use Rattle.ecma_grammar.specs.Numbers as grammar;
-ghost use Rattle.ecma_number.specs.PlainNumbers.{IsPlain, ends_number};
+ghost use Rattle.ecma_number.specs.PlainNumbers.{IsPlain, StartsPlain, ends_number};
 
 use ecma_place::{Atom, StringInput};
 use ecma_token::{Radix, Token};
@@ -21,13 +21,14 @@ fn is_decimal(b: u8) -> bool
     b.is_ascii_digit()
 }
 
-/// How many decimal digits the bytes begin with, and their value. There is no answer where that may not fit 64 bits, which
-/// 18 digits do.
+/// How many decimal digits the bytes begin with, and their value. There is no answer where that may not fit 64 bits; that
+/// of 18 digits does.
 #[inline(always)]
 fn leading_value(bytes: &[u8]) -> Option<(usize, u64)>
     ensures count { IfSome result (λ r. r.0 ≡ prefix_len (grammar.digit Decimal) bytes.now) }
     ensures value { IfSome result (λ r. r.1 ≡ digits_value 10 (take r.0 bytes.now)) }
     ensures within { IfSome result (λ r. r.0 ≤ length bytes.now) }
+    ensures long { IfNone result (18 < prefix_len (grammar.digit Decimal) bytes.now) }
 {
     let mut value: u64 = 0;
     let mut count = 0;
@@ -83,7 +84,7 @@ fn ends_number(b: u8) -> bool
 /// Whether such a byte stands behind so many.
 #[inline(always)]
 fn ends_at(bytes: &[u8], count: usize) -> bool
-    ensures { IsTrue result → (count < length bytes.now) × (ends_number (slice_index_or bytes.now count 0) ≡ true) }
+    ensures { IsTrue result ↔ (count < length bytes.now) × (ends_number (slice_index_or bytes.now count 0) ≡ true) }
 {
     count < bytes.len() && ends_number(bytes[count])
 }
@@ -91,10 +92,14 @@ fn ends_at(bytes: &[u8], count: usize) -> bool
 /// How many bytes the plain number has that the bytes begin with, and its value where it is whole.
 #[inline(always)]
 fn plain_extent(bytes: &[u8]) -> Option<(usize, Option<u128>)>
-    ensures { IfSome result (λ r. IsPlain bytes.now r.0 r.1) }
+    ensures plain { IfSome result (λ r. IsPlain bytes.now r.0 r.1) }
+    ensures answered { (start : StartsPlain bytes.now) → length start.run ≤ 18 → IsSome result }
 {
     let (count, value) = leading_value(bytes)?;
-    if count == bytes.len() || is_padded(bytes, count) {
+    if count == bytes.len() {
+        return None;
+    }
+    if is_padded(bytes, count) {
         return None;
     }
     if bytes[count] != b'.' {
@@ -112,13 +117,15 @@ fn plain_extent(bytes: &[u8]) -> Option<(usize, Option<u128>)>
     }
 }
 
-/// Moves behind the number at the cursor and answers its token, where it is plain: decimal digits, not more than fit 64
-/// bits and with no zero before others, then perhaps a point and digits, if any, and behind them an ASCII character that
-/// no name begins with (ECMA-262 DecimalLiteral, 12.9.3). [`scan_number`](crate::scan_number) finds the same token, and
-/// has nothing to tell besides.
+/// Moves behind the number at the cursor and answers its token, where it is plain: decimal digits with no zero before
+/// others, whose value fits 64 bits, then perhaps a point and digits, if any, and behind them an ASCII character that no
+/// name begins with (ECMA-262 DecimalLiteral, 12.9.3). [`scan_number`](crate::scan_number) finds the same token, and has
+/// nothing to tell besides.
 ///
-/// Of any other number, and of one that ends the text, there is no answer, and the cursor stands where it stood. The
-/// cursor stands at a digit, or at a point and a digit. No memory is taken.
+/// Each such number with at most 18 digits before its point is answered. Of any other, and of one that ends the text,
+/// there is no answer, and the cursor stands where it stood.
+///
+/// The cursor stands at a digit, or at a point and a digit. No memory is taken.
 #[inline(always)]
 pub fn eat_plain_number<'a>(input: &mut StringInput<'a>) -> Option<Token<'a>>
     requires { grammar.opens_number (rest input.old) ≡ true }
@@ -128,6 +135,7 @@ pub fn eat_plain_number<'a>(input: &mut StringInput<'a>) -> Option<Token<'a>>
     ensures moved { IfSome result (λ _. (ts1085 : Bool) →
         input.new ≡ passed (length (grammar.number ts1085 (rest input.old)).spelling) input.old) }
     ensures same { IfNone result (input.new ≡ input.old) }
+    ensures answered { (start : StartsPlain (rest input.old)) → length start.run ≤ 18 → IsSome result }
 {
     let (count, whole) = plain_extent(input.as_str().as_bytes())?;
     let start = input.cur_pos();

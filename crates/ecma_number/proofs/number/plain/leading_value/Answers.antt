@@ -1,5 +1,5 @@
 use Rattle.std.proofs.Common.{refl, sym, ◌∙◌, arith}
-use Rattle.ecma_number.proofs.PlainNumber.{worth-more, digits-more, digits-stop}
+use Rattle.ecma_number.proofs.PlainNumber.{worth-more, digits-more, digits-stop, value-long}
 use Rattle.ecma_number.proofs.number.plain.leading_value.Goals as goal
 
 pub digits-preserved : goal.digits-preserved
@@ -18,3 +18,8 @@ pub returns-after-digits-clause-count : goal.returns-after-digits-clause-count
 returns-after-digits-clause-count c =
     let inv = c.digits.invariant in
     digits-stop c.args.bytes.now c.digits.count inv.0 inv.2 (λ inside. absurd (omega arith))
+
+pub returns-then-value-ge100000000000000000-clause-long : goal.returns-then-value-ge100000000000000000-clause-long
+returns-then-value-ge100000000000000000-clause-long c =
+    let inv = c.digits.invariant in
+    value-long c.args.bytes.now c.digits.count c.digits.value c.digits-test.true inv.2 (sym c.is_decimal.ensures ∙ c.if-is_decimal.true) inv.1 c.if-value-ge100000000000000000.true
