@@ -25,6 +25,7 @@ pub use Rattle.ecma_escape.specs.NameParts
 pub use Rattle.ecma_escape.specs.PieceParts
 pub use Rattle.ecma_literal.specs.WrittenExpressions
 pub use Rattle.ecma_literal.specs.WrittenTemplates
+pub use Rattle.ecma_number.specs.PlainNumbers
 pub use Rattle.ecma_number.specs.WrittenNumbers
 pub use Rattle.ecma_place.specs.Atom
 pub use Rattle.ecma_place.specs.Character
