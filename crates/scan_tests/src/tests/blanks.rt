@@ -1,47 +1,61 @@
-//! Gaps of which nothing is told but the flag, and words, strings and numbers of which nothing is told besides.
+//! Gaps of which nothing is told but the flag, and words without escapes.
 use ecma_place::{BytePos, StringInput};
 use ecma_scan::{BlankGap, eat_plain_word, scan_blank_gap};
 
-/// A text, whether no token came before, whether comments are collected, and what is told of the gap with which it begins.
-type Row = (&'static str, bool, bool, Option<(bool, u8)>);
+/// A text, whether no token came before, and what is told of the gap with which it begins.
+type Row = (&'static str, bool, Option<(bool, u8)>);
 
-const BLANK_GAPS: [Row; 29] = [
-    ("x", false, true, Some((false, b'x'))),
-    ("x", true, true, Some((true, b'x'))),
-    ("  \tx", false, true, Some((false, b'x'))),
-    (" \n (", false, true, Some((true, b'('))),
-    ("\u{a0}\u{2028};", false, true, Some((true, b';'))),
-    ("-x", false, true, Some((false, b'-'))),
-    ("\n-x", false, true, None),
-    ("=x", true, true, None),
-    (" >", false, true, Some((false, b'>'))),
-    ("\r>", false, true, None),
-    (" /", false, true, Some((false, b'/'))),
-    ("\n/=", false, true, Some((true, b'/'))),
-    (" //x\ny", false, true, None),
-    (" /* */x", false, true, None),
-    ("<", false, true, Some((false, b'<'))),
-    ("<!--", false, true, None),
-    ("é", false, true, None),
-    ("", false, true, None),
-    (" ", true, true, None),
-    ("  \tx", false, false, Some((false, b'x'))),
-    (" /=", false, false, Some((false, b'/'))),
-    (" //x\ny", false, false, Some((true, b'y'))),
-    (" /* */x", false, false, Some((false, b'x'))),
-    ("/*\u{2028}*//**/ ;", false, false, Some((true, b';'))),
-    ("/**/ //", true, false, None),
-    ("/*a", false, false, None),
-    ("/**/<!--", false, false, None),
-    ("/*\r*/-->", false, false, None),
-    ("/**/é", false, false, None),
+const BLANK_GAPS: [Row; 19] = [
+    ("x", false, Some((false, b'x'))),
+    ("x", true, Some((true, b'x'))),
+    ("  \tx", false, Some((false, b'x'))),
+    (" \n (", false, Some((true, b'('))),
+    ("\u{a0}\u{2028};", false, Some((true, b';'))),
+    ("-x", false, Some((false, b'-'))),
+    ("\n-x", false, None),
+    ("=x", true, None),
+    (" >", false, Some((false, b'>'))),
+    ("\r>", false, None),
+    (" /", false, Some((false, b'/'))),
+    ("\n/=", false, Some((true, b'/'))),
+    (" //x\ny", false, None),
+    (" /* */x", false, None),
+    ("<", false, Some((false, b'<'))),
+    ("<!--", false, None),
+    ("é", false, None),
+    ("", false, None),
+    (" ", true, None),
+];
+
+/// The same where comments are not collected.
+const UNCOLLECTED_GAPS: [Row; 10] = [
+    ("  \tx", false, Some((false, b'x'))),
+    (" /=", false, Some((false, b'/'))),
+    (" //x\ny", false, Some((true, b'y'))),
+    (" /* */x", false, Some((false, b'x'))),
+    ("/*\u{2028}*//**/ ;", false, Some((true, b';'))),
+    ("/**/ //", true, None),
+    ("/*a", false, None),
+    ("/**/<!--", false, None),
+    ("/*\r*/-->", false, None),
+    ("/**/é", false, None),
 ];
 
 #[test]
-fn reads_gaps_of_which_nothing_is_told(rt: HostRuntime) {
-    for (text, first, collect, told) in BLANK_GAPS {
+fn reads_gaps_of_white_space(rt: HostRuntime) {
+    for (text, first, told) in BLANK_GAPS {
         let mut input = StringInput::new(text, BytePos(0));
-        let gap = scan_blank_gap(&mut input, first, collect);
+        let gap = scan_blank_gap(&mut input, first, true);
+        let told = told.map(|(line_break, next)| BlankGap { line_break, next });
+        assert_eq!(rt; gap, told, "{text}");
+    }
+}
+
+#[test]
+fn reads_gaps_with_comments_that_are_not_collected(rt: HostRuntime) {
+    for (text, first, told) in UNCOLLECTED_GAPS {
+        let mut input = StringInput::new(text, BytePos(0));
+        let gap = scan_blank_gap(&mut input, first, false);
         let told = told.map(|(line_break, next)| BlankGap { line_break, next });
         assert_eq!(rt; gap, told, "{text}");
     }
