@@ -1,16 +1,22 @@
 -- Gaps of which nothing is to be told but the flag: of white space alone, or with comments of which none is collected.
-use Rattle.std.specs.Prelude.{◌≡◌, Bool, true, false, ◌||◌, ◌&&◌, [], codes, length, slice_get, Option, Some, None, option_map, if◌then◌else◌}
+use Rattle.std.specs.Prelude.{◌≡◌, ◌⊎◌, Bool, true, false, ◌||◌, ◌&&◌, [], codes, length, slice_get, Option, Some, None, option_map, if◌then◌else◌}
 use Rattle.ecma_place.specs.Cursor.{Cursor, ascii_of, rest, place, passed}
-use Rattle.std.specs.List.{list_any}
+use Rattle.std.specs.List.{list_any, take_while}
 use Rattle.ecma_place.specs.Text.{Text}
-use Rattle.ecma_place.specs.Character.{is_line_terminator}
-use Rattle.ecma_grammar.specs.Bars.{common_element}
+use Rattle.ecma_place.specs.Character.{is_line_terminator, is_white_space}
+use Rattle.ecma_grammar.specs.Bars.{common_cutter, common_element}
 use Rattle.ecma_grammar.specs.Pieces.{pieces, spelled}
 use Rattle.ecma_grammar.specs.Comments.{comments_at}
 use Rattle.ecma_grammar.specs.Fronts.{begins_with, next_is}
 use Rattle.ecma_grammar.specs.Gaps.{Element, Blank, LineComment, BlockComment, OpenComment, HtmlOpening, HtmlClosing, Marker, element_text, faults_of, gap_cutter, gap_faults_at, gap_spelling, has_line_break}
 use Rattle.ecma_grammar.specs.declared.gap_mode.GapMode.{GapMode}
 use Rattle.ecma_gap.specs.declared.blank_gap.BlankGap.{BlankGap}
+
+-- what such a gap may consist of: white space, and where comments are not collected, line and block comments, too; one that
+-- nothing ends reaches to the end, where nothing is told
+abbrev pub blank_text : Bool → Text → Text
+blank_text true text = take_while is_white_space text
+blank_text false text = spelled common_cutter (pieces common_cutter tt text)
 
 -- the gap between two cursors holds neither a comment nor a fault
 pub record IsBlankGap (mode : GapMode) (now behind : Cursor) (flag : Bool) : Type 0 where
@@ -50,6 +56,17 @@ pub record PassesComment (now behind : Cursor) (terminator : Bool) : Type 0 wher
   pub ends : is_comment comment ≡ true
   pub holds : terminator ≡ list_any is_line_terminator (element_text comment)
   pub moved : behind ≡ passed (length (element_text comment)) now
+
+-- a comment that nothing ends stands at one cursor, and the other behind it, at the end
+pub record PassesOpenComment (now behind : Cursor) : Type 0 where
+  pub body : Text
+  pub stands : common_element (rest now) ≡ Some (OpenComment body)
+  pub moved : behind ≡ passed (length (element_text (OpenComment body))) now
+  pub at_end : rest behind ≡ []
+
+-- no comment that has its end is passed: neither white space nor a comment stands there, or nothing ends the comment
+abbrev pub PassesNone : Cursor → Cursor → Type 0
+PassesNone now behind = ((behind ≡ now) × (common_element (rest now) ≡ None)) ⊎ PassesOpenComment now behind
 
 -- an element other than white space may begin the text: a comment, or `<!--` or a marker of `<` by their first two
 -- characters, and where the flag stands what one of three characters begins

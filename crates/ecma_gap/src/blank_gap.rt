@@ -1,10 +1,10 @@
 //! Gaps of which nothing is to be told but the flag, before most tokens: our own, for speed.
-ghost use Rattle.std.specs.Prelude.{◌≡◌, ◌<◌, ◌||◌, ℕ, true, Some, drop, slice_get, IfSome};
-ghost use Rattle.std.specs.List.{list_any, prefix_len, take_while};
+ghost use Rattle.std.specs.Prelude.{◌≡◌, ◌<◌, ◌||◌, ℕ, true, Some, drop, length, slice_get, IfSome};
+ghost use Rattle.std.specs.List.{list_any, prefix_len};
 ghost use Rattle.ecma_place.specs.Character.{is_line_terminator, is_white_space};
 ghost use Rattle.ecma_place.specs.Cursor.{passed, rest};
 ghost use Rattle.ecma_grammar.specs.Fronts.{next_is};
-ghost use Rattle.ecma_gap.specs.BlankGaps.{IsTold, may_begin, told_of};
+ghost use Rattle.ecma_gap.specs.BlankGaps.{IsTold, blank_text, may_begin, told_of};
 
 use crate::plain_comments::pass_comments;
 use crate::white_space::skip_white_space;
@@ -73,8 +73,8 @@ pub(crate) fn told_at(input: &StringInput, line_break: bool) -> Option<BlankGap>
 #[inline(always)]
 pub fn scan_blank_gap(input: &mut StringInput, first: bool, collect: bool) -> Option<BlankGap>
     ensures gap { IfSome result (IsTold first collect input.old input.new) }
-    ensures answer { collect ≡ true → result ≡ told_of (first || list_any is_line_terminator (take_while is_white_space (rest input.old)))
-        (rest input.new) }
+    ensures answer { result ≡ told_of (first || list_any is_line_terminator (blank_text collect (rest input.old)))
+        (drop (length (blank_text collect (rest input.old))) (rest input.old)) }
     ensures moved { collect ≡ true → input.new ≡ passed (prefix_len is_white_space (rest input.old)) input.old }
     ensures ahead { (n : ℕ) × (input.new ≡ passed n input.old) }
 {

@@ -1,11 +1,12 @@
 //! Comments of which none is collected, where they begin a gap of which nothing is to be told but the flag: our own, for
 //! speed.
-ghost use Rattle.std.specs.Prelude.{◌≡◌, ◌⊎◌, ℕ, Some, [], true, false, codes, drop, length, slice_get, IfNone, IfSome};
-ghost use Rattle.ecma_place.specs.Character.{is_white_space};
+ghost use Rattle.std.specs.Prelude.{◌≡◌, ◌||◌, ℕ, true, false, codes, drop, length, slice_get, Some, IfNone, IfSome};
+ghost use Rattle.std.specs.List.{list_any};
+ghost use Rattle.ecma_place.specs.Character.{is_line_terminator, is_white_space};
 ghost use Rattle.ecma_place.specs.Cursor.{passed, rest};
 ghost use Rattle.ecma_grammar.specs.declared.gap_mode.GapMode.{GapMode};
 ghost use Rattle.ecma_grammar.specs.Fronts.{begins_with, line, next_passes};
-ghost use Rattle.ecma_gap.specs.BlankGaps.{ArePassed, PassesComment};
+ghost use Rattle.ecma_gap.specs.BlankGaps.{ArePassed, PassesComment, PassesNone, PassesOpenComment, blank_text, told_of};
 
 use crate::blank_gap::{BlankGap, told_at};
 use crate::comment::{skip_body, stands_pair};
@@ -30,7 +31,7 @@ fn pass_block_comment(input: &mut StringInput) -> Option<bool>
     requires opening { begins_with (codes "/*") (rest input.old) ≡ true }
     requires stands { next_passes is_white_space (rest input.old) ≡ false }
     ensures comment { IfSome result (PassesComment input.old input.new) }
-    ensures open { IfNone result (rest input.new ≡ []) }
+    ensures open { IfNone result (PassesOpenComment input.old input.new) }
     ensures ahead { (n : ℕ) × (input.new ≡ passed n input.old) }
 {
     pass(input, 2);
@@ -48,7 +49,7 @@ fn pass_block_comment(input: &mut StringInput) -> Option<bool>
 fn pass_comment(input: &mut StringInput) -> Option<bool>
     requires { next_passes is_white_space (rest input.old) ≡ false }
     ensures comment { IfSome result (PassesComment input.old input.new) }
-    ensures none { IfNone result ((input.new ≡ input.old) ⊎ (rest input.new ≡ [])) }
+    ensures none { IfNone result (PassesNone input.old input.new) }
     ensures ahead { (n : ℕ) × (input.new ≡ passed n input.old) }
 {
     if stands_pair(input, b'/', b'/') {
@@ -68,6 +69,8 @@ pub(crate) fn pass_comments(input: &mut StringInput, flag: bool) -> Option<Blank
     requires { next_passes is_white_space (rest input.old) ≡ false }
     ensures gap { IfSome result (λ gap. (slice_get (rest input.new) 0 ≡ Some gap.next)
         × ((mode : GapMode) → mode.collect ≡ false → ArePassed mode flag input.old input.new gap.line_break)) }
+    ensures answer { result ≡ told_of (flag || list_any is_line_terminator (blank_text false (rest input.old)))
+        (drop (length (blank_text false (rest input.old))) (rest input.old)) }
     ensures ahead { (n : ℕ) × (input.new ≡ passed n input.old) }
 {
     let mut line_break = flag;

@@ -14,7 +14,8 @@ returns-then-stands_pair-clause-ahead c =
     ahead-more _ c.skip_body-terminator.new.input _ (ahead-more _ c.pass.new.input _ (2, c.pass.ensures) (_, c.skip_body-terminator.ensures.moved)) (2, c.pass-then-stands_pair.ensures)
 
 pub returns-else-stands_pair-clause-open : goal.returns-else-stands_pair-clause-open
-returns-else-stands_pair-clause-open c = block-open _ _ _ c.skip_body-terminator.ensures.moved c.stands_pair.ensures c.if-stands_pair.false
+returns-else-stands_pair-clause-open c =
+    block-open _ _ _ _ c.requires.opening c.requires.stands c.pass.ensures c.skip_body-terminator.ensures.moved c.stands_pair.ensures c.if-stands_pair.false
 
 pub returns-else-stands_pair-clause-ahead : goal.returns-else-stands_pair-clause-ahead
 returns-else-stands_pair-clause-ahead c = ahead-more _ c.pass.new.input _ (2, c.pass.ensures) (_, c.skip_body-terminator.ensures.moved)

@@ -1,6 +1,6 @@
 use Rattle.std.proofs.Common.{◌||◌}
 use Rattle.ecma_gap.proofs.ReadingLemmas.{white-stops}
-use Rattle.ecma_gap.proofs.PlainCommentLemmas.{ahead-more, same-comment, same-white, told-passed}
+use Rattle.ecma_gap.proofs.PlainCommentLemmas.{ahead-more, answer-passed, same-comment, same-white, told-passed}
 use Rattle.ecma_gap.proofs.plain_comments.pass_comments.Goals as goal
 
 pub comments-preserved : goal.comments-preserved
@@ -21,6 +21,10 @@ pub returns-clause-gap : goal.returns-clause-gap
 returns-clause-gap c =
     told-passed c.args.flag c.comments.line_break c.args.input.now c.comments.input _ _ c.comments.invariant.from c.comments.invariant.white
     c.in_default.ensures.none c.told_at.ensures
+
+pub returns-clause-answer : goal.returns-clause-answer
+returns-clause-answer c =
+    answer-passed c.args.flag c.comments.line_break c.args.input.now c.comments.input _ _ c.comments.invariant.from c.in_default.ensures.none c.told_at.ensures
 
 pub returns-clause-ahead : goal.returns-clause-ahead
 returns-clause-ahead c = ahead-more _ c.comments.input _ c.comments.invariant.ahead c.pass_comment.ensures.ahead
