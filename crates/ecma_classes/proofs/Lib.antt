@@ -1,0 +1,6 @@
+pub mod ApartLemmas
+pub mod CoverLemmas
+pub mod MemberLemmas
+pub mod OrderLemmas
+pub mod TileLemmas
+pub mod WalkLemmas
