@@ -12,35 +12,14 @@ ghost use Rattle.ecma_state.specs.Run.{at_place, is_free_read, mode_of};
 
 use super::Lexer;
 use crate::plain::{
-    Plain, begins_word, is_lone_dot, is_lone_equals, plain_alone, plain_gap, plain_number,
-    plain_punctuator, plain_string, with_kept, word_behind,
+    Plain, plain_alone, plain_number, plain_punctuator, plain_string, with_kept, word_behind,
 };
 use ecma_place::BytePos;
 use ecma_scan::{BlankGap, PunctuatorKind, eat_plain_kind};
 use ecma_state::opening::Opening;
-use ecma_syntax::{AssignOp, IdentKind, WordKind};
+use ecma_syntax::{IdentKind, WordKind};
 use ecma_token::TokenAndSpan;
 use std::alloc::AllocError;
-
-/// What a quick look at the next token came to.
-#[derive(Clone, Copy)]
-pub(super) enum Quick {
-    /// The token was given.
-    Given,
-    /// Nothing was given, and the lexer stands behind white space alone, which began at this place.
-    Behind(BytePos, BlankGap),
-    /// Nothing is changed.
-    Nothing,
-}
-
-impl Quick {
-    #[inline(always)]
-    fn of(given: bool) -> Quick
-        ensures { result ≡ quick_of given }
-    {
-        if given { Quick::Given } else { Quick::Nothing }
-    }
-}
 
 impl<'a> Lexer<'a> {
     /// Takes in and puts into the slot a token that stands in front of the cursor, and that a read from `before` finds with
@@ -78,7 +57,7 @@ impl<'a> Lexer<'a> {
 
     /// Gives the word at the cursor, where it is written with no escape, and says whether it did.
     #[inline(always)]
-    fn give_word(
+    pub(super) fn give_word(
         &mut self,
         slot: &mut Option<TokenAndSpan<'a>>,
         before: BytePos,
@@ -109,7 +88,7 @@ impl<'a> Lexer<'a> {
 
     /// Gives the punctuator at the cursor, which is the character there alone.
     #[inline(always)]
-    fn give_alone(
+    pub(super) fn give_alone(
         &mut self,
         slot: &mut Option<TokenAndSpan<'a>>,
         before: BytePos,
@@ -124,72 +103,6 @@ impl<'a> Lexer<'a> {
     {
         let plain = plain_alone(&mut self.input, gap, kind);
         self.give(slot, before, plain)
-    }
-
-    /// Gives the word, or the punctuator of one character, that stands at the cursor; before anything else the lexer stays
-    /// there.
-    #[inline(always)]
-    fn give_quick(
-        &mut self,
-        slot: &mut Option<TokenAndSpan<'a>>,
-        before: BytePos,
-        gap: BlankGap,
-    ) -> Result<Quick, AllocError>
-        requires behind { IsBehindGap before self.old gap }
-        ensures came { IfOk result (λ quick. Comes (back_at before self.old) self.new slot.old slot.new quick) }
-        ensures refused { OnErr result (IsRefused self.old self.new slot.old slot.new) }
-        ensures free { length self.old.state.contexts < 128 → IsOk result }
-    {
-        if begins_word(gap.next) {
-            return Ok(Quick::of(self.give_word(slot, before, gap)?));
-        }
-        match gap.next {
-            b'(' => self.give_alone(slot, before, gap, PunctuatorKind::LParen)?,
-            b')' => self.give_alone(slot, before, gap, PunctuatorKind::RParen)?,
-            b'{' => self.give_alone(slot, before, gap, PunctuatorKind::LBrace)?,
-            b'}' => self.give_alone(slot, before, gap, PunctuatorKind::RBrace)?,
-            b'[' => self.give_alone(slot, before, gap, PunctuatorKind::LBracket)?,
-            b']' => self.give_alone(slot, before, gap, PunctuatorKind::RBracket)?,
-            b';' => self.give_alone(slot, before, gap, PunctuatorKind::Semi)?,
-            b',' => self.give_alone(slot, before, gap, PunctuatorKind::Comma)?,
-            b':' => self.give_alone(slot, before, gap, PunctuatorKind::Colon)?,
-            b'.' if is_lone_dot(&self.input) => {
-                self.give_alone(slot, before, gap, PunctuatorKind::Dot)?;
-            }
-            b'=' if is_lone_equals(&self.input) => {
-                let assign = PunctuatorKind::AssignOp(AssignOp::Assign);
-                self.give_alone(slot, before, gap, assign)?;
-            }
-            _ => return Ok(Quick::Behind(before, gap)),
-        }
-        Ok(Quick::Given)
-    }
-
-    /// Passes the white space with which most reads begin, and gives what stands behind it where its first character tells
-    /// what it is.
-    #[inline(always)]
-    pub(super) fn quick_into(
-        &mut self,
-        slot: &mut Option<TokenAndSpan<'a>>,
-    ) -> Result<Quick, AllocError>
-        ensures came { IfOk result (λ quick. Comes self.old self.new slot.old slot.new quick) }
-        ensures refused { OnErr result (IsRefused self.old self.new slot.old slot.new) }
-        ensures free { length self.old.state.contexts < 128 → IsOk result }
-        ensures ended { rest self.old.input ≡ [] → IsOk result }
-    {
-        if self.reads_again() {
-            return Ok(Quick::Nothing);
-        }
-        let stood = self.input.clone()?;
-        let before = self.input.cur_pos();
-        let mode = self.mode();
-        match plain_gap(&mut self.input, &mode) {
-            Some(gap) => self.give_quick(slot, before, gap),
-            None => {
-                self.input = stood;
-                Ok(Quick::Nothing)
-            }
-        }
     }
 
     /// Gives the punctuator at the cursor, if there is one, and says whether it did.
