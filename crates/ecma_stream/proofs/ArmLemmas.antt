@@ -1,6 +1,7 @@
 -- Reads that look at what stands behind white space: the cursor before it, and what an arm gives.
 use Rattle.std.proofs.Common.{◌≡◌, ◌∙◌, ℕ, ◌+◌, ◌-◌, ◌≤◌, Bool, true, false, ◌∷◌, Some, None, length, length-drop, drop, slice_get, sym, subst, ap, arith}
 use Rattle.std.proofs.lemmas.Option.{none-some}
+use Rattle.std.specs.Prelude.{Option, IfSome}
 use Rattle.ecma_place.specs.Cursor.{Cursor, HasPlace, passed, place, rest}
 use Rattle.ecma_place.specs.declared.place.BytePos.{BytePos}
 use Rattle.ecma_place.proofs.MoveLemmas.{place-passed-le}
@@ -142,6 +143,9 @@ pub arm-back : (a : Inside) (l : LexerKept) (before : BytePos) (now : Cursor) (n
 arm-back a l before now n c shows e moved first =
     ap (λ (i : Cursor). let k : LexerKept = record (lexer_view a) { input = i } in k) (at-back a.input now before n c moved e first) ∙ shows
 
+pub here-inside : (a : Inside) (l : LexerKept) (p : BytePos) → lexer_view a ≡ l → p.0 ≡ place l.input → p.0 ≡ place a.input
+here-inside a l p shows here = here ∙ ap (λ k. place k.input) (sym shows)
+
 pub arm-behind : (a : Inside) (l : LexerKept) (mode : Mode) (before : BytePos) (now : Cursor) (gap : BlankGap) → lexer_view a ≡ l → IsLexer a → l.reread ≡ None
     → mode ≡ mode_of (lexer_state l) → before.0 ≡ place a.input → StandsPlain mode a.input now gap → IsBehindGap before (lexer_view (record a { input = now })) gap
 arm-behind a l mode before now gap shows is none by e stands =
@@ -157,3 +161,10 @@ arm-behind a l mode before now gap shows is none by e stands =
           subst (λ (i : Cursor). StandsPlain (mode_of (lexer_state (lexer_view a))) i now gap) (sym back)
           (subst (λ (m : Mode). StandsPlain m a.input now gap) own stands);
     }
+
+-- the first character behind it is the one that the gap tells
+pub gap-first : (o : Option BlankGap) (gap : BlankGap) (before : BytePos) (l : LexerKept) (c : ℕ) → o ≡ Some gap → IfSome o (IsBehindGap before l) → gap.next ≡ c
+    → slice_get (rest l.input) 0 ≡ Some c
+gap-first o gap before l c is holds next =
+    let behind : IsBehindGap before l gap = subst (λ (o : Option BlankGap). IfSome o (IsBehindGap before l)) is holds in
+    behind.stands.next ∙ ap Some next

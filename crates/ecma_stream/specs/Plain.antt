@@ -29,8 +29,6 @@ use Rattle.ecma_state.specs.declared.mode.Mode.{Mode}
 use Rattle.ecma_state.specs.declared.opening.Opening.TheVariants as opens
 use Rattle.ecma_stream.specs.View.{IsGivenAs}
 use Rattle.ecma_stream.specs.declared.plain.Plain.{Plain}
-use Rattle.ecma_stream.specs.declared.lexer.arms.Quick.{Quick}
-use Rattle.ecma_stream.specs.declared.lexer.arms.Quick.TheVariants.{Given, Behind, Nothing}
 
 -- a read that finds this token, and nothing besides
 abbrev pub plain_reading : SpannedView → Cursor → Reading
@@ -96,16 +94,6 @@ abbrev pub Gives : LexerKept → LexerKept → Option TokenAndSpan → Option To
 Gives old now empty slot true =
     (option_map spanned_view slot ≡ (reading_of (lexer_state old)).found) × (lexer_state now ≡ state_behind (lexer_state old) (reading_of (lexer_state old)))
 Gives old now empty slot false = (now ≡ old) × (slot ≡ empty)
-
--- what a quick look comes to: it gives, changes nothing, or stands behind the gap
-abbrev pub Comes : LexerKept → LexerKept → Option TokenAndSpan → Option TokenAndSpan → Quick → Type 0
-Comes old now empty slot Given = Gives old now empty slot true
-Comes old now empty slot (Behind before gap) = (old ≡ back_at before now) × IsBehindGap before now gap × (slot ≡ empty)
-Comes old now empty slot Nothing = Gives old now empty slot false
-
-abbrev pub quick_of : Bool → Quick
-quick_of true = Given
-quick_of false = Nothing
 
 -- nothing is put into a slot, and neither errors nor what the caller set are changed
 pub record IsRefused (old now : LexerKept) (empty left : Option TokenAndSpan) : Type 0 where

@@ -14,12 +14,12 @@ ghost use Rattle.ecma_state.specs.Errors.{errors_view};
 
 mod arms;
 
-use self::arms::Quick;
 use crate::commented::Commented;
+use crate::plain::{begins_word, is_lone_dot, is_lone_equals};
 use crate::tokens::Tokens;
 use ecma_dispatch::read::{Besides, Reading, read_again, read_from};
 use ecma_place::{BytePos, StringInput};
-use ecma_scan::BlankGap;
+use ecma_scan::{BlankGap, PunctuatorKind};
 use ecma_state::comments_buffer::{BufferedComment, CommentsBuffer};
 use ecma_state::error_list::ErrorList;
 use ecma_state::errors::ErrorLists;
@@ -28,7 +28,7 @@ use ecma_state::mode::Mode;
 use ecma_state::settings::Settings;
 use ecma_state::state::State;
 use ecma_state::token_contexts::TokenContexts;
-use ecma_syntax::{Context, EsVersion, Syntax};
+use ecma_syntax::{AssignOp, Context, EsVersion, Syntax};
 use ecma_token::{Error, TokenAndSpan};
 use std::alloc::{AllocError, Global};
 use std::marker::Model;
@@ -306,21 +306,6 @@ impl<'a> Lexer<'a> {
         Ok(found)
     }
 
-    /// The same in a room of its own, which is cleared where this is called: that of a local of the caller would be at the
-    /// caller's start, for most reads in vain.
-    #[inline(always)]
-    fn besides_answer(&mut self) -> Result<Option<TokenAndSpan<'a>>, AllocError>
-        ensures answer { IfOk result (λ answer. option_map spanned_view answer ≡ (reading_of (lexer_state self.old)).found) }
-        ensures after { OnOk result (lexer_state self.new ≡ state_behind (lexer_state self.old) (reading_of (lexer_state self.old))) }
-        ensures kept { OnErr result (self.new.errors ≡ self.old.errors) }
-        ensures given { OnErr result (IsGivenAs self.old self.new) }
-        ensures free { length self.old.state.contexts < 128 → is_free_read (lexer_state self.old) ≡ true → IsOk result }
-        ensures ended { self.old.reread ≡ None → rest self.old.input ≡ [] → IsOk result }
-    {
-        let answer = self.next_with_besides();
-        answer
-    }
-
     /// Reads with all that is found besides the token, which it puts into the slot.
     #[inline(never)]
     fn besides_into(&mut self, slot: &mut Option<TokenAndSpan<'a>>) -> Result<(), AllocError>
@@ -353,24 +338,6 @@ impl<'a> Lexer<'a> {
         }
     }
 
-    /// The same, answered.
-    #[inline(always)]
-    fn other_answer(
-        &mut self,
-        before: BytePos,
-        gap: BlankGap,
-    ) -> Result<Option<TokenAndSpan<'a>>, AllocError>
-        requires behind { IsBehindGap before self.old gap }
-        ensures done { IfOk result (λ answer. Gives (back_at before self.old) self.new None answer true) }
-        ensures kept { OnErr result (self.new.errors ≡ self.old.errors) }
-        ensures given { OnErr result (IsGivenAs self.old self.new) }
-        ensures free { length self.old.state.contexts < 128 → is_free_read (lexer_state (back_at before self.old)) ≡ true → IsOk result }
-    {
-        let mut answer = None;
-        self.other_into(&mut answer, before, gap)?;
-        Ok(answer)
-    }
-
     /// Reads without asking whether memory was refused before.
     #[inline(always)]
     fn next_answer(&mut self) -> Result<Option<TokenAndSpan<'a>>, AllocError>
@@ -381,27 +348,53 @@ impl<'a> Lexer<'a> {
         ensures free { length self.old.state.contexts < 128 → is_free_read (lexer_state self.old) ≡ true → IsOk result }
         ensures ended { self.old.reread ≡ None → rest self.old.input ≡ [] → IsOk result }
     {
-        // What most reads answer. Read into the same place, the rare answer would keep it in memory too.
-        let mut plain = None;
-        match self.quick_into(&mut plain)? {
-            Quick::Given => Ok(plain),
-            Quick::Behind(before, gap) => self.other_answer(before, gap),
-            Quick::Nothing => self.besides_answer(),
-        }
+        let mut answer = None;
+        self.next_into(&mut answer)?;
+        Ok(answer)
     }
 
-    /// Reads into the slot without asking whether memory was refused before.
-    #[inline(always)]
+    /// Reads into the slot without asking whether memory was refused before: one fork on the first character behind the gap.
+    // With all arms in it this is past the size at which a hint to inline is followed, so it is a call, and says so.
+    #[inline(never)]
     fn next_into(&mut self, slot: &mut Option<TokenAndSpan<'a>>) -> Result<(), AllocError>
         ensures done { OnOk result (Gives self.old self.new slot.old slot.new true) }
         ensures refused { OnErr result (IsRefused self.old self.new slot.old slot.new) }
         ensures free { length self.old.state.contexts < 128 → is_free_read (lexer_state self.old) ≡ true → IsOk result }
         ensures ended { self.old.reread ≡ None → rest self.old.input ≡ [] → IsOk result }
     {
-        match self.quick_into(slot)? {
-            Quick::Given => Ok(()),
-            Quick::Behind(before, gap) => self.other_into(slot, before, gap),
-            Quick::Nothing => self.besides_into(slot),
+        if self.reads_again() {
+            return self.besides_into(slot);
+        }
+        let before = self.input.cur_pos();
+        let Some(gap) = self.pass_gap(before)? else {
+            return self.besides_into(slot);
+        };
+        if begins_word(gap.next) {
+            return if self.give_word(slot, before, gap)? {
+                Ok(())
+            } else {
+                self.besides_into(slot)
+            };
+        }
+        // In each arm the kind is a constant, up to and with the change of the state.
+        match gap.next {
+            b'(' => self.give_alone(slot, before, gap, PunctuatorKind::LParen),
+            b')' => self.give_alone(slot, before, gap, PunctuatorKind::RParen),
+            b'{' => self.give_alone(slot, before, gap, PunctuatorKind::LBrace),
+            b'}' => self.give_alone(slot, before, gap, PunctuatorKind::RBrace),
+            b'[' => self.give_alone(slot, before, gap, PunctuatorKind::LBracket),
+            b']' => self.give_alone(slot, before, gap, PunctuatorKind::RBracket),
+            b';' => self.give_alone(slot, before, gap, PunctuatorKind::Semi),
+            b',' => self.give_alone(slot, before, gap, PunctuatorKind::Comma),
+            b':' => self.give_alone(slot, before, gap, PunctuatorKind::Colon),
+            b'.' if is_lone_dot(&self.input) => {
+                self.give_alone(slot, before, gap, PunctuatorKind::Dot)
+            }
+            b'=' if is_lone_equals(&self.input) => {
+                let assign = PunctuatorKind::AssignOp(AssignOp::Assign);
+                self.give_alone(slot, before, gap, assign)
+            }
+            _ => self.other_into(slot, before, gap),
         }
     }
 

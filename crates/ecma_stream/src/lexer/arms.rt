@@ -1,9 +1,9 @@
-//! What stands behind white space, given by its first character: one arm for words, one for each punctuator of one
-//! character, and one for all else of which nothing is to be told besides.
-ghost use Rattle.std.specs.Prelude.{◌≡◌, ◌<◌, ◌≤◌, true, false, None, Some, length, IfOk, IsOk, OnOk, OnErr, []};
+//! The arms of a read, which give what stands behind white space: words, punctuators of one character, and all else of which
+//! nothing is to be told besides.
+ghost use Rattle.std.specs.Prelude.{◌≡◌, ◌<◌, ◌≤◌, true, false, None, Some, length, IfNone, IfOk, IfSome, IsOk, OnOk, OnErr, []};
 ghost use Rattle.ecma_token.specs.View.{spanned_view};
-ghost use Rattle.ecma_place.specs.Cursor.{HasPlace, rest};
-ghost use Rattle.ecma_stream.specs.Plain.{Comes, back_at, Gives, IsAlone, IsBehindGap, IsKept, IsRefused, begins_word, plain_reading, quick_of};
+ghost use Rattle.ecma_place.specs.Cursor.{HasPlace, place, rest};
+ghost use Rattle.ecma_stream.specs.Plain.{back_at, Gives, IsAlone, IsBehindGap, IsKept, IsRefused, begins_word, plain_reading};
 ghost use Rattle.ecma_state.specs.Reading.{reading};
 ghost use Rattle.ecma_state.specs.TokenAt.{opening};
 ghost use Rattle.ecma_state.specs.declared.opening.Opening.TheVariants as opens;
@@ -12,37 +12,38 @@ ghost use Rattle.ecma_state.specs.Run.{at_place, is_free_read, mode_of};
 
 use super::Lexer;
 use crate::plain::{
-    Plain, begins_word, is_lone_dot, is_lone_equals, plain_alone, plain_gap, plain_number,
-    plain_punctuator, plain_string, with_kept, word_behind,
+    Plain, plain_alone, plain_gap, plain_number, plain_punctuator, plain_string, with_kept,
+    word_behind,
 };
 use ecma_place::BytePos;
 use ecma_scan::{BlankGap, PunctuatorKind, eat_plain_kind};
 use ecma_state::opening::Opening;
-use ecma_syntax::{AssignOp, IdentKind, WordKind};
+use ecma_syntax::{IdentKind, WordKind};
 use ecma_token::TokenAndSpan;
 use std::alloc::AllocError;
 
-/// What a quick look at the next token came to.
-#[derive(Clone, Copy)]
-pub(super) enum Quick {
-    /// The token was given.
-    Given,
-    /// Nothing was given, and the lexer stands behind white space alone, which began at this place.
-    Behind(BytePos, BlankGap),
-    /// Nothing is changed.
-    Nothing,
-}
-
-impl Quick {
-    #[inline(always)]
-    fn of(given: bool) -> Quick
-        ensures { result ≡ quick_of given }
-    {
-        if given { Quick::Given } else { Quick::Nothing }
-    }
-}
-
 impl<'a> Lexer<'a> {
+    /// Passes the gap with which a read from here begins, where nothing is to be told of it but the flag; else the lexer stays.
+    #[inline(always)]
+    pub(super) fn pass_gap(&mut self, before: BytePos) -> Result<Option<BlankGap>, AllocError>
+        requires none { self.old.reread ≡ None }
+        requires here { before.0 ≡ place self.old.input }
+        ensures behind { IfOk result (λ gap. IfSome gap (IsBehindGap before self.new)) }
+        ensures back { IfOk result (λ gap. IfSome gap (λ _. back_at before self.new ≡ self.old)) }
+        ensures same { IfOk result (λ gap. IfNone gap (self.new ≡ self.old)) }
+        ensures free { IsOk result }
+    {
+        let stood = self.input.clone()?;
+        let mode = self.mode();
+        match plain_gap(&mut self.input, &mode) {
+            Some(gap) => Ok(Some(gap)),
+            None => {
+                self.input = stood;
+                Ok(None)
+            }
+        }
+    }
+
     /// Takes in and puts into the slot a token that stands in front of the cursor, and that a read from `before` finds with
     /// nothing besides.
     #[inline(always)]
@@ -78,7 +79,7 @@ impl<'a> Lexer<'a> {
 
     /// Gives the word at the cursor, where it is written with no escape, and says whether it did.
     #[inline(always)]
-    fn give_word(
+    pub(super) fn give_word(
         &mut self,
         slot: &mut Option<TokenAndSpan<'a>>,
         before: BytePos,
@@ -109,7 +110,7 @@ impl<'a> Lexer<'a> {
 
     /// Gives the punctuator at the cursor, which is the character there alone.
     #[inline(always)]
-    fn give_alone(
+    pub(super) fn give_alone(
         &mut self,
         slot: &mut Option<TokenAndSpan<'a>>,
         before: BytePos,
@@ -124,72 +125,6 @@ impl<'a> Lexer<'a> {
     {
         let plain = plain_alone(&mut self.input, gap, kind);
         self.give(slot, before, plain)
-    }
-
-    /// Gives the word, or the punctuator of one character, that stands at the cursor; before anything else the lexer stays
-    /// there.
-    #[inline(always)]
-    fn give_quick(
-        &mut self,
-        slot: &mut Option<TokenAndSpan<'a>>,
-        before: BytePos,
-        gap: BlankGap,
-    ) -> Result<Quick, AllocError>
-        requires behind { IsBehindGap before self.old gap }
-        ensures came { IfOk result (λ quick. Comes (back_at before self.old) self.new slot.old slot.new quick) }
-        ensures refused { OnErr result (IsRefused self.old self.new slot.old slot.new) }
-        ensures free { length self.old.state.contexts < 128 → IsOk result }
-    {
-        if begins_word(gap.next) {
-            return Ok(Quick::of(self.give_word(slot, before, gap)?));
-        }
-        match gap.next {
-            b'(' => self.give_alone(slot, before, gap, PunctuatorKind::LParen)?,
-            b')' => self.give_alone(slot, before, gap, PunctuatorKind::RParen)?,
-            b'{' => self.give_alone(slot, before, gap, PunctuatorKind::LBrace)?,
-            b'}' => self.give_alone(slot, before, gap, PunctuatorKind::RBrace)?,
-            b'[' => self.give_alone(slot, before, gap, PunctuatorKind::LBracket)?,
-            b']' => self.give_alone(slot, before, gap, PunctuatorKind::RBracket)?,
-            b';' => self.give_alone(slot, before, gap, PunctuatorKind::Semi)?,
-            b',' => self.give_alone(slot, before, gap, PunctuatorKind::Comma)?,
-            b':' => self.give_alone(slot, before, gap, PunctuatorKind::Colon)?,
-            b'.' if is_lone_dot(&self.input) => {
-                self.give_alone(slot, before, gap, PunctuatorKind::Dot)?;
-            }
-            b'=' if is_lone_equals(&self.input) => {
-                let assign = PunctuatorKind::AssignOp(AssignOp::Assign);
-                self.give_alone(slot, before, gap, assign)?;
-            }
-            _ => return Ok(Quick::Behind(before, gap)),
-        }
-        Ok(Quick::Given)
-    }
-
-    /// Passes the white space with which most reads begin, and gives what stands behind it where its first character tells
-    /// what it is.
-    #[inline(always)]
-    pub(super) fn quick_into(
-        &mut self,
-        slot: &mut Option<TokenAndSpan<'a>>,
-    ) -> Result<Quick, AllocError>
-        ensures came { IfOk result (λ quick. Comes self.old self.new slot.old slot.new quick) }
-        ensures refused { OnErr result (IsRefused self.old self.new slot.old slot.new) }
-        ensures free { length self.old.state.contexts < 128 → IsOk result }
-        ensures ended { rest self.old.input ≡ [] → IsOk result }
-    {
-        if self.reads_again() {
-            return Ok(Quick::Nothing);
-        }
-        let stood = self.input.clone()?;
-        let before = self.input.cur_pos();
-        let mode = self.mode();
-        match plain_gap(&mut self.input, &mode) {
-            Some(gap) => self.give_quick(slot, before, gap),
-            None => {
-                self.input = stood;
-                Ok(Quick::Nothing)
-            }
-        }
     }
 
     /// Gives the punctuator at the cursor, if there is one, and says whether it did.
