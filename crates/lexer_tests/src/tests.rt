@@ -13,6 +13,7 @@ mod items;
 mod listing;
 mod numbers;
 mod played;
+mod reader_texts;
 mod replays;
 mod rereads;
 mod slots;

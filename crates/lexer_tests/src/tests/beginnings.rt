@@ -1,7 +1,9 @@
 //! Beginnings of texts: the text of each row, cut between any two characters, is read to its end.
 use super::listing::Row;
 use super::played::{assert_kept, most_reads, played, push_reads};
-use super::{attached, code, copies, errors, gaps, numbers, strings, templates, words};
+use super::{
+    attached, code, copies, errors, gaps, numbers, reader_texts, strings, templates, words,
+};
 use ecma_lexer::{Kept, Replay, Settings, Step};
 use ecma_place::BytePos;
 use ecma_syntax::{Context, EsSyntax, EsVersion, Syntax, TsSyntax};
@@ -240,4 +242,20 @@ fn beginnings_of_templates_are_read_whole(rt: HostRuntime) -> Result<(), Fail> {
 #[test]
 fn beginnings_of_more_texts_are_read_whole(rt: HostRuntime) -> Result<(), Fail> {
     assert_texts(&rt, rt.alloc(), MORE_TEXTS)
+}
+
+#[test]
+fn beginnings_of_literals_of_readers_are_read_whole(rt: HostRuntime) -> Result<(), Fail> {
+    assert_texts(&rt, rt.alloc(), reader_texts::NUMBERS)?;
+    assert_texts(&rt, rt.alloc(), reader_texts::STRINGS)?;
+    assert_texts(&rt, rt.alloc(), reader_texts::TEMPLATES)?;
+    assert_texts(&rt, rt.alloc(), reader_texts::EXPRESSIONS)
+}
+
+#[test]
+fn beginnings_of_other_texts_of_readers_are_read_whole(rt: HostRuntime) -> Result<(), Fail> {
+    assert_texts(&rt, rt.alloc(), reader_texts::WORDS)?;
+    assert_texts(&rt, rt.alloc(), reader_texts::PUNCTUATORS)?;
+    assert_texts(&rt, rt.alloc(), reader_texts::GAPS)?;
+    assert_texts(&rt, rt.alloc(), reader_texts::BLANKS)
 }

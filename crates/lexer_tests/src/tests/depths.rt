@@ -106,11 +106,12 @@ fn contexts_may_be_many(rt: HostRuntime) -> Result<(), Fail> {
     Ok(())
 }
 
-/// How many of the tokens hold no characters. None is an error.
+/// How many of the tokens hold no characters. Each third one is the opening, none an error.
 fn count_empty(rt: &impl Abort, lexer: &mut Lexer) -> Result<usize, Fail> {
     let mut empty = 0usize;
-    for _ in 0..3000 {
+    for number in 0..3000 {
         let token = next(lexer)?.ok_or("no token")?;
+        assert!(rt; (token.kind == TokenKind::DollarLBrace) == (number % 3 == 2));
         if token.span.lo == token.span.hi {
             empty = empty.saturating_add(1);
         }
