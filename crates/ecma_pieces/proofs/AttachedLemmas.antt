@@ -122,7 +122,7 @@ across_sides : (found : List (Comment × Bool)) → AreApart (own_spans found) �
 across_sides [] apart a b i j previous next = absurd i
 across_sides (c ∷ more) apart a b (inl e) (inl f) previous next =
     let same : a.1 ≡ b.1 = ap (λ (d : Comment × Bool). d.1) (e ∙ sym f) in
-    let never : not true ≡ true = ap not (sym (same ∙ next)) ∙ previous in
+    let never : false ≡ true = ap not (sym (same ∙ next)) ∙ previous in
     cc
 across_sides (c ∷ more) apart a b (inl e) (inr j) previous next =
     subst (λ (d : Comment × Bool). is_apart (own_span d) (own_span b) ≡ true) (sym e) (at_all (is_apart (own_span c)) (own_span b) (own_spans more) apart.0 (in_map own_span b more j))

@@ -95,9 +95,7 @@ one_byte c cs low =
     byte_len-cons c cs ∙ ap (λ k. k + byte_len cs) one
 
 two_bytes : (c d : ℕ) → c < 128 → d < 128 → byte_len (c ∷ d ∷ []) ≡ 2
-two_bytes c d first second =
-    let none : byte_len [] ≡ 0 = refl in
-    omega (arith, one_byte c (d ∷ []) first, one_byte d [] second, none)
+two_bytes c d first second = omega (arith, one_byte c (d ∷ []) first, one_byte d [] second)
 
 three_bytes : (c d e : ℕ) → c < 128 → d < 128 → e < 128 → byte_len (c ∷ d ∷ e ∷ []) ≡ 3
 three_bytes c d e first second third =
@@ -134,8 +132,8 @@ element_stands prev flag behind n (BlockComment body) signs z i =
     to_end n (element_text (BlockComment body)) [] (element_text (BlockComment body)) n refl (omega arith) z i
 element_stands prev flag behind n (OpenComment body) signs z i = absurd i
 element_stands prev flag behind n (HtmlOpening line) signs z i =
-    let none : byte_len [] ≡ 0 = refl in
-    to_end n (element_text (HtmlOpening line)) (60 ∷ []) (codes "!--" ++ line) (n + 1) refl (omega (arith, one_byte 60 [] (omega arith), none)) z i
+    let low : 60 < 128 = omega arith in
+    to_end n (element_text (HtmlOpening line)) (60 ∷ []) (codes "!--" ++ line) (n + 1) refl (ap (λ k. n + k) (sym (one_byte 60 [] low))) z i
 element_stands prev flag behind n (HtmlClosing line) signs z i =
     to_end n (element_text (HtmlClosing line)) (codes "-->") line (n + 3) refl (ap (λ k. n + k) (sym (three_bytes 45 45 62 (omega arith) (omega arith) (omega arith)))) z i
 element_stands prev flag behind n (Marker c line) signs z i = marker_stands n c line signs (c == 61 || c == 62) z i
