@@ -123,11 +123,11 @@ runs_may_be_covered settings input steps =
     let c = has_collected settings input steps in
     let spans = spans_of_comments s.comments in
     record {
-      tokens = all_made (StandsIn input) (spans_of_kept (kept_tokens s)) (λ z i.
+      tokens_stand = all_made (StandsIn input) (spans_of_kept (kept_tokens s)) (λ z i.
       let (t, there, is) = of_kept s z i in
       subst (StandsIn input) (sym is) (kept_lies settings input steps t there));
       in_order = lower input.start (place input) (spans_of_kept (kept_tokens s)) (omega arith) (order_onto (place input) (place s.input) (kept_back s.past) [] k.order tt);
-      comments = all_made (StandsIn input) spans (λ z i. let l = c.each z i in record { from = l.places.0; to = l.places.1; in_order = l.own });
+      comments_stand = all_made (StandsIn input) spans (λ z i. let l = c.each z i in record { from = l.places.0; to = l.places.1; in_order = l.own });
       apart = apart_filter holds_byte spans c.apart;
       inside_or_outside = all_made (LiesWell (token_spans (kept_tokens s))) (comment_spans s.comments) (λ z i.
       let (there, holds) = of_filter holds_byte z spans i in

@@ -15,9 +15,9 @@ use Rattle.ecma_replay.specs.declared.replayed.Replay.{Replay}
 -- The tokens lie in the text of a cursor between places, in order, none over another; the comments lie in it so; no byte
 -- lies in two of them; and each that holds a byte lies in one token or outside all.
 pub record MayBeCovered (c : Cursor) (kept : List Kept) (comments : List BufferedComment) : Type 0 where
-  pub tokens : All (StandsIn c) (spans_of_kept kept)
+  pub tokens_stand : All (StandsIn c) (spans_of_kept kept)
   pub in_order : LieInOrder c.start (spans_of_kept kept)
-  pub comments : All (StandsIn c) (spans_of_comments comments)
+  pub comments_stand : All (StandsIn c) (spans_of_comments comments)
   pub apart : AreApart (comment_spans comments)
   pub inside_or_outside : All (LiesWell (token_spans kept)) (comment_spans comments)
 
