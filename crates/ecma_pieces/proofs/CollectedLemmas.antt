@@ -12,9 +12,8 @@ use Rattle.ecma_token.specs.View.{SpannedView}
 use Rattle.ecma_scan.specs.Expressions.{regular_expression}
 use Rattle.ecma_scan.specs.Found.{found_at, token_behind}
 use Rattle.ecma_state.specs.Contexts.{Contexts}
-use Rattle.ecma_state.specs.Counting.{counting}
 use Rattle.ecma_state.specs.Reading.{Reading, reading, reading_again, spanned}
-use Rattle.ecma_state.specs.Run.{act_on, acted_on, at_place, given_in, mode_of, popped_from, reading_from, reread_from, session, start_of}
+use Rattle.ecma_state.specs.Run.{act_all, act_on, acted_on, at_place, given_in, mode_of, popped_from, reading_from, reread_from, start_of}
 use Rattle.ecma_state.specs.Session.{Again, AtEnd, Past, Plain, Session, kept_back, kept_in, kept_of, kept_state, last_flag, seen_of, state_of}
 use Rattle.ecma_state.specs.State.{around_of, is_slash, last_slash, slash_in}
 use Rattle.ecma_state.specs.declared.settings.Settings.{Settings}
@@ -264,7 +263,8 @@ fold_collected : (input : Cursor) (s : Session) (steps : List Step) → Standing
 fold_collected input s [] k c = c
 fold_collected input s (step ∷ steps) k c = fold_collected input (act_on s step) steps (act_standing input s step k) (act_collected input s step k c)
 
-pub has_collected : (settings : Settings) (input : Cursor) (steps : List Step) → HasCollected input (session settings input steps)
+-- what is collected where steps lead, all of which count
+pub has_collected : (settings : Settings) (input : Cursor) (steps : List Step) → HasCollected input (act_all (start_of settings input) steps)
 has_collected settings input steps =
-    fold_collected input (start_of settings input) (counting steps) (begins_standing settings input)
+    fold_collected input (start_of settings input) steps (begins_standing settings input)
     record { each = λ z i. absurd i; apart = tt; answered = λ p h. cc; again = λ p h. cc }

@@ -8,14 +8,14 @@ use Rattle.ecma_place.specs.Cursor.{Cursor, place}
 use Rattle.ecma_place.specs.declared.place.Span.{Span}
 use Rattle.ecma_token.specs.View.{SpannedView}
 use Rattle.ecma_state.specs.Counting.{counting}
-use Rattle.ecma_state.specs.Run.{session, start_of}
+use Rattle.ecma_state.specs.Run.{act_all, session, start_of}
 use Rattle.ecma_state.specs.Session.{Session, kept_back, kept_of, kept_tokens}
 use Rattle.ecma_state.specs.declared.comments_buffer.BufferedComment.{BufferedComment}
 use Rattle.ecma_state.specs.declared.kept.Kept.{Kept}
 use Rattle.ecma_state.specs.declared.settings.Settings.{Settings}
 use Rattle.ecma_state.specs.declared.step.Step.{Step}
 use Rattle.ecma_laws.specs.Order.{InOrder}
-use Rattle.ecma_laws.proofs.TilingLemmas.{session_standing}
+use Rattle.ecma_laws.proofs.TilingLemmas.{begins_standing, fold_standing}
 use Rattle.ecma_replay.specs.Replay.{Replays}
 use Rattle.ecma_replay.specs.declared.replayed.Replay.{Replay}
 use Rattle.ecma_classes.specs.Classes.{LieInOrder, LiesWell, StandsIn, comment_spans, holds_byte, is_apart, is_inside, spans_of_comments, spans_of_kept, token_spans}
@@ -116,10 +116,12 @@ well s z holds (inr outside) =
 
 -- Laws
 
-pub runs_may_be_covered : RunsMayBeCovered
-runs_may_be_covered settings input steps =
-    let s = session settings input steps in
-    let k = session_standing settings input steps in
+-- where steps lead, all of which count
+pub steps_may_be_covered : (settings : Settings) (input : Cursor) (steps : List Step)
+    → MayBeCovered input (kept_tokens (act_all (start_of settings input) steps)) (act_all (start_of settings input) steps).comments
+steps_may_be_covered settings input steps =
+    let s = act_all (start_of settings input) steps in
+    let k = fold_standing input (start_of settings input) steps (begins_standing settings input) in
     let c = has_collected settings input steps in
     let spans = spans_of_comments s.comments in
     record {
@@ -133,6 +135,9 @@ runs_may_be_covered settings input steps =
       let (there, holds) = of_filter holds_byte z spans i in
       well s z holds (settled (place input) (place s.input) (kept_back s.past) z k.order (c.each z there).among));
     }
+
+pub runs_may_be_covered : RunsMayBeCovered
+runs_may_be_covered settings input steps = steps_may_be_covered settings input (counting steps)
 
 pub replays_may_be_covered : ReplaysMayBeCovered
 replays_may_be_covered settings input steps r replays =

@@ -8,9 +8,8 @@ use Rattle.ecma_scan.specs.Expressions.{regular_expression}
 use Rattle.ecma_scan.specs.Found.{found_at, token_behind}
 use Rattle.ecma_token.specs.View.{SpannedView}
 use Rattle.ecma_state.specs.Contexts.{Contexts}
-use Rattle.ecma_state.specs.Counting.{counting}
 use Rattle.ecma_state.specs.Reading.{reading, reading_again, spanned}
-use Rattle.ecma_state.specs.Run.{act_on, at_place, given_in, mode_of, popped_from, reading_from, reread_from, session, start_of}
+use Rattle.ecma_state.specs.Run.{act_all, act_on, at_place, given_in, mode_of, popped_from, reading_from, reread_from, start_of}
 use Rattle.ecma_state.specs.Session.{Past, Session, kept_back, last_flag, seen_of, state_of}
 use Rattle.ecma_state.specs.State.{last_slash}
 use Rattle.ecma_state.specs.declared.settings.Settings.{Settings}
@@ -116,7 +115,7 @@ one-lies input [] all t i = absurd i
 one-lies input (u ∷ ts) all t (inl e) = subst (λ (v : SpannedView). StandsIn input v.span) (sym e) all.0
 one-lies input (u ∷ ts) all t (inr i) = one-lies input ts all.1 t i
 
--- each token that a list of steps keeps
-pub kept_lies : (settings : Settings) (input : Cursor) (steps : List Step) (t : SpannedView) → IsIn t (kept_back (session settings input steps).past) → StandsIn input t.span
+-- each token that is kept where steps lead, all of which count
+pub kept_lies : (settings : Settings) (input : Cursor) (steps : List Step) (t : SpannedView) → IsIn t (kept_back (act_all (start_of settings input) steps).past) → StandsIn input t.span
 kept_lies settings input steps =
-    one-lies input (kept_back (session settings input steps).past) (all-lie input (start_of settings input) (counting steps) (begins_standing settings input) tt)
+    one-lies input (kept_back (act_all (start_of settings input) steps).past) (all-lie input (start_of settings input) steps (begins_standing settings input) tt)
