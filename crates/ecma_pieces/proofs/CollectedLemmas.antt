@@ -2,9 +2,8 @@
 -- again, as no comment lies behind the slash that was answered last or in it.
 use Rattle.std.proofs.Common.{◌≡◌, ◌∙◌, ℕ, ◌+◌, ◌≤◌, Bool, true, false, List, [], ◌∷◌, ◌++◌, append-nil, drop, Option, Some, None, inl, inr, ⊎_elim, refl, sym, subst, ap, arith}
 use Rattle.std.specs.Prelude.{◌⊎◌, fold, is_some}
-use Rattle.ecma_place.specs.Cursor.{Cursor, HasPlace, place, rest}
+use Rattle.ecma_place.specs.Cursor.{Cursor, place, rest}
 use Rattle.ecma_place.specs.Text.{byte_len}
-use Rattle.ecma_place.specs.declared.comment.Comment.{Comment}
 use Rattle.ecma_place.specs.declared.place.BytePos.{BytePos}
 use Rattle.ecma_place.specs.declared.place.Span.{Span}
 use Rattle.ecma_token.specs.Kinds.{kind_of}
@@ -14,7 +13,7 @@ use Rattle.ecma_scan.specs.Found.{found_at, token_behind}
 use Rattle.ecma_state.specs.Contexts.{Contexts}
 use Rattle.ecma_state.specs.Reading.{Reading, reading, reading_again, spanned}
 use Rattle.ecma_state.specs.Run.{act_all, act_on, acted_on, at_place, given_in, mode_of, popped_from, reading_from, reread_from, start_of}
-use Rattle.ecma_state.specs.Session.{Again, AtEnd, Past, Plain, Session, kept_back, kept_in, kept_of, kept_state, last_flag, seen_of, state_of}
+use Rattle.ecma_state.specs.Session.{Again, Past, Session, kept_back, kept_in, kept_of, kept_state, last_flag, seen_of, state_of}
 use Rattle.ecma_state.specs.State.{around_of, is_slash, last_slash, slash_in}
 use Rattle.ecma_state.specs.declared.settings.Settings.{Settings}
 use Rattle.ecma_state.specs.declared.step.Step.{Step}
@@ -23,11 +22,10 @@ use Rattle.ecma_stream.proofs.EndLemmas.{ReadsOn, reading-on}
 use Rattle.ecma_stream.proofs.SlashLemmas.{again-kind, expression-no-slash, place-there, slash-is}
 use Rattle.ecma_laws.specs.Order.{InOrder}
 use Rattle.ecma_laws.proofs.TilingLemmas.{LastBegins, Standing, act_standing, again-ends, begins_standing}
-use Rattle.ecma_classes.specs.Classes.{AreApart, is_apart, spans_of_comments}
+use Rattle.ecma_classes.specs.Classes.{AreApart, spans_of_comments}
 use Rattle.ecma_classes.proofs.ApartLemmas.{before-apart}
 use Rattle.ecma_classes.proofs.MemberLemmas.{IsIn, in_either}
 use Rattle.ecma_pieces.proofs.AttachedLemmas.{apart_append, apart_between, apart_regrouped, of_regrouped, one_between, regrouped, spans_more}
-use Rattle.ecma_pieces.proofs.ElementPlaces.{own_spans}
 use Rattle.ecma_pieces.proofs.KeptPlaces.{moved_place}
 use Rattle.ecma_pieces.proofs.ReadLemmas.{CommentsLie, HasPlaces, IsBeside, reading_lies}
 

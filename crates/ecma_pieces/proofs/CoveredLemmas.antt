@@ -1,7 +1,7 @@
 -- The tokens and comments of a run lie so that pieces can cover its text.
-use Rattle.std.proofs.Common.{◌≡◌, ◌∙◌, ℕ, ◌<◌, ◌≤◌, Bool, true, List, [], ◌∷◌, inl, inr, ⊎_elim, refl, sym, subst, ap, arith, lt-ltb, ltb-true, le-leb, map}
+use Rattle.std.proofs.Common.{◌≡◌, ◌∙◌, ℕ, ◌<◌, ◌≤◌, true, List, [], ◌∷◌, inl, inr, ⊎_elim, refl, sym, subst, ap, arith, lt-ltb, ltb-true, le-leb, map}
 use Rattle.std.specs.Prelude.{◌⊎◌}
-use Rattle.std.specs.List.{filter, list_all, list_any}
+use Rattle.std.specs.List.{list_all, list_any}
 use mathlib.Core.List.{reverse_aux}
 use Rattle.std.proofs.lemmas.Bool.{and_from, or_left, or_right}
 use Rattle.ecma_place.specs.Cursor.{Cursor, place}
@@ -10,19 +10,16 @@ use Rattle.ecma_token.specs.View.{SpannedView}
 use Rattle.ecma_state.specs.Counting.{counting}
 use Rattle.ecma_state.specs.Run.{act_all, session, start_of}
 use Rattle.ecma_state.specs.Session.{Session, kept_back, kept_of, kept_tokens}
-use Rattle.ecma_state.specs.declared.comments_buffer.BufferedComment.{BufferedComment}
 use Rattle.ecma_state.specs.declared.kept.Kept.{Kept}
 use Rattle.ecma_state.specs.declared.settings.Settings.{Settings}
 use Rattle.ecma_state.specs.declared.step.Step.{Step}
 use Rattle.ecma_laws.specs.Order.{InOrder}
 use Rattle.ecma_laws.proofs.TilingLemmas.{begins_standing, fold_standing}
-use Rattle.ecma_replay.specs.Replay.{Replays}
-use Rattle.ecma_replay.specs.declared.replayed.Replay.{Replay}
 use Rattle.ecma_classes.specs.Classes.{LieInOrder, LiesWell, StandsIn, comment_spans, holds_byte, is_apart, is_inside, spans_of_comments, spans_of_kept, token_spans}
 use Rattle.ecma_classes.proofs.ApartLemmas.{apart_filter, before-apart, behind-apart}
 use Rattle.ecma_classes.proofs.MemberLemmas.{IsIn, all_of, in_filter, of_filter}
 use Rattle.ecma_pieces.specs.Covered.{MayBeCovered, ReplaysMayBeCovered, RunsMayBeCovered}
-use Rattle.ecma_pieces.proofs.CollectedLemmas.{LiesAmong, Lies, has_collected}
+use Rattle.ecma_pieces.proofs.CollectedLemmas.{LiesAmong, has_collected}
 use Rattle.ecma_pieces.proofs.KeptPlaces.{kept_lies}
 use Rattle.ecma_pieces.proofs.ListLemmas.{all_made, any_of, in_map, in_onto, of_map, of_onto}
 
@@ -126,14 +123,14 @@ steps_may_be_covered settings input steps =
     let spans = spans_of_comments s.comments in
     record {
       tokens_stand = all_made (StandsIn input) (spans_of_kept (kept_tokens s)) (λ z i.
-      let (t, there, is) = of_kept s z i in
-      subst (StandsIn input) (sym is) (kept_lies settings input steps t there));
+          let (t, there, is) = of_kept s z i in
+          subst (StandsIn input) (sym is) (kept_lies settings input steps t there));
       in_order = lower input.start (place input) (spans_of_kept (kept_tokens s)) (omega arith) (order_onto (place input) (place s.input) (kept_back s.past) [] k.order tt);
       comments_stand = all_made (StandsIn input) spans (λ z i. let l = c.each z i in record { from = l.places.0; to = l.places.1; in_order = l.own });
       apart = apart_filter holds_byte spans c.apart;
       inside_or_outside = all_made (LiesWell (token_spans (kept_tokens s))) (comment_spans s.comments) (λ z i.
-      let (there, holds) = of_filter holds_byte z spans i in
-      well s z holds (settled (place input) (place s.input) (kept_back s.past) z k.order (c.each z there).among));
+          let (there, holds) = of_filter holds_byte z spans i in
+          well s z holds (settled (place input) (place s.input) (kept_back s.past) z k.order (c.each z there).among));
     }
 
 pub runs_may_be_covered : RunsMayBeCovered

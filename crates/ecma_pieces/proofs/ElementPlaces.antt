@@ -1,8 +1,7 @@
 -- The comments of elements begin and end at places of the text that the elements are.
-use Rattle.std.proofs.Common.{◌≡◌, ◌∙◌, ℕ, zero, suc, ◌+◌, ◌-◌, ◌<◌, drop, Bool, true, false, not, cond, ◌&&◌, ◌||◌, ◌==◌, List, [], ◌∷◌, ◌++◌, append-nil, append_assoc, length, map, take, take_at, Option, Some, None, inl, inr, ⊎_elim, refl, sym, subst, ap, arith, eqb-true}
-use Rattle.std.specs.Prelude.{codes, replicate}
+use Rattle.std.proofs.Common.{◌≡◌, ◌∙◌, ℕ, zero, suc, ◌+◌, ◌-◌, ◌<◌, drop, Bool, true, false, not, cond, ◌&&◌, ◌||◌, ◌==◌, List, [], ◌∷◌, ◌++◌, append-nil, append_assoc, length, map, take, take_at, Option, Some, None, ⊎_elim, refl, sym, subst, ap, arith, eqb-true}
+use Rattle.std.specs.Prelude.{codes}
 use Rattle.std.specs.Char.{len_utf8}
-use Rattle.std.proofs.lemmas.Bool.{and_parts, or_cases}
 use Rattle.std.proofs.lemmas.List.{map-append}
 use Rattle.std.proofs.lemmas.Str.{encode_ascii, length-encode}
 use Rattle.ecma_place.specs.Character.{is_white_space}
@@ -14,12 +13,12 @@ use Rattle.ecma_place.proofs.CursorLemmas.{byte_len-cons}
 use Rattle.ecma_place.proofs.MoveLemmas.{byte_len-append, place-passed}
 use Rattle.ecma_token.specs.declared.kind.TokenKind.{TokenKind}
 use Rattle.ecma_scan.specs.declared.gap_mode.GapMode.{GapMode}
-use Rattle.ecma_scan.specs.Bars.{bars_elements, behind_bars_line, behind_signs, common_cutter, common_element}
+use Rattle.ecma_scan.specs.Bars.{bars_elements, behind_bars_line, common_cutter, common_element}
 use Rattle.ecma_scan.specs.Comments.{behind_element, comment_of, comments_of, paired}
 use Rattle.ecma_scan.specs.Found.{span_of}
 use Rattle.ecma_scan.specs.Fronts.{begins_with, line, next_is}
-use Rattle.ecma_scan.specs.Gaps.{AreElements, Blank, BlockComment, Element, HtmlClosing, HtmlOpening, IsElement, LineComment, Marker, OpenComment, block_of, comment_body, common_or, element_text, elements, end_of, flag_behind, gap, gap_cutter, marks}
-use Rattle.ecma_scan.specs.Pieces.{onward, pieces, pieces_behind, remainder, spelled}
+use Rattle.ecma_scan.specs.Gaps.{AreElements, Blank, BlockComment, Element, HtmlClosing, HtmlOpening, IsElement, LineComment, Marker, OpenComment, block_of, comment_body, element_text, elements, end_of, flag_behind, gap, gap_cutter, marks}
+use Rattle.ecma_scan.specs.Pieces.{onward, pieces_behind, remainder, spelled}
 use Rattle.ecma_scan.proofs.GapForms.{elements_are_ruled}
 use Rattle.ecma_scan.proofs.GapLaws.{gap_cases}
 use Rattle.ecma_classes.proofs.MemberLemmas.{IsIn, in_either}

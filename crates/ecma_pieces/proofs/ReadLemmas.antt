@@ -1,5 +1,5 @@
 -- The comments that a read finds lie in order in what it reads, before its token or inside it.
-use Rattle.std.proofs.Common.{◌≡◌, ◌∙◌, ℕ, ◌+◌, ◌≤◌, Bool, true, false, List, [], ◌∷◌, ◌++◌, drop, take, take_at, take-append-drop, length, Option, Some, None, inl, inr, ⊎_elim, refl, sym, subst, ap, arith}
+use Rattle.std.proofs.Common.{◌≡◌, ◌∙◌, ℕ, ◌+◌, ◌≤◌, Bool, true, false, List, [], ◌∷◌, ◌++◌, drop, take, take_at, take-append-drop, length, Some, None, inl, inr, ⊎_elim, refl, sym, subst, ap, arith}
 use Rattle.std.specs.Prelude.{◌⊎◌}
 use Rattle.std.proofs.lemmas.List.{map-append}
 use Rattle.std.proofs.lemmas.Option.{none-some}
@@ -13,9 +13,9 @@ use Rattle.ecma_token.specs.View.{SpannedView, TokenView}
 use Rattle.ecma_scan.specs.declared.gap_mode.GapMode.{GapMode}
 use Rattle.ecma_scan.specs.Bars.{bars_elements, bars_spelling}
 use Rattle.ecma_scan.specs.Comments.{LieBetween, collected, comments_of}
-use Rattle.ecma_scan.specs.Found.{FoundView, Scanned}
+use Rattle.ecma_scan.specs.Found.{Scanned}
 use Rattle.ecma_scan.specs.GapViews.{GapView}
-use Rattle.ecma_scan.specs.Gaps.{Element, gap, gap_spelling}
+use Rattle.ecma_scan.specs.Gaps.{gap, gap_spelling}
 use Rattle.ecma_scan.specs.Gaps as gaps
 use Rattle.ecma_scan.proofs.CommentLaws.{comments_lie, comments_lie_in_order}
 use Rattle.ecma_scan.proofs.GapLaws.{gap_is_front}
