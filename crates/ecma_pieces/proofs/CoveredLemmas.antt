@@ -10,11 +10,14 @@ use Rattle.ecma_token.specs.View.{SpannedView}
 use Rattle.ecma_state.specs.Counting.{counting}
 use Rattle.ecma_state.specs.Run.{act_all, session, start_of}
 use Rattle.ecma_state.specs.Session.{Session, kept_back, kept_of, kept_tokens}
+use Rattle.ecma_state.specs.declared.comments_buffer.BufferedComment.{BufferedComment}
 use Rattle.ecma_state.specs.declared.kept.Kept.{Kept}
 use Rattle.ecma_state.specs.declared.settings.Settings.{Settings}
 use Rattle.ecma_state.specs.declared.step.Step.{Step}
 use Rattle.ecma_laws.specs.Order.{InOrder}
 use Rattle.ecma_laws.proofs.TilingLemmas.{begins_standing, fold_standing}
+use Rattle.ecma_replay.specs.Replay.{Replays}
+use Rattle.ecma_replay.specs.declared.replayed.Replay.{Replay}
 use Rattle.ecma_classes.specs.Classes.{LieInOrder, LiesWell, StandsIn, comment_spans, holds_byte, is_apart, is_inside, spans_of_comments, spans_of_kept, token_spans}
 use Rattle.ecma_classes.proofs.ApartLemmas.{apart_filter, before-apart, behind-apart}
 use Rattle.ecma_classes.proofs.MemberLemmas.{IsIn, all_of, in_filter, of_filter}
@@ -141,3 +144,10 @@ replays_may_be_covered settings input steps r replays =
     let run = runs_may_be_covered settings input steps in
     let s = session settings input steps in
     subst (λ kept. MayBeCovered input kept r.comments.items) (sym replays.kept) (subst (λ comments. MayBeCovered input (kept_tokens s) comments) (sym replays.comments) run)
+
+-- so does what is seen of it in slices
+pub slices_may_be_covered : (settings : Settings) (input : Cursor) (steps : List Step) (r : Replay) (kept : List Kept) (comments : List BufferedComment)
+    → Replays (start_of settings input) steps r → kept ≡ r.kept.items → comments ≡ r.comments.items → MayBeCovered input kept comments
+slices_may_be_covered settings input steps r kept comments replays same_kept same_comments =
+    let all = replays_may_be_covered settings input steps r replays in
+    subst (λ ks. MayBeCovered input ks comments) (sym same_kept) (subst (λ cs. MayBeCovered input r.kept.items cs) (sym same_comments) all)

@@ -1,6 +1,7 @@
 -- What a run keeps and collects lies in its text so that pieces can cover it.
-use Rattle.std.specs.Prelude.{List}
+use Rattle.std.specs.Prelude.{ℕ, List, length}
 use Rattle.std.specs.List.{All}
+use Rattle.std.specs.Str.{chars}
 use Rattle.ecma_place.specs.Cursor.{Cursor}
 use Rattle.ecma_state.specs.declared.comments_buffer.BufferedComment.{BufferedComment}
 use Rattle.ecma_state.specs.declared.kept.Kept.{Kept}
@@ -8,7 +9,8 @@ use Rattle.ecma_state.specs.declared.settings.Settings.{Settings}
 use Rattle.ecma_state.specs.declared.step.Step.{Step}
 use Rattle.ecma_state.specs.Run.{session, start_of}
 use Rattle.ecma_state.specs.Session.{kept_tokens}
-use Rattle.ecma_classes.specs.Classes.{AreApart, LieInOrder, LiesWell, StandsIn, comment_spans, spans_of_comments, spans_of_kept, token_spans}
+use Rattle.ecma_classes.specs.Classes.{AreApart, LieInOrder, LiesWell, StandsIn, begin, classes_of, comment_spans, spans_of_comments, spans_of_kept, token_spans}
+use Rattle.ecma_classes.specs.declared.piece.Piece.{Piece}
 use Rattle.ecma_replay.specs.Replay.{Replays}
 use Rattle.ecma_replay.specs.declared.replayed.Replay.{Replay}
 
@@ -20,6 +22,11 @@ pub record MayBeCovered (c : Cursor) (kept : List Kept) (comments : List Buffere
   pub comments_stand : All (StandsIn c) (spans_of_comments comments)
   pub apart : AreApart (comment_spans comments)
   pub inside_or_outside : All (LiesWell (token_spans kept)) (comment_spans comments)
+
+-- the pieces that cover a text with these bytes, which starts at a place, of what steps keep and collect of it
+abbrev pub pieces_of : Settings → ℕ → List ℕ → List Step → List Piece
+pieces_of settings start bytes steps =
+    classes_of start (length bytes) (kept_tokens (session settings (begin start (chars bytes)) steps)) (session settings (begin start (chars bytes)) steps).comments
 
 -- Laws
 
