@@ -9,3 +9,4 @@ pub use ecma_laws::laws::{
     punctuators, reading_is_determined, reads_are_free, reads_end, strings, templates,
     tokens_are_few, tokens_are_in_order, tokens_run_out, words,
 };
+pub use ecma_pieces::laws::{replays_may_be_covered, runs_may_be_covered};
