@@ -12,6 +12,7 @@ mod gaps;
 mod items;
 mod listing;
 mod numbers;
+mod pieces;
 mod played;
 mod reader_texts;
 mod replays;
