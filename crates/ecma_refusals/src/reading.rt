@@ -21,14 +21,13 @@ fn copied<'a>(rt: &impl Print, lexer: &Lexer<'a>) -> io::Result<Lexer<'a>> {
     }
 }
 
-/// Whether two lexers have recorded the same errors, which are then taken, and have the same ones waiting.
-fn have_same_errors<'a>(one: &mut Lexer<'a>, other: &mut Lexer<'a>) -> bool {
-    one.take_errors().as_slice() == other.take_errors().as_slice()
-        && one.module_errors() == other.module_errors()
+/// How many errors a lexer has recorded, which are then taken, and how many wait.
+fn count_errors(lexer: &mut Lexer) -> (usize, usize) {
+    (lexer.take_errors().len(), lexer.module_errors().len())
 }
 
 /// Writes what stands behind a refused read: how the same call answers then, whether there is a slash to be read again,
-/// whether comments are handed over, and whether the errors are those from before it.
+/// whether comments are handed over, and whether there are as many errors as before it.
 fn tell_refused<'a>(
     rt: &impl Print,
     alloc: Global,
@@ -47,7 +46,7 @@ fn tell_refused<'a>(
     };
     let handed = hand_comments(lexer, &mut store)?;
     let comments = store.given.len();
-    let same = have_same_errors(lexer, &mut before.copy()?);
+    let same = count_errors(lexer) == count_errors(&mut before.copy()?);
     let name = way.name();
     println!(rt;
         "refused {name}: again {again}, slash {slash}, handed {handed}, comments {comments}, same errors {same}"
