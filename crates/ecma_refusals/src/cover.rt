@@ -1,22 +1,12 @@
 //! Pieces that cover a text.
 use crate::rows::START;
-use ecma_lexer::{Kept, Piece, classes};
-use ecma_place::{BytePos, Span};
-use ecma_token::TokenKind;
+use ecma_lexer::{Piece, classes};
 use std::alloc::{AllocError, Global};
 use std::io;
 
-/// The pieces of a text of white space and one token.
+/// The pieces of a text of which nothing is kept. No tokens and no comments meet what `classes` asks of any.
 fn covered(alloc: Global) -> Result<Vec<Piece>, AllocError> {
-    let token = Kept {
-        kind: TokenKind::Semi,
-        span: Span {
-            lo: START,
-            hi: BytePos(1),
-        },
-        flag: true,
-    };
-    classes(alloc, "; ", START, &[token], &[])
+    classes(alloc, " \n", START, &[], &[])
 }
 
 /// Covers a text with pieces.
