@@ -67,7 +67,10 @@ fn add(
     };
     let same = has_errors(lexer, number)?;
     let given = back.span() == span(number);
-    println!(rt; "refused {}: same errors {same}, error back {given}", added.name())?;
+    println!(rt;
+        "refused {}: same errors {same}, error back {given}",
+        added.name()
+    )?;
     added
         .add(lexer, back)
         .map_err(|_| io::Error::from(io::ErrorKind::OutOfMemory))
