@@ -81,6 +81,7 @@ impl Env for Started<'_> {
 #[derive(Clone, Copy, PartialEq, Eq)]
 enum WhenFull {
     Fails,
+    IsInterrupted,
     TakesNothing,
 }
 
@@ -118,6 +119,9 @@ impl Write for Page {
         let count = free.min(self.most).min(buf.len());
         if count == 0 && self.when_full == WhenFull::Fails {
             return Err(io::Error::from(io::ErrorKind::StorageFull));
+        }
+        if count == 0 && self.when_full == WhenFull::IsInterrupted {
+            return Err(io::Error::from(io::ErrorKind::Interrupted));
         }
         for byte in &buf[..count] {
             if self.taken < PAGE {
@@ -567,21 +571,27 @@ fn takes_all_arguments_but_the_first(rt: HostRuntime) -> Result<(), Fail> {
     assert_taken(&rt, alloc, started, taken)
 }
 
-#[test]
-fn fails_where_a_write_fails(rt: HostRuntime) {
-    for when_full in [WhenFull::Fails, WhenFull::TakesNothing] {
-        let mut reader = b"let x = 1;".as_slice();
-        let mut writer = Page::new(5, PAGE, when_full);
-        assert_eq!(rt; run(rt.alloc(), &[], &mut reader, &mut writer), 1);
-        assert_eq!(rt; writer.held(), b"0 3 l".as_slice());
-    }
-}
+/// An input, how many bytes a page takes in all and at a call, what it does then, and what went out: a beginning of the
+/// lines, or of that of a fault.
+type Cut = (&'static [u8], usize, usize, WhenFull, &'static [u8]);
+
+const CUTS: &[Cut] = &[
+    (b"let x = 1;", 5, PAGE, WhenFull::Fails, b"0 3 l"),
+    (b"let x = 1;", 5, 2, WhenFull::Fails, b"0 3 l"),
+    (b"let x = 1;", 5, PAGE, WhenFull::IsInterrupted, b"0 3 l"),
+    (b"let x = 1;", 5, PAGE, WhenFull::TakesNothing, b"0 3 l"),
+    (b"let x = 1;", 0, PAGE, WhenFull::TakesNothing, b""),
+    (b"\xff", 4, PAGE, WhenFull::Fails, b"not "),
+];
 
 #[test]
-fn fails_where_nothing_is_taken(rt: HostRuntime) {
-    let mut writer = Page::new(0, PAGE, WhenFull::TakesNothing);
-    assert_eq!(rt; run(rt.alloc(), &[], &mut b"a".as_slice(), &mut writer), 1);
-    assert_eq!(rt; writer.held(), b"".as_slice());
+fn fails_where_a_write_fails(rt: HostRuntime) {
+    for (input, room, most, when_full, sent) in CUTS {
+        let mut reader = *input;
+        let mut writer = Page::new(*room, *most, *when_full);
+        let status = run(rt.alloc(), &[], &mut reader, &mut writer);
+        assert_eq!(rt; (status, writer.held()), (1, *sent));
+    }
 }
 
 #[test]

@@ -1,6 +1,8 @@
 //! Rows of the lexer that collects comments: what each comment of a text belongs to.
 use super::comments::Store;
-use super::listing::{COLLECTING, Row, assert_listings, opened, write_next, write_note};
+use super::listing::{
+    COLLECTING, Row, assert_listings, opened, write_comments, write_next, write_note, write_tokens,
+};
 use ecma_lexer::{Lexer, hand_comments};
 use std::alloc::AllocError;
 use std::test::Fail;
@@ -104,6 +106,46 @@ fn write_hand_overs<'a>(
     write_given(out, lexer, store)?;
     store.room = 1;
     write_given(out, lexer, store)
+}
+
+/// Hands the comments over, and writes all that the store has then.
+fn write_stored<'a>(
+    out: &mut String,
+    lexer: &mut Lexer<'a>,
+    store: &mut Store<'a>,
+) -> Result<(), AllocError> {
+    write_given(out, lexer, store)?;
+    write_comments(out, &store.given)
+}
+
+/// Reads to the end, and hands the comments over, once to a store and twice to another.
+fn write_in_two_stores<'a>(
+    out: &mut String,
+    lexer: &mut Lexer<'a>,
+    first: &mut Store<'a>,
+    other: &mut Store<'a>,
+) -> Result<(), AllocError> {
+    write_tokens(out, lexer)?;
+    write_stored(out, lexer, first)?;
+    write_stored(out, lexer, other)?;
+    write_stored(out, lexer, other)
+}
+
+/// A store that refuses its second comment has the first, and the other store the rest, once.
+#[test]
+fn comments_behind_a_refused_one_go_to_the_next_store(rt: HostRuntime) -> Result<(), Fail> {
+    let alloc = rt.alloc();
+    let mut lexer = opened(alloc, COLLECTING, "f() /*a*/ //b")?;
+    let mut out = String::new(alloc);
+    let mut first = Store::new(alloc, 1);
+    write_in_two_stores(&mut out, &mut lexer, &mut first, &mut Store::new(alloc, 9))?;
+    assert_eq!(rt;
+        out.as_str(),
+        "0..1 lf name [f]; 1..2 - LParen; 2..3 - RParen; \
+         refused 1; trailing 3 10..13 Line [b]; \
+         handed 1; trailing 3 4..9 Block [a]; handed 1; trailing 3 4..9 Block [a]"
+    );
+    Ok(())
 }
 
 #[test]

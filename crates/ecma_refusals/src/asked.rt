@@ -1,0 +1,36 @@
+//! The ways in which the next token is asked for.
+use ecma_lexer::Lexer;
+use ecma_token::TokenAndSpan;
+use std::alloc::AllocError;
+
+/// How the next token is asked for.
+#[derive(Clone, Copy)]
+pub enum Way {
+    Read,
+    Next,
+    ReadInto,
+}
+
+impl Way {
+    /// The name of the call.
+    pub fn name(self) -> &'static str {
+        match self {
+            Way::Read => "read",
+            Way::Next => "next",
+            Way::ReadInto => "read_into",
+        }
+    }
+
+    /// Asks for the next token.
+    pub fn ask<'a>(self, lexer: &mut Lexer<'a>) -> Result<Option<TokenAndSpan<'a>>, AllocError> {
+        match self {
+            Way::Read => lexer.read(),
+            Way::Next => lexer.next().transpose(),
+            Way::ReadInto => {
+                let mut slot = None;
+                lexer.read_into(&mut slot)?;
+                Ok(slot)
+            }
+        }
+    }
+}

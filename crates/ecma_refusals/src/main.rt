@@ -1,0 +1,25 @@
+//! Plays texts through each call that takes memory, and writes a line for each answer.
+//!
+//! Where memory is refused a call says in one line what stands behind that; then it is made again, so that all other lines
+//! are those of a run in which nothing is refused. `bench/refusals` refuses each request in turn and compares.
+#![tactic(auto)]
+
+mod asked;
+mod cover;
+mod kept;
+mod reading;
+mod rows;
+mod store;
+mod told;
+mod whole;
+
+use std::io;
+
+fn main(rt: HostRuntime) -> io::Result<()> {
+    let alloc = rt.alloc();
+    reading::play(&rt, alloc)?;
+    kept::play(&rt, alloc)?;
+    whole::play(&rt, alloc)?;
+    cover::play(&rt, alloc)?;
+    told::play(&rt, alloc)
+}
