@@ -1,0 +1,7 @@
+//! Kinds of tokens as numbers.
+#![tactic(auto)]
+
+pub mod laws;
+mod number;
+
+pub use number::kind_number;
