@@ -54,5 +54,5 @@ pub returns-clause-moved : goal.returns-clause-moved
 returns-clause-moved c =
     let text = rest c.args.input.now in
     let number = number_parts text in
-    let same = spelling_is c.args.ts1085 number (refusal number (behind_number number text)) in
+    let same = spelling_is c.args.ts1085 c.args.rule number (refusal c.args.rule number (behind_number number text)) in
     c.read_parts-number.ensures.moved ∙ ap (λ s. passed (length s) c.args.input.now) (sym same)
