@@ -12,9 +12,9 @@ use Rattle.ecma_token.specs.declared.token.Radix.TheVariants.{Decimal}
 use Rattle.ecma_grammar.specs.Found.{Fault}
 use Rattle.ecma_grammar.specs.Fronts.{next_passes}
 use Rattle.ecma_grammar.specs.Locality.{is_always, is_accepted, is_clean, has_clean_faults}
-use Rattle.ecma_grammar.specs.Numbers.{Number, Prefixed, BigRun, OctalRun, DecimalRun, digit, is_separator, is_faulty, seen_behind, faulty_separators, separator_fault, first_run_faults, part_faults, octal_faults, is_big_number, may_not_follow, may_hold_separators, next_refusal, part_refusal, or_else, refusal, found_number, number_parts, behind_number, CleanByBothRules}
+use Rattle.ecma_grammar.specs.Numbers.{Number, Prefixed, BigRun, OctalRun, DecimalRun, digit, is_separator, is_faulty, seen_behind, faulty_separators, separator_fault, first_run_faults, legacy_faults, fraction_faults, exponent_faults, fraction_text, part_faults, octal_faults, is_big_number, may_not_follow, may_hold_separators, next_refusal, part_refusal, or_else, refusal, found_number, number_parts, behind_number, CleanByBothRules}
 use Rattle.ecma_number.proofs.NumberLocal.{clean_none, first_none}
-use Rattle.ecma_number.proofs.RunFaults.{or_none}
+use Rattle.ecma_number.proofs.RunFaults.{none_faulty, or_none}
 
 -- faults of separators count whatever the code is
 none_clean : (places : List ℕ) → has_clean_faults (map separator_fault places) ≡ true → places ≡ []
@@ -24,13 +24,13 @@ none_clean (n ∷ ns) clean = cc
 -- where a run that may hold no separator has no faulty one, it has none that may hold some
 fewer : (radix : Radix) (seen : Bool) (n : ℕ) (run : Text) → faulty_separators false radix seen n run ≡ [] → faulty_separators true radix seen n run ≡ []
 fewer radix seen n [] none = refl
-fewer radix seen n (c ∷ cs) none = go (is_separator c) refl
+fewer radix seen n (c ∷ cs) none = go (is_separator c) refl (fewer radix (seen_behind seen c) (n + byte_len (c ∷ [])) cs)
   where
-    go : (x : Bool) → is_separator c ≡ x → faulty_separators true radix seen n (c ∷ cs) ≡ []
-    go true e = let h = rw e at none in cc
-    go false e =
-        let h = rw e at none in
-        rw e (fewer radix (seen_behind seen c) (n + byte_len (c ∷ [])) cs (rw ← e at h))
+    go : (x : Bool) → is_separator c ≡ x
+        → (faulty_separators false radix (seen_behind seen c) (n + byte_len (c ∷ [])) cs ≡ [] → faulty_separators true radix (seen_behind seen c) (n + byte_len (c ∷ [])) cs ≡ [])
+        → faulty_separators true radix seen n (c ∷ cs) ≡ []
+    go true e more = let h = rw e at none in cc
+    go false e more = rw (none_faulty seen radix c cs e) (more (rw (none_faulty false radix c cs e) at none))
 
 first_run_same : (run : Text) → has_clean_faults (first_run_faults Standard run) ≡ true → first_run_faults Crate run ≡ first_run_faults Standard run
 first_run_same run clean = go (may_hold_separators Standard run) refl
@@ -50,8 +50,9 @@ parts_same : (n : Number) → has_clean_faults (part_faults Standard n) ≡ true
 parts_same (Prefixed radix letter run suffix) clean = refl
 parts_same (BigRun run) clean = first_run_same run clean
 parts_same (OctalRun run) clean = first_run_same run clean
-parts_same (DecimalRun run fraction exponent) clean =
-    ap (λ faults. faults ++ _) (first_run_same run (front_clean (first_run_faults Standard run) _ clean))
+parts_same (DecimalRun run f e) clean =
+    let more : List Fault = legacy_faults run ++ (fraction_faults (byte_len run) f ++ exponent_faults (byte_len (run ++ fraction_text f)) e) in
+    ap (λ faults. faults ++ more) (first_run_same run (front_clean (first_run_faults Standard run) more clean))
 
 -- what may follow by the standard's rule may follow by the crate's
 

@@ -1,5 +1,5 @@
 -- A plain decimal number is read as it is, and nothing is told of it besides.
-use Rattle.std.proofs.Common.{◌≡◌, ℕ, ◌+◌, ◌-◌, ◌*◌, ◌<◌, ◌≤◌, ◌^◌, Bool, true, false, not, ◌==◌, nat_lt, List, [], ◌∷◌, ◌++◌, take, drop, get_or, length, map, Ok, Option, take-append-drop, length-take-le, length-append, length-drop, drop-cons, drop-drop, add-one, Some, None, refl, sym, ap, ◌∙◌, arith, zero, suc, nat_le, ⊎_elim, lit<, add-zero, append_assoc, append-nil, encode_utf8_all, encode_utf8}
+use Rattle.std.proofs.Common.{◌≡◌, ℕ, ◌+◌, ◌-◌, ◌*◌, ◌<◌, ◌≤◌, ◌^◌, Bool, true, false, not, ◌||◌, ◌==◌, nat_lt, List, [], ◌∷◌, ◌++◌, take, drop, get_or, length, map, Ok, Option, take-append-drop, length-take-le, length-append, length-drop, drop-cons, drop-drop, add-one, Some, None, refl, sym, ap, ◌∙◌, arith, zero, suc, nat_le, ⊎_elim, lit<, add-zero, append_assoc, append-nil, encode_utf8_all, encode_utf8}
 use borrow.Author.Count.{below_more}
 use Rattle.std.specs.Char.{digit_value}
 use Rattle.std.specs.List.{list_all, list_any, prefix_len}

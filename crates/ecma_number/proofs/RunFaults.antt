@@ -44,7 +44,7 @@ turn start may radix seen n c cs was now all run e h =
     ap (map (fault_behind start)) (map-append separator_fault one more) ∙ map-append (fault_behind start) (map separator_fault one) (map separator_fault more) in
     rw (e, append_assoc, ← split, ← separators-more may radix seen n c cs run) h
 
-none_faulty : (seen : Bool) (radix : Radix) (c : ℕ) (cs : Text) → is_separator c ≡ false → is_faulty radix seen c cs ≡ false
+pub none_faulty : (seen : Bool) (radix : Radix) (c : ℕ) (cs : Text) → is_separator c ≡ false → is_faulty radix seen c cs ≡ false
 none_faulty seen radix c cs e = rw e refl
 
 pub or_none : (a b : Bool) → (a || b) ≡ false → (a ≡ false) × (b ≡ false)

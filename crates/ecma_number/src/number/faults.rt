@@ -1,5 +1,5 @@
 //! What is wrong with a number that is read all the same.
-ghost use Rattle.std.specs.Prelude.{◌≡◌, ◌<◌, ◌+◌, ◌^◌, ◌++◌, ◌∷◌, [], false, length, map, OnOk, IsOk, if◌then◌else◌};
+ghost use Rattle.std.specs.Prelude.{◌≡◌, ◌<◌, ◌+◌, ◌^◌, ◌++◌, ◌∷◌, ◌&&◌, [], false, length, map, OnOk, IsOk, if◌then◌else◌};
 ghost use Rattle.std.specs.List.{list_any};
 ghost use Rattle.ecma_grammar.specs.Found.{fault_view, fault_behind};
 ghost use Rattle.ecma_token.specs.declared.token.Radix.TheVariants.{Decimal};
@@ -54,11 +54,11 @@ fn begins_with_digit(bytes: &[u8], radix: Radix) -> bool
     }
 }
 
-/// Whether the byte of a run is a separator that does not stand between two digits.
-fn is_faulty(b: u8, seen: bool, behind: &[u8], radix: Radix) -> bool
-    ensures { result ≡ grammar.is_faulty radix seen b behind.now }
+/// Whether the byte of a run is a separator that does not stand between two digits, or stands in a run that may hold none.
+fn is_faulty(b: u8, may: bool, seen: bool, behind: &[u8], radix: Radix) -> bool
+    ensures { result ≡ grammar.is_faulty radix (may && seen) b behind.now }
 {
-    b == b'_' && !(seen && begins_with_digit(behind, radix))
+    b == b'_' && !(may && seen && begins_with_digit(behind, radix))
 }
 
 /// Adds the faults of the separators of a run that starts at the place, in which some may stand or none.
@@ -82,7 +82,7 @@ fn push_separators<'a>(
         push_separator(
             alloc,
             faults,
-            is_faulty(*b, may && seen, behind, radix),
+            is_faulty(*b, may, seen, behind, radix),
             start,
             count,
         )?;

@@ -1,4 +1,4 @@
-use Rattle.std.proofs.Common.{◌≡◌, ◌+◌, ◌++◌, List, map, OnOk, refl, sym, subst, arith, codes, length-append}
+use Rattle.std.proofs.Common.{◌≡◌, ◌+◌, ◌++◌, true, List, map, OnOk, refl, sym, subst, arith, codes, length-append}
 use Rattle.ecma_grammar.specs.Found.{Fault, fault_view}
 use Rattle.ecma_grammar.specs.Numbers.{run_faults, is_separator, fraction_text, exponent_text, suffix_of}
 use Rattle.ecma_number.specs.WrittenNumbers.{fraction_of, exponent_of}
