@@ -1,5 +1,5 @@
 -- A text that is read cleanly by the standard's rule for numbers is read to the same by the crate's.
-use Rattle.std.proofs.Common.{◌≡◌, ◌∙◌, ℕ, Bool, true, false, not, ◌&&◌, ◌||◌, List, [], ◌∷◌, ◌++◌, length, map, Option, Some, None, Result, Ok, Err, refl, sym, ap, subst}
+use Rattle.std.proofs.Common.{◌≡◌, ◌∙◌, ℕ, Bool, true, false, not, ◌&&◌, ◌||◌, List, [], ◌∷◌, length, map, Option, Some, None, Result, Ok, Err, refl, sym, ap, subst}
 use Rattle.std.proofs.lemmas.Bool.{and_parts, not-true}
 use Rattle.std.proofs.lemmas.List.Folds.{list_any-append}
 use Rattle.std.specs.Prelude.{is_some}
@@ -71,12 +71,10 @@ number_reading gap here s = token_reading gap (found_at token_behind (place here
 spoils : (context : Context) (gap : GapView) (here : Cursor) (s : Scanned TokenView) (crate : Reading) → is_clean s ≡ false → IsByRule context (number_reading gap here s) crate
 spoils context gap here s crate h = go s.value refl
   where
-    recorded : Fault → Bool
-    recorded f = is_recorded context f.blame
-
     go : (value : Result TokenView ErrorView) → s.value ≡ value → IsByRule context (number_reading gap here s) crate
     go (Err error) e = Refused _ refl (ap (λ value. not (is_error (kind_of (token_of (value_behind token_behind (place here) value))))) e)
     go (Ok t) e =
+        let recorded : Fault → Bool = λ f. is_recorded context f.blame in
         let faults : has_clean_faults s.faults ≡ false = sym (ap (λ value. is_accepted value && has_clean_faults s.faults) e) ∙ h in
         Faulty (list_any-append recorded gap.faults (map (fault_behind (place here)) s.faults) ∙ or-right (list_any recorded gap.faults) _ (some-always context (place here) s.faults faults))
 
@@ -113,16 +111,16 @@ behind-by-rule : (context : Context) (mode : Mode) (gap : GapView) (here : Curso
 behind-by-rule context mode gap here [] e = Same refl
 behind-by-rule context mode gap here (c ∷ cs) e = opened-by-rule context mode gap here (c ∷ cs) (opening mode gap.line_break (c ∷ cs)) e
 
+code-by-rule : (context : Context) (mode : Mode) (input : Cursor) → mode.settings.numbers ≡ Standard → IsByRule context (reading_code mode input) (reading_code (mode_by_crate mode) input)
+unfolding reading_code
+code-by-rule context mode input e = behind-by-rule context mode (gap_in mode (place input) (rest input)) (behind_gap mode input) (rest (behind_gap mode input)) e
+
 reading-by-rule : (context : Context) (mode : Mode) (input : Cursor) → mode.settings.numbers ≡ Standard → IsByRule context (reading mode input) (reading (mode_by_crate mode) input)
 reading-by-rule context mode input e = go (stands_shebang mode (rest input))
   where
-    code : IsByRule context (reading_code mode input) (reading_code (mode_by_crate mode) input)
-    unfolding reading_code
-    code = behind-by-rule context mode (gap_in mode (place input) (rest input)) (behind_gap mode input) (rest (behind_gap mode input)) e
-
     go : (b : Bool) → IsByRule context (reading_if b mode input) (reading_if b (mode_by_crate mode) input)
     go true = Same refl
-    go false = code
+    go false = code-by-rule context mode input e
 
 next-by-rule : (s : Session) → s.settings.numbers ≡ Standard → IsByRule s.context (reading_of (state_of s)) (reading_of (state_of (session_by Crate s)))
 next-by-rule s e = go s.reread

@@ -202,16 +202,16 @@ seen_behind seen c = seen || not (is_separator c)
 -- how many bytes stand before each faulty separator, of a run that goes on behind n bytes; in one that may hold none each
 -- is faulty
 abbrev pub faulty_separators : Bool → Radix → Bool → ℕ → Text → List ℕ
-faulty_separators may radix seen n [] = []
-faulty_separators may radix seen n (c ∷ cs) =
-    (if is_faulty radix (may && seen) c cs then n ∷ [] else []) ++ faulty_separators may radix (seen_behind seen c) (n + byte_len (c ∷ [])) cs
+faulty_separators allowed radix seen n [] = []
+faulty_separators allowed radix seen n (c ∷ cs) =
+    (if is_faulty radix (allowed && seen) c cs then n ∷ [] else []) ++ faulty_separators allowed radix (seen_behind seen c) (n + byte_len (c ∷ [])) cs
 
 -- a faulty separator behind n bytes of its run; its error reaches from the run's start to it
 abbrev pub separator_fault : ℕ → Fault
 separator_fault n = record { blame = Always; error = error_over (plain NumericSeparatorIsAllowedOnlyBetweenTwoDigits) n }
 
 abbrev pub run_faults : Bool → Radix → Text → List Fault
-run_faults may radix run = map separator_fault (faulty_separators may radix false 0 run)
+run_faults allowed radix run = map separator_fault (faulty_separators allowed radix false 0 run)
 
 -- what is said of the decimal run that begins a number
 abbrev pub first_run_faults : NumberRule → Text → List Fault
@@ -391,11 +391,11 @@ NumberIsRead = (parts : Number) (r : Text) → IsNumber parts → separates r �
 -- A separator in a run is faulty unless the run may hold some, a digit of it stands before, and one comes next.
 abbrev pub SeparatorIsFaulty : Type 0
 SeparatorIsFaulty =
-    (may : Bool) (radix : Radix) (before next : Text) → IsRun radix before
-    → faulty_separators may radix false 0 (before ++ (95 ∷ next))
-    ≡ faulty_separators may radix false 0 before
-    ++ ((if (may && list_any (digit radix) before) && next_passes (digit radix) next then [] else byte_len before ∷ [])
-    ++ faulty_separators may radix (list_any (digit radix) before) (byte_len before + 1) next)
+    (allowed : Bool) (radix : Radix) (before next : Text) → IsRun radix before
+    → faulty_separators allowed radix false 0 (before ++ (95 ∷ next))
+    ≡ faulty_separators allowed radix false 0 before
+    ++ ((if (allowed && list_any (digit radix) before) && next_passes (digit radix) next then [] else byte_len before ∷ [])
+    ++ faulty_separators allowed radix (list_any (digit radix) before) (byte_len before + 1) next)
 
 -- A number that is read cleanly is read the same at the end of the text and in front of a space or a line feed.
 abbrev pub NumberIsLocal : Type 0

@@ -1,18 +1,17 @@
 -- A number that is read cleanly by the standard's rule is read the same by the crate's.
-use Rattle.std.proofs.Common.{◌≡◌, ℕ, ◌+◌, Bool, true, false, not, ◌&&◌, ◌||◌, ◌==◌, List, [], ◌∷◌, ◌++◌, map, Option, Some, None, refl, sym, ap, ◌∙◌}
+use Rattle.std.proofs.Common.{◌≡◌, ℕ, ◌+◌, Bool, true, false, not, ◌||◌, ◌==◌, List, [], ◌∷◌, ◌++◌, map, None, refl, sym, ap, ◌∙◌}
 use Rattle.std.specs.List.{list_all}
 use Rattle.std.proofs.lemmas.Bool.{and_parts, and_right}
 use Rattle.std.proofs.lemmas.List.Folds.{list_all-append}
 use Rattle.ecma_place.specs.Text.{Text, byte_len}
 use Rattle.ecma_place.specs.Character.{is_ident_start}
 use Rattle.ecma_syntax.specs.declared.settings.NumberRule.TheVariants.{Crate, Standard}
-use Rattle.ecma_token.specs.View.{ErrorView}
 use Rattle.ecma_token.specs.declared.token.Radix.{Radix}
 use Rattle.ecma_token.specs.declared.token.Radix.TheVariants.{Decimal}
 use Rattle.ecma_grammar.specs.Found.{Fault}
 use Rattle.ecma_grammar.specs.Fronts.{next_passes}
-use Rattle.ecma_grammar.specs.Locality.{is_always, is_accepted, is_clean, has_clean_faults}
-use Rattle.ecma_grammar.specs.Numbers.{Number, Prefixed, BigRun, OctalRun, DecimalRun, digit, is_separator, is_faulty, seen_behind, faulty_separators, separator_fault, first_run_faults, legacy_faults, fraction_faults, exponent_faults, fraction_text, part_faults, octal_faults, is_big_number, may_not_follow, may_hold_separators, next_refusal, part_refusal, or_else, refusal, found_number, number_parts, behind_number, CleanByBothRules}
+use Rattle.ecma_grammar.specs.Locality.{is_always, is_clean, has_clean_faults}
+use Rattle.ecma_grammar.specs.Numbers.{Number, Prefixed, BigRun, OctalRun, DecimalRun, digit, is_separator, seen_behind, faulty_separators, separator_fault, first_run_faults, legacy_faults, fraction_faults, exponent_faults, fraction_text, part_faults, octal_faults, is_big_number, may_not_follow, may_hold_separators, next_refusal, part_refusal, refusal, found_number, number_parts, behind_number, CleanByBothRules}
 use Rattle.ecma_number.proofs.NumberLocal.{clean_none, first_none}
 use Rattle.ecma_number.proofs.RunFaults.{none_faulty, or_none}
 
@@ -35,7 +34,7 @@ fewer radix seen n (c ∷ cs) none = go (is_separator c) refl (fewer radix (seen
 first_run_same : (run : Text) → has_clean_faults (first_run_faults Standard run) ≡ true → first_run_faults Crate run ≡ first_run_faults Standard run
 first_run_same run clean = go (may_hold_separators Standard run) refl
   where
-    go : (may : Bool) → may_hold_separators Standard run ≡ may → first_run_faults Crate run ≡ first_run_faults Standard run
+    go : (allowed : Bool) → may_hold_separators Standard run ≡ allowed → first_run_faults Crate run ≡ first_run_faults Standard run
     go true e = rw e refl
     go false e =
         let none = none_clean (faulty_separators false Decimal false 0 run) (rw e at clean) in

@@ -1,5 +1,5 @@
 -- Why a number is refused, as its readers say it.
-use Rattle.std.proofs.Common.{◌≡◌, ◌<◌, ℕ, ◌+◌, ◌^◌, true, false, [], ◌∷◌, ◌++◌, inl, length, Option, Some, None, option_map, refl, ap, ◌∙◌, arith, length-append}
+use Rattle.std.proofs.Common.{◌≡◌, ◌<◌, ℕ, ◌+◌, ◌^◌, true, [], ◌∷◌, ◌++◌, inl, length, Option, Some, None, option_map, refl, ap, ◌∙◌, arith, length-append}
 use Rattle.ecma_place.specs.Text.{Text, byte_len}
 use Rattle.ecma_place.specs.declared.place.Span.{Span}
 use Rattle.ecma_syntax.specs.declared.settings.NumberRule.{NumberRule}

@@ -20,10 +20,10 @@ use Rattle.ecma_grammar.proofs.RunReading.{run-ascii, run-bytes}
 one_byte : (radix : Radix) (c : ℕ) → in_run radix c ≡ true → byte_len (c ∷ []) ≡ 1
 one_byte radix c h = ap (λ bytes. length (bytes ++ [])) (encode_ascii c (run-ascii radix c h))
 
-pub separators-more : (may : Bool) (radix : Radix) (seen : Bool) (n : ℕ) (c : ℕ) (cs : Text) → IsRun radix (c ∷ cs)
-    → faulty_separators may radix seen n (c ∷ cs) ≡ cond (is_faulty radix (may && seen) c cs) (n ∷ []) [] ++ faulty_separators may radix (seen_behind seen c) (n + 1) cs
-separators-more may radix seen n c cs run =
-    ap (λ k. cond (is_faulty radix (may && seen) c cs) (n ∷ []) [] ++ faulty_separators may radix (seen_behind seen c) (n + k) cs) (one_byte radix c (and_parts (in_run radix c) (list_all (in_run radix) cs) run).0)
+pub separators-more : (allowed : Bool) (radix : Radix) (seen : Bool) (n : ℕ) (c : ℕ) (cs : Text) → IsRun radix (c ∷ cs)
+    → faulty_separators allowed radix seen n (c ∷ cs) ≡ cond (is_faulty radix (allowed && seen) c cs) (n ∷ []) [] ++ faulty_separators allowed radix (seen_behind seen c) (n + 1) cs
+separators-more allowed radix seen n c cs run =
+    ap (λ k. cond (is_faulty radix (allowed && seen) c cs) (n ∷ []) [] ++ faulty_separators allowed radix (seen_behind seen c) (n + k) cs) (one_byte radix c (and_parts (in_run radix c) (list_all (in_run radix) cs) run).0)
 
 pub run-behind : (radix : Radix) (c : ℕ) (cs : Text) → IsRun radix (c ∷ cs) → IsRun radix cs
 run-behind radix c cs run = (and_parts (in_run radix c) (list_all (in_run radix) cs) run).1
@@ -33,16 +33,16 @@ abbrev pub said : ℕ → List ℕ → List Fault
 said n places = map (fault_behind n) (map separator_fault places)
 
 -- one turn of a loop over the bytes
-pub turn : (start : ℕ) (may : Bool) (radix : Radix) (seen : Bool) (n : ℕ) (c : ℕ) (cs : Text) (was now all : List Fault) → IsRun radix (c ∷ cs)
-    → now ≡ was ++ said start (cond (is_faulty radix (may && seen) c cs) (n ∷ []) [])
-    → was ++ said start (faulty_separators may radix seen n (c ∷ cs)) ≡ all
-    → now ++ said start (faulty_separators may radix (seen_behind seen c) (n + 1) cs) ≡ all
-turn start may radix seen n c cs was now all run e h =
-    let one : List ℕ = cond (is_faulty radix (may && seen) c cs) (n ∷ []) [] in
-    let more : List ℕ = faulty_separators may radix (seen_behind seen c) (n + 1) cs in
+pub turn : (start : ℕ) (allowed : Bool) (radix : Radix) (seen : Bool) (n : ℕ) (c : ℕ) (cs : Text) (was now all : List Fault) → IsRun radix (c ∷ cs)
+    → now ≡ was ++ said start (cond (is_faulty radix (allowed && seen) c cs) (n ∷ []) [])
+    → was ++ said start (faulty_separators allowed radix seen n (c ∷ cs)) ≡ all
+    → now ++ said start (faulty_separators allowed radix (seen_behind seen c) (n + 1) cs) ≡ all
+turn start allowed radix seen n c cs was now all run e h =
+    let one : List ℕ = cond (is_faulty radix (allowed && seen) c cs) (n ∷ []) [] in
+    let more : List ℕ = faulty_separators allowed radix (seen_behind seen c) (n + 1) cs in
     let split : said start (one ++ more) ≡ said start one ++ said start more =
     ap (map (fault_behind start)) (map-append separator_fault one more) ∙ map-append (fault_behind start) (map separator_fault one) (map separator_fault more) in
-    rw (e, append_assoc, ← split, ← separators-more may radix seen n c cs run) h
+    rw (e, append_assoc, ← split, ← separators-more allowed radix seen n c cs run) h
 
 pub none_faulty : (seen : Bool) (radix : Radix) (c : ℕ) (cs : Text) → is_separator c ≡ false → is_faulty radix seen c cs ≡ false
 none_faulty seen radix c cs e = rw e refl
@@ -51,14 +51,14 @@ pub or_none : (a b : Bool) → (a || b) ≡ false → (a ≡ false) × (b ≡ fa
 or_none true b e = cc
 or_none false b e = (refl, e)
 
-pub no_separators : (may : Bool) (radix : Radix) (seen : Bool) (n : ℕ) (run : Text) → list_any is_separator run ≡ false → faulty_separators may radix seen n run ≡ []
-no_separators may radix seen n [] e = refl
-no_separators may radix seen n (c ∷ cs) e =
+pub no_separators : (allowed : Bool) (radix : Radix) (seen : Bool) (n : ℕ) (run : Text) → list_any is_separator run ≡ false → faulty_separators allowed radix seen n run ≡ []
+no_separators allowed radix seen n [] e = refl
+no_separators allowed radix seen n (c ∷ cs) e =
     let parts = or_none (is_separator c) (list_any is_separator cs) e in
-    rw (none_faulty (may && seen) radix c cs parts.0) (no_separators may radix (seen_behind seen c) (n + byte_len (c ∷ [])) cs parts.1)
+    rw (none_faulty (allowed && seen) radix c cs parts.0) (no_separators allowed radix (seen_behind seen c) (n + byte_len (c ∷ [])) cs parts.1)
 
-pub none_said : (start : ℕ) (may : Bool) (radix : Radix) (run : Text) (was : List Fault) → list_any is_separator run ≡ false → was ≡ was ++ map (fault_behind start) (run_faults may radix run)
-none_said start may radix run was e = rw (no_separators may radix false 0 run e) (sym (append-nil was))
+pub none_said : (start : ℕ) (allowed : Bool) (radix : Radix) (run : Text) (was : List Fault) → list_any is_separator run ≡ false → was ≡ was ++ map (fault_behind start) (run_faults allowed radix run)
+none_said start allowed radix run was e = rw (no_separators allowed radix false 0 run e) (sym (append-nil was))
 
 -- the bytes of parts are their characters, and no separator stands in a part of a text without one
 

@@ -553,7 +553,12 @@ fn reads_numbers_by_the_standard(rt: HostRuntime) -> Result<(), Fail> {
                 0,
                 b"recorded 0 1 A numeric separator is only allowed between two digits\n",
             ),
-            (&["comments", "standard"], b"/**/1n2", 0, b"leading 4 0 4 block \n"),
+            (
+                &["comments", "standard"],
+                b"/**/1n2",
+                0,
+                b"leading 4 0 4 block \n",
+            ),
             (&["canon", "standard"], b"0b12", 4, b"not clean\n"),
             (&["canon", "standard"], b"0b1 2", 0, b"0b1 2"),
             (&["tokens", "standard", "standard"], b"", 2, b"bad words\n"),

@@ -55,10 +55,10 @@ fn begins_with_digit(bytes: &[u8], radix: Radix) -> bool
 }
 
 /// Whether the byte of a run is a separator that does not stand between two digits, or stands in a run that may hold none.
-fn is_faulty(b: u8, may: bool, seen: bool, behind: &[u8], radix: Radix) -> bool
-    ensures { result ≡ grammar.is_faulty radix (may && seen) b behind.now }
+fn is_faulty(b: u8, allowed: bool, seen: bool, behind: &[u8], radix: Radix) -> bool
+    ensures { result ≡ grammar.is_faulty radix (allowed && seen) b behind.now }
 {
-    b == b'_' && !(may && seen && begins_with_digit(behind, radix))
+    b == b'_' && !(allowed && seen && begins_with_digit(behind, radix))
 }
 
 /// Adds the faults of the separators of a run that starts at the place, in which some may stand or none.
@@ -68,12 +68,12 @@ fn push_separators<'a>(
     run: &str,
     radix: Radix,
     start: BytePos,
-    may: bool,
+    allowed: bool,
 ) -> Result<(), AllocError>
     requires fits { start.0 + length run.now < 2 ^ 32 }
     requires run { grammar.IsRun radix run.now }
     ensures { OnOk result (map fault_view faults.new.items ≡ map fault_view faults.old.items
-        ++ map (fault_behind start.0) (grammar.run_faults may radix run.now)) }
+        ++ map (fault_behind start.0) (grammar.run_faults allowed radix run.now)) }
 {
     let mut seen = false;
     let mut count = 0;
@@ -82,7 +82,7 @@ fn push_separators<'a>(
         push_separator(
             alloc,
             faults,
-            is_faulty(*b, may, seen, behind, radix),
+            is_faulty(*b, allowed, seen, behind, radix),
             start,
             count,
         )?;
@@ -100,16 +100,16 @@ pub(super) fn push_run_faults<'a>(
     run: &str,
     radix: Radix,
     start: BytePos,
-    may: bool,
+    allowed: bool,
 ) -> Result<(), AllocError>
     requires fits { start.0 + length run.now < 2 ^ 32 }
     requires run { grammar.IsRun radix run.now }
     ensures faults { OnOk result (map fault_view faults.new.items ≡ map fault_view faults.old.items
-        ++ map (fault_behind start.0) (grammar.run_faults may radix run.now)) }
+        ++ map (fault_behind start.0) (grammar.run_faults allowed radix run.now)) }
     ensures free { list_any grammar.is_separator run.now ≡ false → IsOk result }
 {
     if has_separator(run) {
-        push_separators(alloc, faults, run, radix, start, may)?;
+        push_separators(alloc, faults, run, radix, start, allowed)?;
     }
     Ok(())
 }
@@ -190,7 +190,14 @@ fn push_fraction_faults<'a>(
     match fraction {
         WrittenFraction::Pointless => Ok(()),
         WrittenFraction::Pointed(run) => {
-            push_run_faults(alloc, faults, run, Radix::Decimal, BytePos(start.0 + 1), true)
+            push_run_faults(
+                alloc,
+                faults,
+                run,
+                Radix::Decimal,
+                BytePos(start.0 + 1),
+                true,
+            )
         }
     }
 }

@@ -65,7 +65,7 @@ fn is_padded(bytes: &[u8], count: usize) -> bool
     count > 1 && bytes[0] == b'0'
 }
 
-/// Whether a name begins with the ASCII character, or it is a backslash.
+/// Whether a name begins with the ASCII character, or an escape.
 #[inline(always)]
 fn is_start(b: u8) -> bool
     ensures { result ≡ (((b == 36 || b == 95) || is_ascii_alphabetic b) || b == 92) }
@@ -73,7 +73,7 @@ fn is_start(b: u8) -> bool
     b == b'$' || b == b'_' || b.is_ascii_alphabetic() || b == b'\\'
 }
 
-/// Whether the byte is an ASCII character that begins no name, and no backslash.
+/// Whether the byte is an ASCII character with which neither a name begins nor an escape.
 #[inline(always)]
 #[tactic(auto, unfolding(ecma_place::specs::Character::is_ident_start))]
 fn ends_number(b: u8) -> bool
@@ -119,8 +119,8 @@ fn plain_extent(bytes: &[u8]) -> Option<(usize, Option<u128>)>
 }
 
 /// Moves behind the number at the cursor and answers its token, where it is plain: decimal digits with no zero before
-/// others, whose value fits 64 bits, then perhaps a point and digits, if any, and behind them an ASCII character that no
-/// name begins with, and no backslash (ECMA-262 DecimalLiteral, 12.9.3). By each rule
+/// others, whose value fits 64 bits, then perhaps a point and digits, if any, and behind them an ASCII character with which
+/// neither a name begins nor an escape (ECMA-262 DecimalLiteral, 12.9.3). By each rule
 /// [`scan_number`](crate::scan_number) finds the same token, and has nothing to tell besides.
 ///
 /// Each such number with at most 18 digits before its point is answered. Of any other, and of one that ends the text,

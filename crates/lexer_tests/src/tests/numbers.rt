@@ -128,8 +128,16 @@ const ROWS_BY_RULE: &[Row] = &[
          recorded 0..2 A numeric separator is only allowed between two digits; \
          waiting 0..4 Legacy decimal escape is not permitted in strict mode",
     ),
-    (PLAIN, "1_0", "0..3 lf Num [1_0] Decimal owned [10] Some(10)"),
-    (STANDARD, "1_0", "0..3 lf Num [1_0] Decimal owned [10] Some(10)"),
+    (
+        PLAIN,
+        "1_0",
+        "0..3 lf Num [1_0] Decimal owned [10] Some(10)",
+    ),
+    (
+        STANDARD,
+        "1_0",
+        "0..3 lf Num [1_0] Decimal owned [10] Some(10)",
+    ),
     (
         PLAIN,
         "0_",

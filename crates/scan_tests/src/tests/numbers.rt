@@ -246,11 +246,7 @@ fn ends_where_another_number_or_a_name_begins(rt: HostRuntime) -> Result<(), Fai
 
 /// Each with the rule it is read by.
 const NUMBERS_BY_RULE: [(&str, NumberRule, &str); 16] = [
-    (
-        "0b12",
-        NumberRule::Crate,
-        "0..3 Num Binary borrowed 1 = 1",
-    ),
+    ("0b12", NumberRule::Crate, "0..3 Num Binary borrowed 1 = 1"),
     ("0b12", NumberRule::Standard, "0..3 IdentAfterNum 3..3"),
     (
         "0b1 2",
@@ -266,11 +262,7 @@ const NUMBERS_BY_RULE: [(&str, NumberRule, &str); 16] = [
         NumberRule::Crate,
         "0..1 Num Decimal borrowed 3 = 3",
     ),
-    (
-        "3\\u0061",
-        NumberRule::Standard,
-        "0..1 IdentAfterNum 1..1",
-    ),
+    ("3\\u0061", NumberRule::Standard, "0..1 IdentAfterNum 1..1"),
     (
         "0_1",
         NumberRule::Crate,
@@ -311,12 +303,7 @@ const NUMBERS_BY_RULE: [(&str, NumberRule, &str); 16] = [
 #[test]
 fn reads_numbers_by_either_rule(rt: HostRuntime) -> Result<(), Fail> {
     for (text, rule, line) in NUMBERS_BY_RULE {
-        check(
-            &rt,
-            text,
-            number_by(rt.alloc(), text, false, rule),
-            line,
-        )?;
+        check(&rt, text, number_by(rt.alloc(), text, false, rule), line)?;
     }
     Ok(())
 }

@@ -1,5 +1,7 @@
 //! The settings as data, key by key, their defaults and their questions.
-use ecma_syntax::{EsConfig, EsSyntax, EsVersion, JscTarget, NumberRule, Syntax, TsConfig, TsSyntax};
+use ecma_syntax::{
+    EsConfig, EsSyntax, EsVersion, JscTarget, NumberRule, Syntax, TsConfig, TsSyntax,
+};
 use std::alloc::{AllocError, Global};
 use std::test::Fail;
 
