@@ -18,7 +18,7 @@ syntax ts = if ts then typescript else default_of.syntax
 
 -- for the fifth edition, and no comments are collected
 abbrev pub settings : Bool → Settings
-settings ts = record { syntax = syntax ts; target = default_of.version; comments = false }
+settings ts = record { syntax = syntax ts; target = default_of.version; comments = false; numbers = default_of.numbers }
 
 -- the text with these bytes from its start, at the place 0
 abbrev pub whole : List ℕ → Cursor

@@ -1,4 +1,5 @@
 pub mod CanonicalLaws
+pub mod RuleLaws
 pub mod WalkedEnd
 pub mod WalkedRuns
 pub mod WalkedTokens

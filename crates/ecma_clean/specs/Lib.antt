@@ -1,3 +1,4 @@
+pub mod Rules
 pub mod Sharing
 pub use Rattle.ecma_parts.specs.Bearing
 pub use Rattle.ecma_clean_reads.specs.Canonical

@@ -1,4 +1,5 @@
-//! Laws of canonical texts.
+//! Laws of clean runs and of canonical texts.
+ghost use Rattle.ecma_clean.specs.Rules.{CleanRunsByBothRules};
 ghost use Rattle.ecma_clean.specs.Sharing.{CanonicalIsRead, CanonicalIsShared, CanonicalRunsAlike};
 
 /// The canonical text of a text that is read cleanly by plain steps is read cleanly by the same steps, under the same
@@ -17,4 +18,10 @@ pub fn canonical_is_shared()
 /// neither records an error on the way.
 pub fn canonical_runs_alike()
     ensures { CanonicalRunsAlike }
+{}
+
+/// A text that is read cleanly by plain steps and by the standard's rule for numbers is read by the crate's to the same kept
+/// tokens, recorded and waiting errors, and comments, and differs in nothing else.
+pub fn clean_runs_by_both_rules()
+    ensures { CleanRunsByBothRules }
 {}

@@ -4,6 +4,7 @@ use Rattle.std.proofs.Math.Seq.{take-append_seam}
 use Rattle.ecma_place.specs.Text.{Text}
 use Rattle.ecma_place.specs.Character.{is_ident_part, is_ident_start}
 use Rattle.ecma_place.proofs.CharacterLemmas.{is_ident_start-is_ident_part}
+use Rattle.ecma_syntax.specs.declared.settings.NumberRule.{NumberRule}
 use Rattle.ecma_token.specs.View.{ErrorView}
 use Rattle.std.proofs.lemmas.Bool.{and_parts, eqb-true}
 use Rattle.ecma_scan.specs.Expressions.{opens_expression, regular_expression}
@@ -47,14 +48,14 @@ other-front None (c ∷ cs) h = refl
 front-of : (part text : Text) → IsFrontOf part text → IsFront part text
 front-of part text f = ap (take (length part)) (sym f.1) ∙ take-append_seam part f.0
 
-number-spelling : (ts1085 : Bool) (parts : Number) (refusal : Option ErrorView) → (found_number ts1085 parts refusal).spelling ≡ number_text parts
-number-spelling ts1085 parts (Some error) = refl
-number-spelling ts1085 parts None = refl
+number-spelling : (ts1085 : Bool) (rule : NumberRule) (parts : Number) (refusal : Option ErrorView) → (found_number ts1085 rule parts refusal).spelling ≡ number_text parts
+number-spelling ts1085 rule parts (Some error) = refl
+number-spelling ts1085 rule parts None = refl
 
-number-front : (ts1085 : Bool) (text : Text) → IsFront (number ts1085 text).spelling text
-number-front ts1085 text =
+number-front : (ts1085 : Bool) (rule : NumberRule) (text : Text) → IsFront (number ts1085 rule text).spelling text
+number-front ts1085 rule text =
     let parts = number_parts text in
-    rw (number-spelling ts1085 parts (refusal parts (behind_number parts text))) (front-of (number_text parts) text (number_front text))
+    rw (number-spelling ts1085 rule parts (refusal rule parts (behind_number parts text))) (front-of (number_text parts) text (number_front text))
 
 -- a marker of bars is a front where it stands
 pub bars-front : (text : Text) → opens_bars text ≡ true → IsFront (bars_spelling text) text
@@ -71,7 +72,7 @@ token_at-front mode flag text =
   where
     go : (template number' string word bars : Bool) → (flag && opens_bars text) ≡ bars → IsFront (read_opened (opening_from template number' string word bars) mode text).spelling text
     go true number' string word bars e = front-of _ text (template_front (is_tpl_element mode.previous) text)
-    go false true string word bars e = number-front (ts1085 mode) text
+    go false true string word bars e = number-front (ts1085 mode) mode.settings.numbers text
     go false false true word bars e = front-of _ text (string_front text)
     go false false false true bars e = front-of _ text (name_front text)
     go false false false false true e = bars-front text (bars-stand flag text e)
@@ -145,7 +146,7 @@ token_at-some mode flag c cs code =
     go : (template number' string word bars : Bool) → template ≡ false → opens_number (c ∷ cs) ≡ number' → opens_word (c ∷ cs) ≡ word
         → 0 < length (read_opened (opening_from template number' string word bars) mode (c ∷ cs)).spelling
     go true number' string word bars t n w = cc
-    go false true string word bars t n w = number_some (ts1085 mode) (c ∷ cs) n
+    go false true string word bars t n w = number_some (ts1085 mode) mode.settings.numbers (c ∷ cs) n
     go false false true word bars t n w = string-some c cs
     go false false false true bars t n w = word-some c cs w
     go false false false false true t n w = omega arith

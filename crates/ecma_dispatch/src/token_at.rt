@@ -176,7 +176,7 @@ fn plain_at<'a>(
 {
     match opening {
         Opening::Template => { scan_template(alloc, input, mode.opened, mode.is_after_template()) }
-        Opening::Number => scan_number(alloc, input, mode.ts1085()),
+        Opening::Number => scan_number(alloc, input, mode.ts1085(), mode.settings.numbers),
         Opening::String => scan_string(alloc, input),
         Opening::Word => word_at(alloc, input, mode),
         Opening::Bars => unreachable!(),

@@ -6,6 +6,7 @@ use Rattle.ecma_place.specs.Text.{Text, byte_len}
 use Rattle.ecma_place.specs.Atom.{AtomView}
 use Rattle.ecma_place.specs.declared.place.Span.{Span}
 use Rattle.ecma_token.specs.View.{ErrorView, TokenView, plain_token}
+use Rattle.ecma_syntax.specs.declared.settings.NumberRule.{NumberRule}
 use Rattle.ecma_token.specs.declared.token.Radix.{Radix}
 use Rattle.ecma_token.specs.declared.token.Token.{Num, BigInt}
 use Rattle.ecma_grammar.specs.Found.{Fault, FoundView, error_behind, fault_behind, token_behind, found_at, span_of}
@@ -25,11 +26,11 @@ small-token number raw digits radix whole small a b d e = rw (a, b, d, e, small)
 abbrev pub seen : Result TokenView ErrorView → List Fault → Span → FoundView TokenView
 seen value faults extent = record { value = value; faults = faults; extent = extent; line_break = false }
 
-pub refused-found : (start : ℕ) (ts1085 : Bool) (number : Number) (refusal : Option ErrorView) (error : ErrorView) (faults : List Fault) (extent : Span)
-    → Some error ≡ option_map (error_behind start) refusal → faults ≡ map (fault_behind start) (part_faults number)
-    → extent ≡ span_of start (start + byte_len (number_text number)) → seen (Err error) faults extent ≡ found_at token_behind start (found_number ts1085 number refusal)
-refused-found start ts1085 number None error faults extent e f s = cc
-refused-found start ts1085 number (Some why) error faults extent e f s =
+pub refused-found : (start : ℕ) (ts1085 : Bool) (rule : NumberRule) (number : Number) (refusal : Option ErrorView) (error : ErrorView) (faults : List Fault) (extent : Span)
+    → Some error ≡ option_map (error_behind start) refusal → faults ≡ map (fault_behind start) (part_faults rule number)
+    → extent ≡ span_of start (start + byte_len (number_text number)) → seen (Err error) faults extent ≡ found_at token_behind start (found_number ts1085 rule number refusal)
+refused-found start ts1085 rule number None error faults extent e f s = cc
+refused-found start ts1085 rule number (Some why) error faults extent e f s =
     let same : error ≡ error_behind start why = cc in
     rw (same, f, s) refl
 
@@ -37,22 +38,22 @@ token_stays : (start : ℕ) (number : Number) (big : Bool) → token_behind star
 token_stays start number true = refl
 token_stays start number false = refl
 
-pub accepted-found : (start : ℕ) (ts1085 : Bool) (number : Number) (refusal : Option ErrorView) (token : TokenView) (mid faults : List Fault) (extent : Span)
-    → refusal ≡ None → token ≡ number_token number → mid ≡ map (fault_behind start) (part_faults number)
+pub accepted-found : (start : ℕ) (ts1085 : Bool) (rule : NumberRule) (number : Number) (refusal : Option ErrorView) (token : TokenView) (mid faults : List Fault) (extent : Span)
+    → refusal ≡ None → token ≡ number_token number → mid ≡ map (fault_behind start) (part_faults rule number)
     → faults ≡ mid ++ map (fault_behind start) (octal_faults ts1085 number) → extent ≡ span_of start (start + byte_len (number_text number))
-    → seen (Ok token) faults extent ≡ found_at token_behind start (found_number ts1085 number refusal)
-accepted-found start ts1085 number refusal token mid faults extent none t m f s =
-    let all : faults ≡ map (fault_behind start) (part_faults number ++ octal_faults ts1085 number) =
-    f ∙ ap (λ l. l ++ map (fault_behind start) (octal_faults ts1085 number)) m ∙ sym (map-append (fault_behind start) (part_faults number) (octal_faults ts1085 number)) in
+    → seen (Ok token) faults extent ≡ found_at token_behind start (found_number ts1085 rule number refusal)
+accepted-found start ts1085 rule number refusal token mid faults extent none t m f s =
+    let all : faults ≡ map (fault_behind start) (part_faults rule number ++ octal_faults ts1085 number) =
+    f ∙ ap (λ l. l ++ map (fault_behind start) (octal_faults ts1085 number)) m ∙ sym (map-append (fault_behind start) (part_faults rule number) (octal_faults ts1085 number)) in
     let stays : token ≡ token_behind start (number_token number) = t ∙ sym (token_stays start number (is_big_number number)) in
-    rw (none, s, all) (ap (λ (u : TokenView). seen (Ok u) (map (fault_behind start) (part_faults number ++ octal_faults ts1085 number)) (span_of start (start + byte_len (number_text number)))) stays)
+    rw (none, s, all) (ap (λ (u : TokenView). seen (Ok u) (map (fault_behind start) (part_faults rule number ++ octal_faults ts1085 number)) (span_of start (start + byte_len (number_text number)))) stays)
 
 -- a number that takes no memory is not refused
-pub free-number : (ts1085 : Bool) (number : Number) (refusal : Option ErrorView) → list_any is_separator (found_number ts1085 number refusal).spelling ≡ false
-    → is_accepted (found_number ts1085 number refusal).value ≡ true → (found_number ts1085 number refusal).faults ≡ []
-    → (list_any is_separator (number_text number) ≡ false) × (refusal ≡ None) × ((found_number ts1085 number None).faults ≡ [])
-free-number ts1085 number None plain accepted clean = (plain, refl, clean)
-free-number ts1085 number (Some error) plain accepted clean = cc
+pub free-number : (ts1085 : Bool) (rule : NumberRule) (number : Number) (refusal : Option ErrorView) → list_any is_separator (found_number ts1085 rule number refusal).spelling ≡ false
+    → is_accepted (found_number ts1085 rule number refusal).value ≡ true → (found_number ts1085 rule number refusal).faults ≡ []
+    → (list_any is_separator (number_text number) ≡ false) × (refusal ≡ None) × ((found_number ts1085 rule number None).faults ≡ [])
+free-number ts1085 rule number None plain accepted clean = (plain, refl, clean)
+free-number ts1085 rule number (Some error) plain accepted clean = cc
 
 pub front-taken : (part behind text : Text) → part ++ behind ≡ text → take (length part) text ≡ part
 front-taken part behind text e = ap (take (length part)) (sym e) ∙ take_at part behind (length part) refl

@@ -1,12 +1,13 @@
 -- The faults of a number's parts, from another place on.
-use Rattle.std.proofs.Common.{◌≡◌, ℕ, ◌+◌, List, [], ◌∷◌, ◌++◌, length, map, refl, sym, ap, ◌∙◌, arith, append_assoc, encode_utf8_all}
+use Rattle.std.proofs.Common.{◌≡◌, ℕ, ◌+◌, true, List, [], ◌∷◌, ◌++◌, length, map, refl, sym, ap, ◌∙◌, arith, append_assoc, encode_utf8_all}
 use Rattle.std.proofs.lemmas.List.{map-append}
 use Rattle.std.proofs.lemmas.Str.{encode_ascii}
 use Rattle.ecma_place.specs.Text.{Text, byte_len}
 use Rattle.ecma_place.proofs.MoveLemmas.{byte_len-append}
+use Rattle.ecma_syntax.specs.declared.settings.NumberRule.{NumberRule}
 use Rattle.ecma_token.specs.declared.token.Radix.TheVariants.{Decimal}
 use Rattle.ecma_grammar.specs.Found.{Fault, fault_behind}
-use Rattle.ecma_grammar.specs.Numbers.{Fraction, NoFraction, Point, Exponent, NoExponent, Scaled, DecimalRun, run_faults, legacy_faults, fraction_faults, exponent_faults, fraction_text, part_faults, IsRun, IsFraction}
+use Rattle.ecma_grammar.specs.Numbers.{Fraction, NoFraction, Point, Exponent, NoExponent, Scaled, DecimalRun, run_faults, first_run_faults, legacy_faults, fraction_faults, exponent_faults, fraction_text, part_faults, IsRun, IsFraction}
 use Rattle.ecma_grammar.proofs.RunReading.{run-bytes}
 
 shifted : (m n k : ℕ) (f : Fault) → m + n ≡ k → fault_behind m (fault_behind n f) ≡ fault_behind k f
@@ -22,11 +23,11 @@ all_shifted m n k (f ∷ fs) sum = ap (λ x. x ∷ map (fault_behind m) (map (fa
 
 pub fraction_shifted : (m n k : ℕ) (fraction : Fraction) → m + n ≡ k → map (fault_behind m) (fraction_faults n fraction) ≡ fraction_faults k fraction
 fraction_shifted m n k NoFraction sum = refl
-fraction_shifted m n k (Point run) sum = all_shifted m (n + 1) (k + 1) (run_faults Decimal run) (omega arith)
+fraction_shifted m n k (Point run) sum = all_shifted m (n + 1) (k + 1) (run_faults true Decimal run) (omega arith)
 
 pub exponent_shifted : (m n k : ℕ) (exponent : Exponent) → m + n ≡ k → map (fault_behind m) (exponent_faults n exponent) ≡ exponent_faults k exponent
 exponent_shifted m n k NoExponent sum = refl
-exponent_shifted m n k (Scaled mark sign run) sum = all_shifted m (n + byte_len (mark ∷ sign)) (k + byte_len (mark ∷ sign)) (run_faults Decimal run) (omega arith)
+exponent_shifted m n k (Scaled mark sign run) sum = all_shifted m (n + byte_len (mark ∷ sign)) (k + byte_len (mark ∷ sign)) (run_faults true Decimal run) (omega arith)
 
 fraction_length : (fraction : Fraction) → IsFraction fraction → byte_len (fraction_text fraction) ≡ length (fraction_text fraction)
 fraction_length NoFraction form = refl
@@ -34,16 +35,16 @@ fraction_length (Point run) form =
     ap (λ (bytes : List ℕ). length (bytes ++ encode_utf8_all run)) (encode_ascii 46 (omega arith)) ∙ ap (λ (bytes : List ℕ). length (46 ∷ bytes)) (run-bytes Decimal run form)
 
 -- what is said of a decimal number, part after part
-pub plain_said : (start : ℕ) (run : Text) (fraction : Fraction) (exponent : Exponent) (was a b c d : List Fault) (behind last : ℕ)
+pub plain_said : (start : ℕ) (rule : NumberRule) (run : Text) (fraction : Fraction) (exponent : Exponent) (was a b c d : List Fault) (behind last : ℕ)
     → IsRun Decimal run → IsFraction fraction → behind ≡ start + length run → last ≡ behind + length (fraction_text fraction)
-    → a ≡ was ++ map (fault_behind start) (run_faults Decimal run) → b ≡ a ++ map (fault_behind start) (legacy_faults run)
+    → a ≡ was ++ map (fault_behind start) (first_run_faults rule run) → b ≡ a ++ map (fault_behind start) (legacy_faults run)
     → c ≡ b ++ fraction_faults behind fraction → d ≡ c ++ exponent_faults last exponent
-    → d ≡ was ++ map (fault_behind start) (part_faults (DecimalRun run fraction exponent))
-plain_said start run fraction exponent was a b c d behind last all form first second ea eb ec ed =
+    → d ≡ was ++ map (fault_behind start) (part_faults rule (DecimalRun run fraction exponent))
+plain_said start rule run fraction exponent was a b c d behind last all form first second ea eb ec ed =
     let short : byte_len run ≡ length run = ap length (run-bytes Decimal run all) in
     let long : byte_len (run ++ fraction_text fraction) ≡ length run + length (fraction_text fraction) =
     byte_len-append run (fraction_text fraction) ∙ ap (λ (n : ℕ). n + byte_len (fraction_text fraction)) short ∙ ap (λ (n : ℕ). length run + n) (fraction_length fraction form) in
-    let runs = run_faults Decimal run in
+    let runs = first_run_faults rule run in
     let legacy = legacy_faults run in
     let points = fraction_faults (byte_len run) fraction in
     let scales = exponent_faults (byte_len (run ++ fraction_text fraction)) exponent in

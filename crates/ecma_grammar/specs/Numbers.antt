@@ -8,6 +8,8 @@ use Rattle.std.specs.Str.Parse.{digits_value}
 use Rattle.ecma_place.specs.Text.{Text, byte_len}
 use Rattle.ecma_place.specs.Atom.{AtomView, borrowed_atom, owned_atom}
 use Rattle.ecma_place.specs.Character.{is_ident_start}
+use Rattle.ecma_syntax.specs.declared.settings.NumberRule.{NumberRule}
+use Rattle.ecma_syntax.specs.declared.settings.NumberRule.TheVariants.{Crate, Standard}
 use Rattle.ecma_token.specs.View.{TokenView, ErrorView, plain, plain_token}
 use Rattle.ecma_token.specs.declared.error.SyntaxError.{ExpectedDigit, IdentAfterNum, LegacyDecimal, LegacyOctal, NumLitTerminatedWithExp, NumericSeparatorIsAllowedOnlyBetweenTwoDigits, TS1085}
 use Rattle.ecma_token.specs.declared.token.Radix.{Radix}
@@ -18,7 +20,7 @@ use Rattle.ecma_grammar.specs.declared.gap_mode.GapMode.{GapMode}
 use Rattle.ecma_grammar.specs.Found.{Fault, Scanned, error_over, error_at, fault_behind, span_of}
 use Rattle.ecma_grammar.specs.Fronts.{front, after, next_passes, next_is}
 use Rattle.ecma_grammar.specs.Gaps.{element}
-use Rattle.ecma_grammar.specs.Locality.{separates, IsLocal}
+use Rattle.ecma_grammar.specs.Locality.{is_clean, separates, IsLocal}
 
 -- Characters
 
@@ -175,6 +177,18 @@ number_behind None text = decimal_number (run_of Decimal text) (behind_run Decim
 abbrev pub number_parts : Text → Number
 number_parts text = number_behind (prefix text) text
 
+-- What the rules ask: what each part is and means is the same by both
+
+-- a character that may not stand right behind a number, big integer or not
+abbrev pub may_not_follow : NumberRule → Bool → ℕ → Bool
+may_not_follow Crate big c = not big && is_ident_start c
+may_not_follow Standard big c = is_ident_start c || (digit Decimal c || c == 92)
+
+-- a decimal run that begins a number may hold separators
+abbrev pub may_hold_separators : NumberRule → Text → Bool
+may_hold_separators Crate run = true
+may_hold_separators Standard run = not (is_legacy run)
+
 -- What is said of the parts
 
 -- a separator before which no digit of the run came (`seen` says that one did), or behind which none comes next
@@ -185,22 +199,27 @@ is_faulty radix seen c next = is_separator c && not (seen && next_passes (digit 
 abbrev pub seen_behind : Bool → ℕ → Bool
 seen_behind seen c = seen || not (is_separator c)
 
--- how many bytes stand before each faulty separator, of a run that goes on behind n bytes
-abbrev pub faulty_separators : Radix → Bool → ℕ → Text → List ℕ
-faulty_separators radix seen n [] = []
-faulty_separators radix seen n (c ∷ cs) =
-    (if is_faulty radix seen c cs then n ∷ [] else []) ++ faulty_separators radix (seen_behind seen c) (n + byte_len (c ∷ [])) cs
+-- how many bytes stand before each faulty separator, of a run that goes on behind n bytes; in one that may hold none each
+-- is faulty
+abbrev pub faulty_separators : Bool → Radix → Bool → ℕ → Text → List ℕ
+faulty_separators allowed radix seen n [] = []
+faulty_separators allowed radix seen n (c ∷ cs) =
+    (if is_faulty radix (allowed && seen) c cs then n ∷ [] else []) ++ faulty_separators allowed radix (seen_behind seen c) (n + byte_len (c ∷ [])) cs
 
 -- a faulty separator behind n bytes of its run; its error reaches from the run's start to it
 abbrev pub separator_fault : ℕ → Fault
 separator_fault n = record { blame = Always; error = error_over (plain NumericSeparatorIsAllowedOnlyBetweenTwoDigits) n }
 
-abbrev pub run_faults : Radix → Text → List Fault
-run_faults radix run = map separator_fault (faulty_separators radix false 0 run)
+abbrev pub run_faults : Bool → Radix → Text → List Fault
+run_faults allowed radix run = map separator_fault (faulty_separators allowed radix false 0 run)
+
+-- what is said of the decimal run that begins a number
+abbrev pub first_run_faults : NumberRule → Text → List Fault
+first_run_faults rule run = run_faults (may_hold_separators rule run) Decimal run
 
 -- what is said of a run that stands behind n bytes
 abbrev pub run_faults_behind : ℕ → Radix → Text → List Fault
-run_faults_behind n radix run = map (fault_behind n) (run_faults radix run)
+run_faults_behind n radix run = map (fault_behind n) (run_faults true radix run)
 
 -- a legacy run with `8` or `9` counts in strict code only
 abbrev pub legacy_faults : Text → List Fault
@@ -215,12 +234,12 @@ exponent_faults n NoExponent = []
 exponent_faults n (Scaled mark sign run) = run_faults_behind (n + byte_len (mark ∷ sign)) Decimal run
 
 -- what is said of each part, in their order
-abbrev pub part_faults : Number → List Fault
-part_faults (Prefixed radix letter run suffix) = run_faults_behind 2 radix run
-part_faults (BigRun run) = run_faults Decimal run
-part_faults (OctalRun run) = run_faults Decimal run
-part_faults (DecimalRun run fraction exponent) =
-    run_faults Decimal run ++ (legacy_faults run ++ (fraction_faults (byte_len run) fraction ++ exponent_faults (byte_len (run ++ fraction_text fraction)) exponent))
+abbrev pub part_faults : NumberRule → Number → List Fault
+part_faults rule (Prefixed radix letter run suffix) = run_faults_behind 2 radix run
+part_faults rule (BigRun run) = first_run_faults rule run
+part_faults rule (OctalRun run) = first_run_faults rule run
+part_faults rule (DecimalRun run fraction exponent) =
+    first_run_faults rule run ++ (legacy_faults run ++ (fraction_faults (byte_len run) fraction ++ exponent_faults (byte_len (run ++ fraction_text fraction)) exponent))
 
 -- what is said of a legacy octal that is not refused, as TypeScript does or not
 abbrev pub octal_faults : Bool → Number → List Fault
@@ -252,18 +271,18 @@ is_big_number (Prefixed radix letter run (c ∷ cs)) = true
 is_big_number (BigRun run) = true
 is_big_number number = false
 
--- a start character behind a number that is no big integer
-abbrev pub name_refusal : Number → Text → Option ErrorView
-name_refusal number rest =
-    if not (is_big_number number) && next_passes is_ident_start rest then Some (error_at (plain IdentAfterNum) (byte_len (number_text number))) else None
+-- what follows a number begins with a character that may not
+abbrev pub next_refusal : NumberRule → Number → Text → Option ErrorView
+next_refusal rule number rest =
+    if next_passes (may_not_follow rule (is_big_number number)) rest then Some (error_at (plain IdentAfterNum) (byte_len (number_text number))) else None
 
 abbrev pub or_else : Option ErrorView → Option ErrorView → Option ErrorView
 or_else (Some e) other = Some e
 or_else None other = other
 
 -- why a number is refused, by what follows it
-abbrev pub refusal : Number → Text → Option ErrorView
-refusal number rest = or_else (part_refusal number rest) (name_refusal number rest)
+abbrev pub refusal : NumberRule → Number → Text → Option ErrorView
+refusal rule number rest = or_else (part_refusal number rest) (next_refusal rule number rest)
 
 -- The token
 
@@ -313,18 +332,18 @@ number_token number = token_of (is_big_number number) number
 -- Numbers
 
 -- a number that is refused or not
-abbrev pub found_number : Bool → Number → Option ErrorView → Scanned TokenView
-found_number ts1085 number (Some error) = record { value = Err error; faults = part_faults number; spelling = number_text number; line_break = false }
-found_number ts1085 number None =
-    record { value = Ok (number_token number); faults = part_faults number ++ octal_faults ts1085 number; spelling = number_text number; line_break = false }
+abbrev pub found_number : Bool → NumberRule → Number → Option ErrorView → Scanned TokenView
+found_number ts1085 rule number (Some error) = record { value = Err error; faults = part_faults rule number; spelling = number_text number; line_break = false }
+found_number ts1085 rule number None =
+    record { value = Ok (number_token number); faults = part_faults rule number ++ octal_faults ts1085 number; spelling = number_text number; line_break = false }
 
 -- what follows a number at the start of a text
 abbrev pub behind_number : Number → Text → Text
 behind_number number text = drop (length (number_text number)) text
 
--- the number with which a text begins; the flag says that legacy octals are told of as TypeScript does
-abbrev pub number : Bool → Text → Scanned TokenView
-number ts1085 text = found_number ts1085 (number_parts text) (refusal (number_parts text) (behind_number (number_parts text) text))
+-- the number with which a text begins, by a rule; the flag says that legacy octals are told of as TypeScript does
+abbrev pub number : Bool → NumberRule → Text → Scanned TokenView
+number ts1085 rule text = found_number ts1085 rule (number_parts text) (refusal rule (number_parts text) (behind_number (number_parts text) text))
 
 -- The forms of the parts, whatever stands behind them
 
@@ -359,7 +378,7 @@ NumberTiles = (text : Text) → number_text (number_parts text) ++ behind_number
 
 -- Where a number begins the text, it is not empty.
 abbrev pub NumberIsSome : Type 0
-NumberIsSome = (ts1085 : Bool) (text : Text) → opens_number text ≡ true → 0 < length (number ts1085 text).spelling
+NumberIsSome = (ts1085 : Bool) (rule : NumberRule) (text : Text) → opens_number text ≡ true → 0 < length (number ts1085 rule text).spelling
 
 -- What is read has the forms of its parts.
 abbrev pub NumberHasItsForm : Type 0
@@ -369,18 +388,22 @@ NumberHasItsForm = (text : Text) → IsNumber (number_parts text)
 abbrev pub NumberIsRead : Type 0
 NumberIsRead = (parts : Number) (r : Text) → IsNumber parts → separates r ≡ true → number_parts (number_text parts ++ r) ≡ parts
 
--- A separator in a run is faulty unless a digit of the run stands before it and one comes next.
+-- A separator in a run is faulty unless the run may hold some, a digit of it stands before, and one comes next.
 abbrev pub SeparatorIsFaulty : Type 0
 SeparatorIsFaulty =
-    (radix : Radix) (before next : Text) → IsRun radix before
-    → faulty_separators radix false 0 (before ++ (95 ∷ next))
-    ≡ faulty_separators radix false 0 before
-    ++ ((if list_any (digit radix) before && next_passes (digit radix) next then [] else byte_len before ∷ [])
-    ++ faulty_separators radix (list_any (digit radix) before) (byte_len before + 1) next)
+    (allowed : Bool) (radix : Radix) (before next : Text) → IsRun radix before
+    → faulty_separators allowed radix false 0 (before ++ (95 ∷ next))
+    ≡ faulty_separators allowed radix false 0 before
+    ++ ((if (allowed && list_any (digit radix) before) && next_passes (digit radix) next then [] else byte_len before ∷ [])
+    ++ faulty_separators allowed radix (list_any (digit radix) before) (byte_len before + 1) next)
 
 -- A number that is read cleanly is read the same at the end of the text and in front of a space or a line feed.
 abbrev pub NumberIsLocal : Type 0
-NumberIsLocal = (ts1085 : Bool) → IsLocal opens_number (number ts1085) separates
+NumberIsLocal = (ts1085 : Bool) (rule : NumberRule) → IsLocal opens_number (number ts1085 rule) separates
+
+-- A number that is read cleanly by the standard's rule is read the same by the crate's.
+abbrev pub CleanByBothRules : Type 0
+CleanByBothRules = (ts1085 : Bool) (text : Text) → is_clean (number ts1085 Standard text) ≡ true → number ts1085 Crate text ≡ number ts1085 Standard text
 
 -- A whole value fits 128 bits.
 abbrev pub WholeFits : Type 0

@@ -5,6 +5,7 @@ use Rattle.std.specs.List.{list_all}
 use Rattle.ecma_place.specs.Text.{Text}
 use Rattle.ecma_syntax.specs.declared.operator.BinOpToken.TheVariants as bin
 use Rattle.ecma_syntax.specs.declared.word.Word.{Word}
+use Rattle.ecma_syntax.specs.declared.settings.NumberRule.{NumberRule}
 use Rattle.ecma_token.specs.Kinds.{kind_of}
 use Rattle.ecma_token.specs.View.{ErrorView, TokenView, plain_token}
 use Rattle.ecma_token.specs.declared.token.Token.{BinOp}
@@ -65,9 +66,9 @@ record Tells (value : Result TokenView ErrorView) (spelling : Text) (t : TokenVi
   neither : is_text_or_line (kind_of t) ≡ false
   written : is_closer (kind_of t) ≡ true → is_closer_text spelling ≡ true
 
-number_tells : (ts1085 : Bool) (n : numbers.Number) (o : Option ErrorView) (t : TokenView) → (numbers.found_number ts1085 n o).value ≡ Ok t → Tells (Ok t) (numbers.found_number ts1085 n o).spelling t
-number_tells ts1085 n (Some e) t h = cc
-number_tells ts1085 n None t h = go (numbers.is_big_number n) (let same : numbers.number_token n ≡ t = cc in same)
+number_tells : (ts1085 : Bool) (rule : NumberRule) (n : numbers.Number) (o : Option ErrorView) (t : TokenView) → (numbers.found_number ts1085 rule n o).value ≡ Ok t → Tells (Ok t) (numbers.found_number ts1085 rule n o).spelling t
+number_tells ts1085 rule n (Some e) t h = cc
+number_tells ts1085 rule n None t h = go (numbers.is_big_number n) (let same : numbers.number_token n ≡ t = cc in same)
   where
     go : (b : Bool) → numbers.token_of b n ≡ t → Tells (Ok t) (numbers.number_text n) t
     go true e = record { neither = ap (λ x. is_text_or_line (kind_of x)) (sym e); written = λ k. let no = ap (λ x. is_closer (kind_of x)) e ∙ k in cc }
@@ -125,7 +126,7 @@ other_tells type_mode text (Some p) t e h =
     }
 
 tells : (opened : CodeOpening) (mode : CodeMode) (text : Text) (t : TokenView) → (read_code opened mode text).value ≡ Ok t → Tells (Ok t) (read_code opened mode text).spelling t
-tells Number mode text t h = number_tells mode.ts1085 (numbers.number_parts text) (numbers.refusal (numbers.number_parts text) (numbers.behind_number (numbers.number_parts text) text)) t h
+tells Number mode text t h = number_tells mode.ts1085 mode.numbers (numbers.number_parts text) (numbers.refusal mode.numbers (numbers.number_parts text) (numbers.behind_number (numbers.number_parts text) text)) t h
 tells String mode text t h = string_tells text t h
 tells Word' mode text t h = word_tells (words.word mode.context text).value _ t h
 tells Bars mode text t h = cc
@@ -139,9 +140,9 @@ closer_is_written mode flag text t h k = (tells (code_opening flag text) mode te
 
 -- line terminators
 
-number_break : (ts1085 : Bool) (n : numbers.Number) (o : Option ErrorView) → (numbers.found_number ts1085 n o).line_break ≡ false
-number_break ts1085 n (Some e) = refl
-number_break ts1085 n None = refl
+number_break : (ts1085 : Bool) (rule : NumberRule) (n : numbers.Number) (o : Option ErrorView) → (numbers.found_number ts1085 rule n o).line_break ≡ false
+number_break ts1085 rule n (Some e) = refl
+number_break ts1085 rule n None = refl
 
 string_break : (quote : ℕ) (opened : Text) (ps : List Piece) (end : strings.Ending) → (strings.found_string quote opened ps end).line_break ≡ false
 string_break quote opened ps strings.Closed = refl
@@ -162,7 +163,7 @@ other_break (Some p) text = refl
 other_break None text = stray_break text
 
 breaks : (opened : CodeOpening) (mode : CodeMode) (text : Text) → (read_code opened mode text).line_break ≡ false
-breaks Number mode text = number_break mode.ts1085 (numbers.number_parts text) (numbers.refusal (numbers.number_parts text) (numbers.behind_number (numbers.number_parts text) text))
+breaks Number mode text = number_break mode.ts1085 mode.numbers (numbers.number_parts text) (numbers.refusal mode.numbers (numbers.number_parts text) (numbers.behind_number (numbers.number_parts text) text))
 breaks String mode text = literal_break text
 breaks Word' mode text = refl
 breaks Bars mode text = refl

@@ -5,6 +5,7 @@ use Rattle.std.proofs.lemmas.Bool.{and_parts}
 use Rattle.ecma_place.specs.Text.{Text}
 use Rattle.ecma_place.specs.Character.{is_ident_start}
 use Rattle.ecma_syntax.specs.declared.word.Word.{Word}
+use Rattle.ecma_syntax.specs.declared.settings.NumberRule.{NumberRule}
 use Rattle.ecma_token.specs.View.{ErrorView}
 use Rattle.ecma_token.specs.declared.token.Radix.TheVariants.{Decimal}
 use Rattle.ecma_scan.specs.Bars.{opens_bars}
@@ -33,28 +34,28 @@ point_two d ds e =
     let here : in_run Decimal d ≡ true = rw e refl in
     (run_of Decimal ds ++ exponent_text (exponent (after_fraction (46 ∷ (d ∷ ds)))), rw here refl)
 
-no_one : (ts1085 : Bool) (c : ℕ) (behind : Text) → digit Decimal c ≡ false → opens_number (c ∷ behind) ≡ true → (number ts1085 (c ∷ behind)).spelling ≡ c ∷ [] → ⊥
-no_one ts1085 c [] n opens spells = go (c == 46) (rw n at opens)
+no_one : (ts1085 : Bool) (rule : NumberRule) (c : ℕ) (behind : Text) → digit Decimal c ≡ false → opens_number (c ∷ behind) ≡ true → (number ts1085 rule (c ∷ behind)).spelling ≡ c ∷ [] → ⊥
+no_one ts1085 rule c [] n opens spells = go (c == 46) (rw n at opens)
   where
     go : (b : Bool) → (b && false) ≡ true → ⊥
     go true h = cc
     go false h = cc
-no_one ts1085 c (d ∷ ds) n opens spells =
+no_one ts1085 rule c (d ∷ ds) n opens spells =
     let both = and_parts (c == 46) (digit Decimal d) (rw n at opens) in
     let point : c ≡ 46 = eqb-true c 46 both.0 in
     let written : number_text (number_parts (46 ∷ (d ∷ ds))) ≡ 46 ∷ [] =
-    ap (λ x. number_text (number_parts (x ∷ (d ∷ ds)))) (sym point) ∙ sym (spelling_is ts1085 (number_parts (c ∷ (d ∷ ds))) (refusal (number_parts (c ∷ (d ∷ ds))) (behind_number (number_parts (c ∷ (d ∷ ds))) (c ∷ (d ∷ ds))))) ∙ spells ∙ ap (λ x. x ∷ []) point in
+    ap (λ x. number_text (number_parts (x ∷ (d ∷ ds)))) (sym point) ∙ sym (spelling_is ts1085 rule (number_parts (c ∷ (d ∷ ds))) (refusal rule (number_parts (c ∷ (d ∷ ds))) (behind_number (number_parts (c ∷ (d ∷ ds))) (c ∷ (d ∷ ds))))) ∙ spells ∙ ap (λ x. x ∷ []) point in
     let two = point_two d ds both.1 in
     let no : 46 ∷ (d ∷ two.0) ≡ 46 ∷ [] = sym two.1 ∙ written in
     cc
 
 -- what opens a number opens one in front of a separator
 
-number_again : (ts1085 : Bool) (c : ℕ) (b behind r : Text) → opens_number (c ∷ (b ++ behind)) ≡ true → (number ts1085 (c ∷ (b ++ behind))).spelling ≡ c ∷ b → opens_number (c ∷ (b ++ r)) ≡ true
-number_again ts1085 c b behind r opens spells = by_digit (digit Decimal c) refl
+number_again : (ts1085 : Bool) (rule : NumberRule) (c : ℕ) (b behind r : Text) → opens_number (c ∷ (b ++ behind)) ≡ true → (number ts1085 rule (c ∷ (b ++ behind))).spelling ≡ c ∷ b → opens_number (c ∷ (b ++ r)) ≡ true
+number_again ts1085 rule c b behind r opens spells = by_digit (digit Decimal c) refl
   where
-    by_rest : (b : Text) → opens_number (c ∷ (b ++ behind)) ≡ true → (number ts1085 (c ∷ (b ++ behind))).spelling ≡ c ∷ b → digit Decimal c ≡ false → opens_number (c ∷ (b ++ r)) ≡ true
-    by_rest [] o s n = absurd (no_one ts1085 c behind n o s)
+    by_rest : (b : Text) → opens_number (c ∷ (b ++ behind)) ≡ true → (number ts1085 rule (c ∷ (b ++ behind))).spelling ≡ c ∷ b → digit Decimal c ≡ false → opens_number (c ∷ (b ++ r)) ≡ true
+    by_rest [] o s n = absurd (no_one ts1085 rule c behind n o s)
     by_rest (d ∷ ds) o s n = o
 
     by_digit : (x : Bool) → digit Decimal c ≡ x → opens_number (c ∷ (b ++ r)) ≡ true
@@ -127,8 +128,8 @@ word_clean mode text h = go (word mode.context text).value refl h
 -- What a clean token of code is: one of four, each with what opens it
 
 data Code (mode : CodeMode) (flag : Bool) (c : ℕ) (b behind r : Text) : Type 0 where
-  ANumber : opens_number (c ∷ (b ++ behind)) ≡ true → is_clean (number mode.ts1085 (c ∷ (b ++ behind))) ≡ true → (number mode.ts1085 (c ∷ (b ++ behind))).spelling ≡ c ∷ b
-      → code_at mode flag (c ∷ (b ++ behind)) ≡ number mode.ts1085 (c ∷ (b ++ behind)) → Code mode flag c b behind r
+  ANumber : opens_number (c ∷ (b ++ behind)) ≡ true → is_clean (number mode.ts1085 mode.numbers (c ∷ (b ++ behind))) ≡ true → (number mode.ts1085 mode.numbers (c ∷ (b ++ behind))).spelling ≡ c ∷ b
+      → code_at mode flag (c ∷ (b ++ behind)) ≡ number mode.ts1085 mode.numbers (c ∷ (b ++ behind)) → Code mode flag c b behind r
   AString : opens_number (c ∷ (b ++ behind)) ≡ false → opens_string (c ∷ (b ++ behind)) ≡ true → is_clean (string_literal (c ∷ (b ++ behind))) ≡ true → (string_literal (c ∷ (b ++ behind))).spelling ≡ c ∷ b
       → code_at mode flag (c ∷ (b ++ behind)) ≡ string_literal (c ∷ (b ++ behind)) → Code mode flag c b behind r
   AWord : opens_number (c ∷ (b ++ behind)) ≡ false → opens_string (c ∷ (b ++ behind)) ≡ false → opens_word (c ∷ (b ++ behind)) ≡ true → is_clean (as_token (word mode.context (c ∷ (b ++ behind)))) ≡ true
@@ -168,9 +169,9 @@ code_is_local mode flag c b behind r clean spells free = go (code mode flag c b 
 
     go : Code mode flag c b behind r → code_at mode flag to ≡ code_at mode flag (c ∷ (b ++ behind))
     go (ANumber opens k s is) =
-        let again = number_again mode.ts1085 c b behind r opens s in
+        let again = number_again mode.ts1085 mode.numbers c b behind r opens s in
         ap (λ x. read_code (opening_from x (opens_string to) (opens_word to) (flag && opens_bars to)) mode to) again
-        ∙ number_local mode.ts1085 (c ∷ b) behind r opens k s free
+        ∙ number_local mode.ts1085 mode.numbers (c ∷ b) behind r opens k s free
         ∙ sym is
     go (AString n opens k s is) =
         let none = no_number_again c b behind r n free in
@@ -199,7 +200,7 @@ pub code_begins_no_gap : CodeBeginsNoGap
 code_begins_no_gap mode flag c b behind r clean spells free gap_mode stands = go (code mode flag c b behind r clean spells)
   where
     go : Code mode flag c b behind r → element gap_mode stands (c ∷ (b ++ r)) ≡ None
-    go (ANumber opens k s is) = number_begins_no_gap gap_mode stands (c ∷ (b ++ r)) (number_again mode.ts1085 c b behind r opens s)
+    go (ANumber opens k s is) = number_begins_no_gap gap_mode stands (c ∷ (b ++ r)) (number_again mode.ts1085 mode.numbers c b behind r opens s)
     go (AString n opens k s is) = string_begins_no_gap gap_mode stands (c ∷ (b ++ r)) opens
     go (AWord n t opens k s is) = word_begins_no_gap gap_mode stands (c ∷ (b ++ r)) opens
     go (APunctuator n t w p e s is) = ap (λ x. element gap_mode stands (x ++ r)) (sym s) ∙ punctuator_begins_no_gap mode.type_mode gap_mode stands (c ∷ (b ++ behind)) r p e free
@@ -227,7 +228,7 @@ pub code_opens_no_shebang : CodeOpensNoShebang
 code_opens_no_shebang mode flag c b behind r clean spells free = go (code mode flag c b behind r clean spells)
   where
     go : Code mode flag c b behind r → opens_shebang (c ∷ (b ++ r)) ≡ false
-    go (ANumber opens k s is) = number_no_hash c (b ++ r) (number_again mode.ts1085 c b behind r opens s)
+    go (ANumber opens k s is) = number_no_hash c (b ++ r) (number_again mode.ts1085 mode.numbers c b behind r opens s)
     go (AString n opens k s is) = no_hash (λ x. x == 34 || x == 39) c (b ++ r) refl opens
     go (AWord n t opens k s is) = word_no_hash c (b ++ r) opens
     go (APunctuator n t w p e s is) = ap (λ x. opens_shebang (x ++ r)) (sym s) ∙ punctuator_opens_none opens_shebang mode.type_mode (c ∷ (b ++ behind)) r p (shebang_none r free) e

@@ -2,6 +2,7 @@
 use Rattle.std.specs.Prelude.{◌≡◌, ℕ, Bool, true, false, ◌&&◌, ◌∷◌, ◌++◌, None}
 use Rattle.ecma_place.specs.Text.{Text}
 use Rattle.ecma_syntax.specs.declared.context.Context.{Context}
+use Rattle.ecma_syntax.specs.declared.settings.NumberRule.{NumberRule}
 use Rattle.ecma_token.specs.View.{TokenView}
 use Rattle.ecma_scan.specs.declared.gap_mode.GapMode.{GapMode}
 use Rattle.ecma_scan.specs.Bars as bars
@@ -21,6 +22,7 @@ use Rattle.ecma_state.specs.declared.mode.Mode.{Mode}
 pub record CodeMode : Type 0 where
   pub type_mode : Bool
   pub ts1085 : Bool
+  pub numbers : NumberRule
   pub context : Context
 
 pub data CodeOpening : Type 0 where
@@ -41,7 +43,7 @@ abbrev pub code_opening : Bool → Text → CodeOpening
 code_opening flag text = opening_from (numbers.opens_number text) (strings.opens_string text) (words.opens_word text) (flag && bars.opens_bars text)
 
 abbrev pub read_code : CodeOpening → CodeMode → Text → Scanned TokenView
-read_code Number mode text = numbers.number mode.ts1085 text
+read_code Number mode text = numbers.number mode.ts1085 mode.numbers text
 read_code String mode text = strings.string_literal text
 read_code Word' mode text = as_token (words.word mode.context text)
 read_code Bars mode text = bars.bars_token text
@@ -52,7 +54,7 @@ code_at mode flag text = read_code (code_opening flag text) mode text
 
 -- what a read goes by, where it reads code
 abbrev pub code_mode : Mode → CodeMode
-code_mode mode = record { type_mode = type_mode mode; ts1085 = ts1085 mode; context = mode.context }
+code_mode mode = record { type_mode = type_mode mode; ts1085 = ts1085 mode; numbers = mode.settings.numbers; context = mode.context }
 
 -- Laws
 

@@ -10,6 +10,7 @@ use Rattle.ecma_place.specs.Text.{Text}
 use Rattle.ecma_place.specs.Cursor.{Cursor, rest, place}
 use Rattle.ecma_place.specs.declared.place.BytePos.{BytePos}
 use Rattle.ecma_syntax.specs.declared.word.Word.{Word}
+use Rattle.ecma_syntax.specs.declared.settings.NumberRule.{NumberRule}
 use Rattle.ecma_token.specs.Kinds.{kind_of}
 use Rattle.ecma_token.specs.View.{ErrorView, TokenView, plain_token, refused_template, error_token}
 use Rattle.ecma_scan.specs.Expressions.{body_cutter, body_pieces, closed_expression, flags, no_flags, open_expression, regex_value, regular_expression, slashed}
@@ -213,9 +214,9 @@ template-free after text ok h = go after (pieces template_cutter tt text) (templ
 
 -- Numbers
 
-number-free : (legacy : Bool) (text : Text) → is_ok (number legacy text).value ≡ true → is_turned_in (number legacy text) ≡ false
-    → not (list_any is_separator (number legacy text).spelling) ≡ true
-number-free legacy text ok h = go (refusal parts (behind_number parts text)) ok h
+number-free : (legacy : Bool) (rule : NumberRule) (text : Text) → is_ok (number legacy rule text).value ≡ true → is_turned_in (number legacy rule text) ≡ false
+    → not (list_any is_separator (number legacy rule text).spelling) ≡ true
+number-free legacy rule text ok h = go (refusal rule parts (behind_number parts text)) ok h
   where
     parts : Number
     parts = number_parts text
@@ -224,8 +225,8 @@ number-free legacy text ok h = go (refusal parts (behind_number parts text)) ok 
     kinds true h = ap not h
     kinds false h = ap not h
 
-    go : (refused : Option ErrorView) → is_ok (found_number legacy parts refused).value ≡ true → is_turned_in (found_number legacy parts refused) ≡ false
-        → not (list_any is_separator (found_number legacy parts refused).spelling) ≡ true
+    go : (refused : Option ErrorView) → is_ok (found_number legacy rule parts refused).value ≡ true → is_turned_in (found_number legacy rule parts refused) ≡ false
+        → not (list_any is_separator (found_number legacy rule parts refused).spelling) ≡ true
     go (Some error) ok h = cc
     go None ok h = kinds (is_big_number parts) h
 
@@ -269,7 +270,7 @@ expression-free text ok h = go (next_is 47 behind) ok h
 asks-none : (o : Opening) (mode : Mode) (text : Text) → is_ok (read_opened o mode text).value ≡ true → is_turned_in (read_opened o mode text) ≡ false
     → asks_for_none o text (read_opened o mode text) ≡ true
 asks-none opens.Template mode text ok h = template-free (is_tpl_element mode.previous) text ok h
-asks-none opens.Number mode text ok h = number-free (ts1085 mode) text ok h
+asks-none opens.Number mode text ok h = number-free (ts1085 mode) mode.settings.numbers text ok h
 asks-none opens.String mode text ok h = string-free text ok h
 asks-none opens.Word mode text ok h = name-free text (name-ok mode text ok) (word-turned (words.word mode.context text).value (words.word mode.context text).spelling ok h)
 asks-none opens.Bars mode text ok h = cc

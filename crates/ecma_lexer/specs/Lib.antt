@@ -30,6 +30,7 @@ pub use Rattle.ecma_laws.specs.ToldComments
 pub use Rattle.ecma_clean.specs.Bearing
 pub use Rattle.ecma_clean.specs.Canonical
 pub use Rattle.ecma_clean.specs.Clean
+pub use Rattle.ecma_clean.specs.Rules
 pub use Rattle.ecma_clean.specs.Sharing
 pub use Rattle.ecma_clean.specs.Stages
 pub use Rattle.ecma_canonical.specs.Joined

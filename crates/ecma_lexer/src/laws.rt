@@ -1,6 +1,8 @@
 //! What holds of the grammar and of every run: each call does nothing, and its contract is the law.
 
-pub use ecma_clean::laws::{canonical_is_read, canonical_is_shared, canonical_runs_alike};
+pub use ecma_clean::laws::{
+    canonical_is_read, canonical_is_shared, canonical_runs_alike, clean_runs_by_both_rules,
+};
 pub use ecma_joining::laws as joining;
 pub use ecma_laws::laws::{
     answers_are_in_order, collecting_changes_nothing, comments_are_kept, comments_are_told,

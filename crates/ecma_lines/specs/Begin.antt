@@ -4,6 +4,8 @@ use Rattle.std.specs.Str.{chars}
 use Rattle.ecma_place.specs.Cursor.{Cursor}
 use Rattle.ecma_syntax.specs.Defaults as default_of
 use Rattle.ecma_syntax.specs.declared.context.Context.{Context}
+use Rattle.ecma_syntax.specs.declared.settings.NumberRule.{NumberRule}
+use Rattle.ecma_syntax.specs.declared.settings.NumberRule.TheVariants.{Standard}
 use Rattle.ecma_syntax.specs.declared.settings.Syntax.{Syntax}
 use Rattle.ecma_syntax.specs.declared.settings.Syntax.TheVariants.{Typescript}
 use Rattle.ecma_lexer.specs.Run.{act_on, no_context, start_of}
@@ -19,10 +21,13 @@ typescript = Typescript (record { tsx = false; decorators = false; dts = false; 
 abbrev pub syntax : Options → Syntax
 syntax o = if o.typescript then typescript else default_of.syntax
 
+abbrev pub rule : Options → NumberRule
+rule o = if o.standard then Standard else default_of.numbers
+
 -- for the fifth edition; the first part says whether comments are collected
 abbrev pub settings : Bool → Options → Settings
 settings comments o =
-    record { syntax = syntax o; target = default_of.version; comments = comments }
+    record { syntax = syntax o; target = default_of.version; comments = comments; numbers = rule o }
 
 abbrev pub context : Options → Context
 context o = record no_context { «module» = o.«module»; strict = o.strict }

@@ -27,10 +27,11 @@ with_option o word =
     if pointwise nat_eq word (codes "ts") then once o.typescript (record o { typescript = true })
     else (if pointwise nat_eq word (codes "module") then once o.«module» (record o { «module» = true })
     else (if pointwise nat_eq word (codes "strict") then once o.strict (record o { strict = true })
-    else None))
+    else (if pointwise nat_eq word (codes "standard") then once o.standard (record o { standard = true })
+    else None)))
 
 abbrev pub no_options : Options
-no_options = record { typescript = false; «module» = false; strict = false }
+no_options = record { typescript = false; «module» = false; strict = false; standard = false }
 
 -- what the words behind the command ask for so far: options, the numbers of the tokens that are read again, in order, the
 -- last of them, or 0 where there is none, and whether the next word has to be one

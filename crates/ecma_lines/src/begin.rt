@@ -6,7 +6,7 @@ ghost use Rattle.ecma_lines.specs.Begin as grammar;
 use crate::command::Options;
 use ecma_lexer::{Lexer, Tokens};
 use ecma_place::{BytePos, StringInput};
-use ecma_syntax::{Context, EsVersion, Syntax, TsSyntax};
+use ecma_syntax::{Context, EsVersion, NumberRule, Syntax, TsSyntax};
 use std::alloc::{AllocError, Global};
 
 fn syntax(options: Options) -> Syntax
@@ -16,6 +16,16 @@ fn syntax(options: Options) -> Syntax
         Syntax::Typescript(TsSyntax::default())
     } else {
         Syntax::default()
+    }
+}
+
+fn rule(options: Options) -> NumberRule
+    ensures { result ≡ grammar.rule options }
+{
+    if options.standard {
+        NumberRule::Standard
+    } else {
+        NumberRule::default()
     }
 }
 
@@ -40,12 +50,13 @@ pub fn begin<'a>(
     ensures { IfOk result (λ lexer. lexer_state lexer ≡ state_of (grammar.begin comments options text.now)) }
 {
     let input = StringInput::new(text, BytePos(0));
-    let mut lexer = Lexer::new(
+    let mut lexer = Lexer::with_rule(
         alloc,
         syntax(options),
         EsVersion::default(),
         input,
         comments,
+        rule(options),
     );
     if options.module || options.strict {
         lexer.set_ctx(context(options))?;

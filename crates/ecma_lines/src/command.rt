@@ -49,6 +49,8 @@ pub struct Options {
     pub module: bool,
     /// As strict code.
     pub strict: bool,
+    /// With numbers by the standard's rule.
+    pub standard: bool,
 }
 
 impl Options {
@@ -79,6 +81,11 @@ impl Options {
                 ..self
             }
             .once(self.strict),
+            "standard" => Options {
+                standard: true,
+                ..self
+            }
+            .once(self.standard),
             _ => None,
         }
     }

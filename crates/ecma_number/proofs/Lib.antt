@@ -4,6 +4,7 @@ pub mod NumberForms
 pub mod NumberLaws
 pub mod NumberLocal
 pub mod NumberReading
+pub mod NumberRules
 pub mod OctalFaults
 pub mod PlainNumber
 pub mod Refusals

@@ -341,53 +341,55 @@ digit_if radix c h = go (c == 95) refl (digit radix c) refl h
     go false e true d h = refl
     go false e false d h = cc
 
-at_separator : (radix : Radix) (seen : Bool) (n : ℕ) (next : Text)
-    → faulty_separators radix seen n (95 ∷ next) ≡ (cond (seen && next_passes (digit radix) next) [] (n ∷ [])) ++ faulty_separators radix seen (n + 1) next
+at_separator : (allowed : Bool) (radix : Radix) (seen : Bool) (n : ℕ) (next : Text)
+    → faulty_separators allowed radix seen n (95 ∷ next) ≡ (cond ((allowed && seen) && next_passes (digit radix) next) [] (n ∷ [])) ++ faulty_separators allowed radix seen (n + 1) next
 unfolding encode
-at_separator radix true n next = go (next_passes (digit radix) next)
+at_separator true radix true n next = go (next_passes (digit radix) next)
   where
-    go : (x : Bool) → cond (not x) (n ∷ []) [] ++ faulty_separators radix true (n + 1) next ≡ cond x [] (n ∷ []) ++ faulty_separators radix true (n + 1) next
+    go : (x : Bool) → cond (not x) (n ∷ []) [] ++ faulty_separators true radix true (n + 1) next ≡ cond x [] (n ∷ []) ++ faulty_separators true radix true (n + 1) next
     go true = refl
     go false = refl
-at_separator radix false n next = refl
+at_separator true radix false n next = refl
+at_separator false radix true n next = refl
+at_separator false radix false n next = refl
 
 or_assoc : (x y z : Bool) → ((x || y) || z) ≡ (x || (y || z))
 or_assoc true y z = refl
 or_assoc false y z = refl
 
-around : (radix : Radix) (seen : Bool) (n : ℕ) (before next : Text) → IsRun radix before
-    → faulty_separators radix seen n (before ++ (95 ∷ next))
-    ≡ faulty_separators radix seen n before
-    ++ (cond ((seen || list_any (digit radix) before) && next_passes (digit radix) next) [] ((n + byte_len before) ∷ [])
-    ++ faulty_separators radix (seen || list_any (digit radix) before) ((n + byte_len before) + 1) next)
-around radix seen n [] next h =
+around : (allowed : Bool) (radix : Radix) (seen : Bool) (n : ℕ) (before next : Text) → IsRun radix before
+    → faulty_separators allowed radix seen n (before ++ (95 ∷ next))
+    ≡ faulty_separators allowed radix seen n before
+    ++ (cond ((allowed && (seen || list_any (digit radix) before)) && next_passes (digit radix) next) [] ((n + byte_len before) ∷ [])
+    ++ faulty_separators allowed radix (seen || list_any (digit radix) before) ((n + byte_len before) + 1) next)
+around allowed radix seen n [] next h =
     let same : (seen || false) ≡ seen = or_none seen in
     let here : n + 0 ≡ n = omega arith in
-    at_separator radix seen n next
-    ∙ ap (λ x. cond (x && next_passes (digit radix) next) [] (n ∷ []) ++ faulty_separators radix x (n + 1) next) (sym same)
-    ∙ ap (λ m. cond ((seen || false) && next_passes (digit radix) next) [] (m ∷ []) ++ faulty_separators radix (seen || false) (m + 1) next) (sym here)
+    at_separator allowed radix seen n next
+    ∙ ap (λ x. cond ((allowed && x) && next_passes (digit radix) next) [] (n ∷ []) ++ faulty_separators allowed radix x (n + 1) next) (sym same)
+    ∙ ap (λ m. cond ((allowed && (seen || false)) && next_passes (digit radix) next) [] (m ∷ []) ++ faulty_separators allowed radix (seen || false) (m + 1) next) (sym here)
   where
     or_none : (x : Bool) → (x || false) ≡ x
     or_none true = refl
     or_none false = refl
-around radix seen n (c ∷ cs) next h =
+around allowed radix seen n (c ∷ cs) next h =
     let both = and_parts (in_run radix c) (list_all (in_run radix) cs) h in
     let same : next_passes (digit radix) (cs ++ (95 ∷ next)) ≡ next_passes (digit radix) cs = begins_before (digit radix) cs (95 ∷ next) (no_digit radix) in
     let seen_more : (seen_behind seen c || list_any (digit radix) cs) ≡ (seen || (digit radix c || list_any (digit radix) cs)) =
     or_assoc seen (not (c == 95)) (list_any (digit radix) cs) ∙ ap (λ x. seen || (x || list_any (digit radix) cs)) (digit_if radix c both.0) in
     let long : (n + byte_len (c ∷ [])) + byte_len cs ≡ n + byte_len (c ∷ cs) = omega (arith, byte_len-append (c ∷ []) cs) in
-    let more = around radix (seen_behind seen c) (n + byte_len (c ∷ [])) cs next both.1 in
+    let more = around allowed radix (seen_behind seen c) (n + byte_len (c ∷ [])) cs next both.1 in
     let shape : Bool → ℕ → Text → Text = λ x m l.
-    l ++ (cond (x && next_passes (digit radix) next) [] (m ∷ []) ++ faulty_separators radix x (m + 1) next) in
-    let first = cond (c == 95 && not (seen && next_passes (digit radix) cs)) (n ∷ []) [] in
-    let behind = faulty_separators radix (seen_behind seen c) (n + byte_len (c ∷ [])) cs in
-    ap (λ x. cond (c == 95 && not (seen && x)) (n ∷ []) [] ++ faulty_separators radix (seen_behind seen c) (n + byte_len (c ∷ [])) (cs ++ (95 ∷ next))) same
+    l ++ (cond ((allowed && x) && next_passes (digit radix) next) [] (m ∷ []) ++ faulty_separators allowed radix x (m + 1) next) in
+    let first = cond (c == 95 && not ((allowed && seen) && next_passes (digit radix) cs)) (n ∷ []) [] in
+    let behind = faulty_separators allowed radix (seen_behind seen c) (n + byte_len (c ∷ [])) cs in
+    ap (λ x. cond (c == 95 && not ((allowed && seen) && x)) (n ∷ []) [] ++ faulty_separators allowed radix (seen_behind seen c) (n + byte_len (c ∷ [])) (cs ++ (95 ∷ next))) same
     ∙ ap (λ l. first ++ l) (more ∙ ap (λ x. shape x ((n + byte_len (c ∷ [])) + byte_len cs) behind) seen_more ∙ ap (λ m. shape (seen || (digit radix c || list_any (digit radix) cs)) m behind) long)
     ∙ sym (append_assoc first behind _)
 
 pub separator_is_faulty : SeparatorIsFaulty
-separator_is_faulty radix before next h =
+separator_is_faulty allowed radix before next h =
     let seen = list_any (digit radix) before in
     let same : 0 + byte_len before ≡ byte_len before = omega arith in
-    around radix false 0 before next h
-    ∙ ap (λ m. faulty_separators radix false 0 before ++ (cond (seen && next_passes (digit radix) next) [] (m ∷ []) ++ faulty_separators radix seen (m + 1) next)) same
+    around allowed radix false 0 before next h
+    ∙ ap (λ m. faulty_separators allowed radix false 0 before ++ (cond ((allowed && seen) && next_passes (digit radix) next) [] (m ∷ []) ++ faulty_separators allowed radix seen (m + 1) next)) same

@@ -1,30 +1,35 @@
 -- What follows a number that is read cleanly may be replaced by any separator, and a number is not empty.
-use Rattle.std.proofs.Common.{◌≡◌, ℕ, ◌<◌, Bool, true, false, not, ◌&&◌, ◌||◌, ◌==◌, [], ◌∷◌, ◌++◌, length, Option, Some, None, refl, ap, ◌∙◌, sym, arith, eqb-true}
-use Rattle.std.proofs.lemmas.Bool.{and_right}
+use Rattle.std.proofs.Common.{◌≡◌, ℕ, ◌<◌, Bool, true, false, ◌&&◌, ◌||◌, ◌==◌, [], ◌∷◌, ◌++◌, length, Option, Some, None, refl, ap, ◌∙◌, sym, arith, eqb-true}
 use Rattle.std.proofs.lemmas.List.{drop_at}
 use Rattle.std.proofs.lemmas.Bool.Decides.{nat_tests}
 use Rattle.ecma_place.specs.Text.{Text, byte_len}
 use Rattle.ecma_place.specs.Character.{is_ident_start, is_white_space, is_line_terminator}
+use Rattle.ecma_syntax.specs.declared.settings.NumberRule.{NumberRule}
+use Rattle.ecma_syntax.specs.declared.settings.NumberRule.TheVariants.{Crate, Standard}
 use Rattle.ecma_token.specs.View.{ErrorView}
 use Rattle.ecma_token.specs.declared.token.Radix.{Radix}
 use Rattle.ecma_token.specs.declared.token.Radix.TheVariants.{Decimal}
 use Rattle.ecma_grammar.specs.Fronts.{next_passes}
 use Rattle.ecma_grammar.specs.Gaps.{is_inert}
 use Rattle.ecma_grammar.specs.Locality.{is_clean, separates}
-use Rattle.ecma_grammar.specs.Numbers.{digit, in_run, opens_number, Number, Prefixed, BigRun, OctalRun, DecimalRun, Exponent, NoExponent, Scaled, fraction_text, number_text, decimal_of, decimal_number, number_behind, prefix, run_of, behind_run, or_else, exponent_refusal, name_refusal, part_refusal, refusal, is_big_number, found_number, number_parts, behind_number, NumberIsLocal, NumberIsSome, NumberBeginsNoGap}
+use Rattle.ecma_grammar.specs.Numbers.{digit, in_run, opens_number, Number, Prefixed, BigRun, OctalRun, DecimalRun, Exponent, NoExponent, Scaled, fraction_text, number_text, decimal_of, decimal_number, number_behind, prefix, run_of, behind_run, or_else, exponent_refusal, may_not_follow, next_refusal, part_refusal, refusal, is_big_number, found_number, number_parts, behind_number, NumberIsLocal, NumberIsSome, NumberBeginsNoGap}
 use Rattle.ecma_grammar.proofs.Fronts.{separated}
 use Rattle.ecma_grammar.proofs.GapLaws.{no_element}
 use Rattle.ecma_number.proofs.NumberLaws.{number_sound, number_back}
 
--- no name begins at a separator
+-- a separator may stand behind a number
 
-no_start_space : is_ident_start 32 ≡ false
+space_follows : (rule : NumberRule) (big : Bool) → may_not_follow rule big 32 ≡ false
 unfolding is_ident_start
-no_start_space = refl
+space_follows Crate true = refl
+space_follows Crate false = refl
+space_follows Standard big = refl
 
-no_start_line_feed : is_ident_start 10 ≡ false
+line_feed_follows : (rule : NumberRule) (big : Bool) → may_not_follow rule big 10 ≡ false
 unfolding is_ident_start
-no_start_line_feed = refl
+line_feed_follows Crate true = refl
+line_feed_follows Crate false = refl
+line_feed_follows Standard big = refl
 
 -- parts that are not refused in front of one text are not in front of another
 
@@ -44,38 +49,42 @@ part_refusal_none (BigRun run) rest r h = refl
 part_refusal_none (OctalRun run) rest r h = refl
 part_refusal_none (DecimalRun run f e) rest r h = exponent_refusal_none (byte_len (run ++ fraction_text f)) e rest r h
 
-pub name_refusal_none : (n : Number) (r : Text) → next_passes is_ident_start r ≡ false → name_refusal n r ≡ None
-name_refusal_none n r stop = rw (and_right (not (is_big_number n)) (next_passes is_ident_start r) stop)
+pub next_refusal_none : (rule : NumberRule) (n : Number) (r : Text) → next_passes (may_not_follow rule (is_big_number n)) r ≡ false → next_refusal rule n r ≡ None
+next_refusal_none rule n r stop = rw stop refl
 
 pub first_none : (a b : Option ErrorView) → or_else a b ≡ None → a ≡ None
 first_none None b h = refl
 first_none (Some e) b h = cc
 
-refusal_none : (n : Number) (rest r : Text) → refusal n rest ≡ None → separates r ≡ true → refusal n r ≡ None
-refusal_none n rest r h free =
-    rw (part_refusal_none n rest r (first_none (part_refusal n rest) (name_refusal n rest) h), name_refusal_none n r (separated is_ident_start r no_start_space no_start_line_feed free))
+refusal_none : (rule : NumberRule) (n : Number) (rest r : Text) → refusal rule n rest ≡ None → separates r ≡ true → refusal rule n r ≡ None
+refusal_none rule n rest r h free =
+    let big = is_big_number n in
+    rw (
+      part_refusal_none n rest r (first_none (part_refusal n rest) (next_refusal rule n rest) h),
+      separated (may_not_follow rule big) r (space_follows rule big) (line_feed_follows rule big) free,
+    ) refl
 
 -- what is found, by whether it is refused
 
-clean_none : (ts1085 : Bool) (n : Number) (o : Option ErrorView) → is_clean (found_number ts1085 n o) ≡ true → o ≡ None
-clean_none ts1085 n None h = refl
-clean_none ts1085 n (Some e) h = cc
+pub clean_none : (ts1085 : Bool) (rule : NumberRule) (n : Number) (o : Option ErrorView) → is_clean (found_number ts1085 rule n o) ≡ true → o ≡ None
+clean_none ts1085 rule n None h = refl
+clean_none ts1085 rule n (Some e) h = cc
 
-pub spelling_is : (ts1085 : Bool) (n : Number) (o : Option ErrorView) → (found_number ts1085 n o).spelling ≡ number_text n
-spelling_is ts1085 n None = refl
-spelling_is ts1085 n (Some e) = refl
+pub spelling_is : (ts1085 : Bool) (rule : NumberRule) (n : Number) (o : Option ErrorView) → (found_number ts1085 rule n o).spelling ≡ number_text n
+spelling_is ts1085 rule n None = refl
+spelling_is ts1085 rule n (Some e) = refl
 
 pub number_local : NumberIsLocal
-number_local ts1085 b behind r opens clean spells free =
+number_local ts1085 rule b behind r opens clean spells free =
     let text = b ++ behind in
     let n = number_parts text in
-    let none : refusal n (behind_number n text) ≡ None = clean_none ts1085 n (refusal n (behind_number n text)) clean in
-    let written : number_text n ≡ b = sym (spelling_is ts1085 n (refusal n (behind_number n text))) ∙ spells in
+    let none : refusal rule n (behind_number n text) ≡ None = clean_none ts1085 rule n (refusal rule n (behind_number n text)) clean in
+    let written : number_text n ≡ b = sym (spelling_is ts1085 rule n (refusal rule n (behind_number n text))) ∙ spells in
     let again : number_parts (b ++ r) ≡ n = ap (λ l. number_parts (l ++ r)) (sym written) ∙ number_back n r (number_sound text) free in
     let follows : behind_number n (b ++ r) ≡ r = drop_at b r _ (ap length (sym written)) in
-    ap (λ m. found_number ts1085 m (refusal m (behind_number m (b ++ r)))) again
-    ∙ ap (λ l. found_number ts1085 n (refusal n l)) follows
-    ∙ ap (found_number ts1085 n) (refusal_none n (behind_number n text) r none free ∙ sym none)
+    ap (λ m. found_number ts1085 rule m (refusal rule m (behind_number m (b ++ r)))) again
+    ∙ ap (λ l. found_number ts1085 rule n (refusal rule n l)) follows
+    ∙ ap (found_number ts1085 rule n) (refusal_none rule n (behind_number n text) r none free ∙ sym none)
 
 -- a number is not empty
 
@@ -108,9 +117,9 @@ parts_some (c ∷ cs) opens = go (prefix (c ∷ cs))
     go None = decimal_some c cs opens
 
 pub number_some : NumberIsSome
-number_some ts1085 text opens =
+number_some ts1085 rule text opens =
     let n = number_parts text in
-    rw (spelling_is ts1085 n (refusal n (behind_number n text))) (parts_some text opens)
+    rw (spelling_is ts1085 rule n (refusal rule n (behind_number n text))) (parts_some text opens)
 
 -- no number begins an element of a gap
 

@@ -1,5 +1,5 @@
 -- A plain decimal number is read as it is, and nothing is told of it besides.
-use Rattle.std.proofs.Common.{◌≡◌, ℕ, ◌+◌, ◌-◌, ◌*◌, ◌<◌, ◌≤◌, ◌^◌, Bool, true, false, not, ◌==◌, nat_lt, List, [], ◌∷◌, ◌++◌, take, drop, get_or, length, map, Ok, Option, take-append-drop, length-take-le, length-append, length-drop, drop-cons, drop-drop, add-one, Some, None, refl, sym, ap, ◌∙◌, arith, zero, suc, nat_le, ⊎_elim, lit<, add-zero, append_assoc, append-nil, encode_utf8_all, encode_utf8}
+use Rattle.std.proofs.Common.{◌≡◌, ℕ, ◌+◌, ◌-◌, ◌*◌, ◌<◌, ◌≤◌, ◌^◌, Bool, true, false, not, ◌||◌, ◌==◌, nat_lt, List, [], ◌∷◌, ◌++◌, take, drop, get_or, length, map, Ok, Option, take-append-drop, length-take-le, length-append, length-drop, drop-cons, drop-drop, add-one, Some, None, refl, sym, ap, ◌∙◌, arith, zero, suc, nat_le, ⊎_elim, lit<, add-zero, append_assoc, append-nil, encode_utf8_all, encode_utf8}
 use borrow.Author.Count.{below_more}
 use Rattle.std.specs.Char.{digit_value}
 use Rattle.std.specs.List.{list_all, list_any, prefix_len}
@@ -22,19 +22,21 @@ use Rattle.ecma_place.specs.declared.place.Span.{Span}
 use Rattle.ecma_place.proofs.CursorLemmas.{count_within-byte_len}
 use Rattle.ecma_place.proofs.MoveLemmas.{place-passed}
 use Rattle.ecma_place.specs.Character.{is_ident_start}
+use Rattle.ecma_syntax.specs.declared.settings.NumberRule.{NumberRule}
+use Rattle.ecma_syntax.specs.declared.settings.NumberRule.TheVariants.{Crate, Standard}
 use Rattle.ecma_token.specs.View.{TokenView, plain_token}
 use Rattle.ecma_token.specs.declared.token.Token.{Num}
 use Rattle.ecma_token.specs.declared.token.Radix.TheVariants.{Decimal}
 use Rattle.ecma_grammar.specs.Found.{found_at, token_behind, fault_behind, span_of}
 use Rattle.ecma_grammar.specs.Fronts.{next_passes, next_is, is}
-use Rattle.ecma_grammar.specs.Numbers.{digit, in_run, is_separator, is_exponent_mark, is_legacy, is_octal_run, Number, DecimalRun, Fraction, NoFraction, Point, NoExponent, fraction_text, number_text, number_parts, behind_number, refusal, fraction, number, number_token, whole_value, raw_atom, digits_atom, part_faults, fraction_faults, octal_faults, found_number, IsRun, IsFraction, IsNumber}
+use Rattle.ecma_grammar.specs.Numbers.{digit, in_run, is_separator, is_exponent_mark, is_legacy, is_octal_run, Number, DecimalRun, Fraction, NoFraction, Point, NoExponent, fraction_text, number_text, number_parts, behind_number, refusal, fraction, number, number_token, whole_value, raw_atom, digits_atom, may_not_follow, may_hold_separators, part_faults, fraction_faults, octal_faults, found_number, IsRun, IsFraction, IsNumber}
 use Rattle.ecma_grammar.proofs.NumberFound.{front-taken, small-token, accepted-found, seen}
 use Rattle.ecma_grammar.proofs.Fronts.{front_run, front-is, front_all, length-take_while}
 use Rattle.ecma_number.specs.PlainNumbers.{AreDigits, fraction_digits, ends_number, goes_on, IsPlain, StartsPlain}
 use Rattle.ecma_number.proofs.NumberLaws.{number_decimal, is_letter}
 use Rattle.ecma_number.proofs.NumberDigits.{all_kept}
 use Rattle.ecma_number.proofs.NumberForms.{number-bytes, number-length}
-use Rattle.ecma_number.proofs.NumberLocal.{name_refusal_none}
+use Rattle.ecma_number.proofs.NumberLocal.{next_refusal_none}
 use Rattle.ecma_number.proofs.RunFaults.{no_separators, or_none}
 
 -- The digits with which bytes begin, and their value
@@ -197,10 +199,24 @@ pointed-plain bytes count more end e unpadded inside point f sum ends =
 -- What the byte behind is not
 
 pub ends-low : (c : ℕ) → ends_number c ≡ true → c < 128
-ends-low c h = let low = (and_parts (nat_lt c 128) (not (is_ident_start c)) h).0 in grind (arith, nat_tests)
+ends-low c h = let low = (and_parts (nat_lt c 128) (not (is_ident_start c || c == 92)) h).0 in grind (arith, nat_tests)
+
+starts-neither : (c : ℕ) → ends_number c ≡ true → (is_ident_start c ≡ false) × ((c == 92) ≡ false)
+starts-neither c h = or_none (is_ident_start c) (c == 92) (not-true (is_ident_start c || c == 92) (and_parts (nat_lt c 128) (not (is_ident_start c || c == 92)) h).1)
 
 starts-none : (c : ℕ) → ends_number c ≡ true → is_ident_start c ≡ false
-starts-none c h = not-true (is_ident_start c) (and_parts (nat_lt c 128) (not (is_ident_start c)) h).1
+starts-none c h = (starts-neither c h).0
+
+digit-stops : (f : Fraction) (c : ℕ) → goes_on f c ≡ false → digit Decimal c ≡ false
+digit-stops NoFraction c h = (or_none (digit Decimal c) (c == 46) h).0
+digit-stops (Point run) c h = h
+
+-- by both rules it may stand behind a number
+may-follow : (rule : NumberRule) (big : Bool) (f : Fraction) (c : ℕ) → ends_number c ≡ true → goes_on f c ≡ false → may_not_follow rule big c ≡ false
+may-follow Crate big f c ends stops = and_right (not big) (is_ident_start c) (starts-none c ends)
+may-follow Standard big f c ends stops =
+    let none = starts-neither c ends in
+    rw (none.0, digit-stops f c stops) none.1
 
 mark_starts : (c : ℕ) → is_ident_start c ≡ false → is_exponent_mark c ≡ false
 unfolding is_ident_start
@@ -217,10 +233,6 @@ separator_starts c h = grind (arith, nat_tests)
 letter_starts : (c : ℕ) → is_ident_start c ≡ false → is_letter c ≡ false
 unfolding is_ident_start
 letter_starts c h = grind (arith, nat_tests)
-
-digit-stops : (f : Fraction) (c : ℕ) → goes_on f c ≡ false → digit Decimal c ≡ false
-digit-stops NoFraction c h = (or_none (digit Decimal c) (c == 46) h).0
-digit-stops (Point run) c h = h
 
 run-stops : (f : Fraction) (c : ℕ) → goes_on f c ≡ false → is_ident_start c ≡ false → in_run Decimal c ≡ false
 run-stops f c stops none = rw (digit-stops f c stops) (separator_starts c none)
@@ -253,24 +265,25 @@ parts-read run f c r all unpadded tail none stops =
 
 fraction-said : (n : ℕ) (f : Fraction) → fraction_digits f ≡ true → fraction_faults n f ≡ []
 fraction-said n NoFraction all = refl
-fraction-said n (Point run) all = rw (no_separators Decimal false 0 run (digits-none run all)) refl
+fraction-said n (Point run) all = rw (no_separators true Decimal false 0 run (digits-none run all)) refl
 
-pub parts-said : (run : Text) (f : Fraction) → AreDigits run → is_legacy run ≡ false → fraction_digits f ≡ true → part_faults (DecimalRun run f NoExponent) ≡ []
-parts-said run f all unpadded tail = rw (no_separators Decimal false 0 run (digits-none run all), unpadded, fraction-said (byte_len run) f tail) refl
+pub parts-said : (rule : NumberRule) (run : Text) (f : Fraction) → AreDigits run → is_legacy run ≡ false → fraction_digits f ≡ true → part_faults rule (DecimalRun run f NoExponent) ≡ []
+parts-said rule run f all unpadded tail = rw (no_separators (may_hold_separators rule run) Decimal false 0 run (digits-none run all), unpadded, fraction-said (byte_len run) f tail) refl
 
 octal-said : (ts1085 : Bool) (run : Text) (f : Fraction) → octal_faults ts1085 (DecimalRun run f NoExponent) ≡ []
 octal-said true run f = refl
 octal-said false run f = refl
 
 -- the number, whatever follows the byte behind
-number-read : (ts1085 : Bool) (run : Text) (f : Fraction) (c : ℕ) (r : Text) → AreDigits run → is_legacy run ≡ false → fraction_digits f ≡ true → is_ident_start c ≡ false → goes_on f c ≡ false
-    → let n : Number = DecimalRun run f NoExponent in number ts1085 (number_text n ++ (c ∷ r)) ≡ found_number ts1085 n None
-number-read ts1085 run f c r all unpadded tail none stops =
+number-read : (ts1085 : Bool) (rule : NumberRule) (run : Text) (f : Fraction) (c : ℕ) (r : Text) → AreDigits run → is_legacy run ≡ false → fraction_digits f ≡ true
+    → ends_number c ≡ true → goes_on f c ≡ false
+    → let n : Number = DecimalRun run f NoExponent in number ts1085 rule (number_text n ++ (c ∷ r)) ≡ found_number ts1085 rule n None
+number-read ts1085 rule run f c r all unpadded tail ends stops =
     let n : Number = DecimalRun run f NoExponent in
     let text : Text = number_text n ++ (c ∷ r) in
-    ap (λ m. found_number ts1085 m (refusal m (behind_number m text))) (parts-read run f c r all unpadded tail none stops)
-    ∙ ap (λ l. found_number ts1085 n (refusal n l)) (drop_at (number_text n) (c ∷ r) _ refl)
-    ∙ ap (found_number ts1085 n) (name_refusal_none n (c ∷ r) none)
+    ap (λ m. found_number ts1085 rule m (refusal rule m (behind_number m text))) (parts-read run f c r all unpadded tail (starts-none c ends) stops)
+    ∙ ap (λ l. found_number ts1085 rule n (refusal rule n l)) (drop_at (number_text n) (c ∷ r) _ refl)
+    ∙ ap (found_number ts1085 rule n) (next_refusal_none rule n (c ∷ r) (may-follow rule false f c ends stops))
 
 -- In the text at a cursor
 
@@ -302,11 +315,11 @@ plain-split p cs e =
     (last.0, cut.1 ∙ ap (λ l. text ++ l) last.1)
 
 -- what the grammar finds there
-pub plain-number : {bytes : List ℕ} {count : ℕ} {whole : Option ℕ} (p : IsPlain bytes count whole) (cs : Text) (ts1085 : Bool) → bytes ≡ encode_utf8_all cs
-    → number ts1085 cs ≡ found_number ts1085 (plain_of p) None
-plain-number p cs ts1085 e =
+pub plain-number : {bytes : List ℕ} {count : ℕ} {whole : Option ℕ} (p : IsPlain bytes count whole) (cs : Text) (ts1085 : Bool) (rule : NumberRule) → bytes ≡ encode_utf8_all cs
+    → number ts1085 rule cs ≡ found_number ts1085 rule (plain_of p) None
+plain-number p cs ts1085 rule e =
     let cut = plain-split p cs e in
-    ap (number ts1085) cut.1 ∙ number-read ts1085 p.start.run p.start.fraction p.start.next cut.0 p.start.digits p.start.unpadded p.start.tail_digits (starts-none p.start.next p.start.ends) p.start.stops
+    ap (number ts1085 rule) cut.1 ∙ number-read ts1085 rule p.start.run p.start.fraction p.start.next cut.0 p.start.digits p.start.unpadded p.start.tail_digits p.start.ends p.start.stops
 
 pub plain-front : {bytes : List ℕ} {count : ℕ} {whole : Option ℕ} (p : IsPlain bytes count whole) (cs : Text) → bytes ≡ encode_utf8_all cs
     → take (length (number_text (plain_of p))) cs ≡ number_text (plain_of p)
@@ -347,14 +360,14 @@ plain-token p raw digits e f =
     small-token n raw digits Decimal _ refl e refl (f ∙ sym same) p.worth
 
 -- what a reader shows of it
-pub plain-found : {bytes : List ℕ} {count : ℕ} {whole : Option ℕ} (p : IsPlain bytes count whole) (start : ℕ) (ts1085 : Bool) (token : TokenView) (extent : Span)
+pub plain-found : {bytes : List ℕ} {count : ℕ} {whole : Option ℕ} (p : IsPlain bytes count whole) (start : ℕ) (ts1085 : Bool) (rule : NumberRule) (token : TokenView) (extent : Span)
     → token ≡ number_token (plain_of p) → extent ≡ span_of start (start + byte_len (number_text (plain_of p)))
-    → found_at token_behind start (found_number ts1085 (plain_of p) None) ≡ seen (Ok token) [] extent
-plain-found p start ts1085 token extent e f =
+    → found_at token_behind start (found_number ts1085 rule (plain_of p) None) ≡ seen (Ok token) [] extent
+plain-found p start ts1085 rule token extent e f =
     let n : Number = plain_of p in
-    let parts : [] ≡ map (fault_behind start) (part_faults n) = ap (map (fault_behind start)) (sym (parts-said p.start.run p.start.fraction p.start.digits p.start.unpadded p.start.tail_digits)) in
+    let parts : [] ≡ map (fault_behind start) (part_faults rule n) = ap (map (fault_behind start)) (sym (parts-said rule p.start.run p.start.fraction p.start.digits p.start.unpadded p.start.tail_digits)) in
     let octals : [] ≡ [] ++ map (fault_behind start) (octal_faults ts1085 n) = ap (map (fault_behind start)) (sym (octal-said ts1085 p.start.run p.start.fraction)) in
-    sym (accepted-found start ts1085 n None token [] [] extent refl e parts octals f)
+    sym (accepted-found start ts1085 rule n None token [] [] extent refl e parts octals f)
 
 -- Each plain number is answered
 

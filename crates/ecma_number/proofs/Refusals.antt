@@ -1,15 +1,15 @@
 -- Why a number is refused, as its readers say it.
-use Rattle.std.proofs.Common.{◌≡◌, ◌<◌, ℕ, ◌+◌, ◌^◌, true, false, [], ◌∷◌, ◌++◌, inl, length, Option, Some, None, option_map, refl, ap, ◌∙◌, arith, length-append}
+use Rattle.std.proofs.Common.{◌≡◌, ◌<◌, ℕ, ◌+◌, ◌^◌, true, [], ◌∷◌, ◌++◌, inl, length, Option, Some, None, option_map, refl, ap, ◌∙◌, arith, length-append}
 use Rattle.ecma_place.specs.Text.{Text, byte_len}
 use Rattle.ecma_place.specs.declared.place.Span.{Span}
-use Rattle.ecma_place.specs.Character.{is_ident_start}
+use Rattle.ecma_syntax.specs.declared.settings.NumberRule.{NumberRule}
 use Rattle.ecma_token.specs.declared.error.Error.{Error}
 use Rattle.ecma_token.specs.declared.error.SyntaxError.{NumLitTerminatedWithExp, IdentAfterNum}
 use Rattle.ecma_token.specs.declared.token.Radix.TheVariants.{Decimal}
 use Rattle.ecma_token.specs.View.{ErrorView, IsErrorAt, error_view}
 use Rattle.ecma_grammar.specs.Found.{error_behind, span_of}
 use Rattle.ecma_grammar.specs.Fronts.{next_passes}
-use Rattle.ecma_grammar.specs.Numbers.{Number, DecimalRun, Fraction, Exponent, Scaled, digit_refusal, exponent_refusal, name_refusal, or_else, is_big_number, is_exponent_mark, number_text, fraction_text, exponent_text, IsNumber, IsSign}
+use Rattle.ecma_grammar.specs.Numbers.{Number, DecimalRun, Fraction, Exponent, Scaled, digit_refusal, exponent_refusal, may_not_follow, next_refusal, or_else, is_big_number, is_exponent_mark, number_text, fraction_text, exponent_text, IsNumber, IsSign}
 use Rattle.ecma_grammar.proofs.NumberRefusals.{seen_error}
 use Rattle.ecma_number.proofs.NumberForms.{before_exponent-length}
 use Rattle.ecma_number.proofs.NumberReading.{decimal-length}
@@ -39,11 +39,11 @@ mark_followed start mark sign run rest is signed more = asked sign run rest more
     place : start + byte_len (mark ∷ sign) ≡ start + 1 + length sign
     place = omega (arith, mark-length mark sign is signed)
 
--- a name begins right behind the number
-pub name_refused : (number : Number) (rest : Text) (start here : ℕ) (e : Error) (span : Span) → is_big_number number ≡ false → next_passes is_ident_start rest ≡ true
+-- a character that may not stand right behind the number stands there
+pub next_refused : (rule : NumberRule) (number : Number) (rest : Text) (start here : ℕ) (e : Error) (span : Span) → next_passes (may_not_follow rule (is_big_number number)) rest ≡ true
     → IsErrorAt e IdentAfterNum span → span ≡ span_of here here → start + byte_len (number_text number) ≡ here
-    → Some (error_view e) ≡ option_map (error_behind start) (name_refusal number rest)
-name_refused number rest start here e span big begins said there place = rw (big, begins, place) (ap Some (seen_error e IdentAfterNum span _ said there))
+    → Some (error_view e) ≡ option_map (error_behind start) (next_refusal rule number rest)
+next_refused rule number rest start here e span follows said there place = rw (follows, place) (ap Some (seen_error e IdentAfterNum span _ said there))
 
 -- what the parts refuse is refused
 pub first_some : (f : ErrorView → ErrorView) (a b : Option ErrorView) (e : ErrorView) → Some e ≡ option_map f a → Some e ≡ option_map f (or_else a b)

@@ -1,5 +1,5 @@
 -- The faults of a run, one byte on and at its end.
-use Rattle.std.proofs.Common.{◌≡◌, ℕ, ◌+◌, ◌<◌, Bool, true, false, cond, ◌||◌, List, [], ◌∷◌, ◌++◌, length, map, refl, sym, ap, ◌∙◌, arith, append_assoc, append-nil, inl, inr}
+use Rattle.std.proofs.Common.{◌≡◌, ℕ, ◌+◌, ◌<◌, Bool, true, false, cond, ◌&&◌, ◌||◌, List, [], ◌∷◌, ◌++◌, length, map, refl, sym, ap, ◌∙◌, arith, append_assoc, append-nil, inl, inr}
 use Rattle.std.specs.List.{list_any, list_all}
 use Rattle.std.proofs.lemmas.Bool.{and_parts}
 use Rattle.std.proofs.lemmas.Bool.Decides.{nat_tests}
@@ -20,10 +20,10 @@ use Rattle.ecma_grammar.proofs.RunReading.{run-ascii, run-bytes}
 one_byte : (radix : Radix) (c : ℕ) → in_run radix c ≡ true → byte_len (c ∷ []) ≡ 1
 one_byte radix c h = ap (λ bytes. length (bytes ++ [])) (encode_ascii c (run-ascii radix c h))
 
-pub separators-more : (radix : Radix) (seen : Bool) (n : ℕ) (c : ℕ) (cs : Text) → IsRun radix (c ∷ cs)
-    → faulty_separators radix seen n (c ∷ cs) ≡ cond (is_faulty radix seen c cs) (n ∷ []) [] ++ faulty_separators radix (seen_behind seen c) (n + 1) cs
-separators-more radix seen n c cs run =
-    ap (λ k. cond (is_faulty radix seen c cs) (n ∷ []) [] ++ faulty_separators radix (seen_behind seen c) (n + k) cs) (one_byte radix c (and_parts (in_run radix c) (list_all (in_run radix) cs) run).0)
+pub separators-more : (allowed : Bool) (radix : Radix) (seen : Bool) (n : ℕ) (c : ℕ) (cs : Text) → IsRun radix (c ∷ cs)
+    → faulty_separators allowed radix seen n (c ∷ cs) ≡ cond (is_faulty radix (allowed && seen) c cs) (n ∷ []) [] ++ faulty_separators allowed radix (seen_behind seen c) (n + 1) cs
+separators-more allowed radix seen n c cs run =
+    ap (λ k. cond (is_faulty radix (allowed && seen) c cs) (n ∷ []) [] ++ faulty_separators allowed radix (seen_behind seen c) (n + k) cs) (one_byte radix c (and_parts (in_run radix c) (list_all (in_run radix) cs) run).0)
 
 pub run-behind : (radix : Radix) (c : ℕ) (cs : Text) → IsRun radix (c ∷ cs) → IsRun radix cs
 run-behind radix c cs run = (and_parts (in_run radix c) (list_all (in_run radix) cs) run).1
@@ -33,32 +33,32 @@ abbrev pub said : ℕ → List ℕ → List Fault
 said n places = map (fault_behind n) (map separator_fault places)
 
 -- one turn of a loop over the bytes
-pub turn : (start : ℕ) (radix : Radix) (seen : Bool) (n : ℕ) (c : ℕ) (cs : Text) (was now all : List Fault) → IsRun radix (c ∷ cs)
-    → now ≡ was ++ said start (cond (is_faulty radix seen c cs) (n ∷ []) [])
-    → was ++ said start (faulty_separators radix seen n (c ∷ cs)) ≡ all
-    → now ++ said start (faulty_separators radix (seen_behind seen c) (n + 1) cs) ≡ all
-turn start radix seen n c cs was now all run e h =
-    let one : List ℕ = cond (is_faulty radix seen c cs) (n ∷ []) [] in
-    let more : List ℕ = faulty_separators radix (seen_behind seen c) (n + 1) cs in
+pub turn : (start : ℕ) (allowed : Bool) (radix : Radix) (seen : Bool) (n : ℕ) (c : ℕ) (cs : Text) (was now all : List Fault) → IsRun radix (c ∷ cs)
+    → now ≡ was ++ said start (cond (is_faulty radix (allowed && seen) c cs) (n ∷ []) [])
+    → was ++ said start (faulty_separators allowed radix seen n (c ∷ cs)) ≡ all
+    → now ++ said start (faulty_separators allowed radix (seen_behind seen c) (n + 1) cs) ≡ all
+turn start allowed radix seen n c cs was now all run e h =
+    let one : List ℕ = cond (is_faulty radix (allowed && seen) c cs) (n ∷ []) [] in
+    let more : List ℕ = faulty_separators allowed radix (seen_behind seen c) (n + 1) cs in
     let split : said start (one ++ more) ≡ said start one ++ said start more =
     ap (map (fault_behind start)) (map-append separator_fault one more) ∙ map-append (fault_behind start) (map separator_fault one) (map separator_fault more) in
-    rw (e, append_assoc, ← split, ← separators-more radix seen n c cs run) h
+    rw (e, append_assoc, ← split, ← separators-more allowed radix seen n c cs run) h
 
-none_faulty : (seen : Bool) (radix : Radix) (c : ℕ) (cs : Text) → is_separator c ≡ false → is_faulty radix seen c cs ≡ false
+pub none_faulty : (seen : Bool) (radix : Radix) (c : ℕ) (cs : Text) → is_separator c ≡ false → is_faulty radix seen c cs ≡ false
 none_faulty seen radix c cs e = rw e refl
 
 pub or_none : (a b : Bool) → (a || b) ≡ false → (a ≡ false) × (b ≡ false)
 or_none true b e = cc
 or_none false b e = (refl, e)
 
-pub no_separators : (radix : Radix) (seen : Bool) (n : ℕ) (run : Text) → list_any is_separator run ≡ false → faulty_separators radix seen n run ≡ []
-no_separators radix seen n [] e = refl
-no_separators radix seen n (c ∷ cs) e =
+pub no_separators : (allowed : Bool) (radix : Radix) (seen : Bool) (n : ℕ) (run : Text) → list_any is_separator run ≡ false → faulty_separators allowed radix seen n run ≡ []
+no_separators allowed radix seen n [] e = refl
+no_separators allowed radix seen n (c ∷ cs) e =
     let parts = or_none (is_separator c) (list_any is_separator cs) e in
-    rw (none_faulty seen radix c cs parts.0) (no_separators radix (seen_behind seen c) (n + byte_len (c ∷ [])) cs parts.1)
+    rw (none_faulty (allowed && seen) radix c cs parts.0) (no_separators allowed radix (seen_behind seen c) (n + byte_len (c ∷ [])) cs parts.1)
 
-pub none_said : (start : ℕ) (radix : Radix) (run : Text) (was : List Fault) → list_any is_separator run ≡ false → was ≡ was ++ map (fault_behind start) (run_faults radix run)
-none_said start radix run was e = rw (no_separators radix false 0 run e) (sym (append-nil was))
+pub none_said : (start : ℕ) (allowed : Bool) (radix : Radix) (run : Text) (was : List Fault) → list_any is_separator run ≡ false → was ≡ was ++ map (fault_behind start) (run_faults allowed radix run)
+none_said start allowed radix run was e = rw (no_separators allowed radix false 0 run e) (sym (append-nil was))
 
 -- the bytes of parts are their characters, and no separator stands in a part of a text without one
 

@@ -15,9 +15,9 @@ abbrev pub fraction_digits : Fraction → Bool
 fraction_digits NoFraction = true
 fraction_digits (Point run) = list_all (digit Decimal) run
 
--- an ASCII character that begins no name
+-- an ASCII character that begins no name, and is no backslash
 abbrev pub ends_number : ℕ → Bool
-ends_number c = nat_lt c 128 && not (is_ident_start c)
+ends_number c = nat_lt c 128 && not (is_ident_start c || c == 92)
 
 -- a digit, or a point where no fraction came, goes on with the number
 abbrev pub goes_on : Fraction → ℕ → Bool
@@ -25,7 +25,7 @@ goes_on NoFraction c = digit Decimal c || c == 46
 goes_on (Point run) c = digit Decimal c
 
 -- The text, or its bytes, begins with a number of digits alone, whose first is no zero before others, with a fraction or
--- without, and behind it stands a character that neither goes on with it nor begins a name.
+-- without, and behind it stands a character that neither goes on with it nor begins a name, and is no backslash.
 pub record StartsPlain (text : List ℕ) : Type 0 where
   pub run : Text
   pub fraction : Fraction

@@ -24,6 +24,7 @@ use crate::number::refusals::refusal;
 use crate::number::token::number_token;
 use ecma_grammar::found::Found;
 use ecma_place::{Span, StringInput};
+use ecma_syntax::NumberRule;
 use ecma_token::Token;
 use std::alloc::{AllocError, Global};
 
@@ -35,6 +36,7 @@ fn found_number<'a>(
     extent: Span,
     input: &StringInput,
     ts1085: bool,
+    rule: NumberRule,
 ) -> Result<Found<'a, Token<'a>>, AllocError>
     requires form { grammar.IsNumber (number_of number) }
     requires raw { raw.now ≡ grammar.number_text (number_of number) }
@@ -43,14 +45,14 @@ fn found_number<'a>(
     requires some { grammar.part_refusal (number_of number) (rest input.now) ≡ None
         → 0 < length (grammar.without_separators (grammar.written_digits (number_of number))) }
     ensures found { IfOk result (λ f. found_view token_view f ≡ found_at token_behind extent.lo.0
-        (grammar.found_number ts1085 (number_of number.entry) (grammar.refusal (number_of number.entry) (rest input.now)))) }
+        (grammar.found_number ts1085 rule (number_of number.entry) (grammar.refusal rule (number_of number.entry) (rest input.now)))) }
     ensures free { list_any grammar.is_separator (grammar.number_text (number_of number.entry)) ≡ false
-        → grammar.refusal (number_of number.entry) (rest input.now) ≡ None
-        → (grammar.found_number ts1085 (number_of number.entry) None).faults ≡ [] → IsOk result }
+        → grammar.refusal rule (number_of number.entry) (rest input.now) ≡ None
+        → (grammar.found_number ts1085 rule (number_of number.entry) None).faults ≡ [] → IsOk result }
 {
     let mut faults = Vec::new(alloc);
-    push_part_faults(alloc, &mut faults, number, extent.lo)?;
-    let value = match refusal(alloc, number, extent.lo, input)? {
+    push_part_faults(alloc, &mut faults, number, extent.lo, rule)?;
+    let value = match refusal(alloc, number, extent.lo, input, rule)? {
         Some(error) => Err(error),
         None => {
             push_octal_faults(alloc, &mut faults, number, extent.lo, ts1085)?;
@@ -68,14 +70,16 @@ fn found_number<'a>(
 /// Reads the number at the cursor (ECMA-262 NumericLiteral, 12.9.3, with the legacy forms), and moves behind it.
 ///
 /// The cursor stands at a digit, or at a point and a digit. `ts1085` says that a legacy octal is told of as TypeScript
-/// does. The answer is a `Num` or a `BigInt`, or why the number is refused:
+/// does, and `rule` which rule numbers are read by. The answer is a `Num` or a `BigInt`, or why the number is refused:
 ///
 /// - `ExpectedDigit` over the run of a radix or an exponent that has no digit;
 /// - `NumLitTerminatedWithExp`, empty behind a mark of an exponent that ends the text;
-/// - `IdentAfterNum`, empty behind a number that is no big integer, where a name begins there.
+/// - `IdentAfterNum`, empty behind the number: by the crate's rule where it is no big integer and a character stands there
+///   with which a name begins; by the standard's, behind a big integer too, also where a decimal digit or a backslash does.
 ///
 /// The faults are `NumericSeparatorIsAllowedOnlyBetweenTwoDigits` from the start of a run to each separator in it that
-/// does not stand between two digits, and, of a number that is not refused, `LegacyDecimal` over the run, or `TS1085`
+/// does not stand between two digits, and by the standard's rule to each in a decimal run that begins the number, begins
+/// with `0` and is longer; and, of a number that is not refused, `LegacyDecimal` over the run, or `TS1085`
 /// and `LegacyOctal` over the number. Which errors there are, and their spans, is our own choice.
 ///
 /// A number without separator, refusal and fault takes no memory.
@@ -87,15 +91,16 @@ pub fn scan_number<'a>(
     alloc: Global,
     input: &mut StringInput<'a>,
     ts1085: bool,
+    rule: NumberRule,
 ) -> Result<Found<'a, Token<'a>>, AllocError>
     requires { grammar.opens_number (rest input.old) ≡ true }
     ensures found { IfOk result (λ f. found_view token_view f ≡
-        found_at token_behind (place input.old) (grammar.number ts1085 (rest input.old))) }
+        found_at token_behind (place input.old) (grammar.number ts1085 rule (rest input.old))) }
     ensures moved { OnOk result
-        (input.new ≡ passed (length (grammar.number ts1085 (rest input.old)).spelling) input.old) }
-    ensures free { list_any grammar.is_separator (grammar.number ts1085 (rest input.old)).spelling ≡ false
-        → is_accepted (grammar.number ts1085 (rest input.old)).value ≡ true
-        → (grammar.number ts1085 (rest input.old)).faults ≡ [] → IsOk result }
+        (input.new ≡ passed (length (grammar.number ts1085 rule (rest input.old)).spelling) input.old) }
+    ensures free { list_any grammar.is_separator (grammar.number ts1085 rule (rest input.old)).spelling ≡ false
+        → is_accepted (grammar.number ts1085 rule (rest input.old)).value ≡ true
+        → (grammar.number ts1085 rule (rest input.old)).faults ≡ [] → IsOk result }
     ensures same { OnErr result (input.new ≡ input.old) }
 {
     let before = input.clone()?;
@@ -103,7 +108,7 @@ pub fn scan_number<'a>(
     let number = read_parts(input);
     let extent = Span::new(start, input.cur_pos());
     let raw = input.slice(extent.lo, extent.hi);
-    let Ok(found) = found_number(alloc, number, raw, extent, input, ts1085) else {
+    let Ok(found) = found_number(alloc, number, raw, extent, input, ts1085, rule) else {
         *input = before;
         return Err(AllocError);
     };

@@ -1,7 +1,7 @@
 //! The texts that are played.
 use ecma_lexer::{Lexer, Settings, TokenContext, TokenContexts, Tokens};
 use ecma_place::{BytePos, StringInput};
-use ecma_syntax::{Context, EsVersion, Syntax};
+use ecma_syntax::{Context, EsVersion, NumberRule, Syntax};
 use std::alloc::{AllocError, Global};
 use std::io;
 
@@ -41,6 +41,7 @@ pub fn settings() -> Settings {
         syntax: Syntax::default(),
         target: EsVersion::default(),
         comments: true,
+        numbers: NumberRule::default(),
     }
 }
 

@@ -43,12 +43,13 @@ impl<'a> Runner<'a> {
     fn new(alloc: Global, settings: &Settings, input: StringInput<'a>) -> Runner<'a>
         ensures { Follows (start_of settings.now input.entry) [] result }
     {
-        let lexer = Lexer::new(
+        let lexer = Lexer::with_rule(
             alloc,
             settings.syntax,
             settings.target,
             input,
             settings.comments,
+            settings.numbers,
         );
         Runner {
             player: Player::new(alloc, lexer),

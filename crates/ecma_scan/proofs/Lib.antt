@@ -48,6 +48,7 @@ pub use Rattle.ecma_number.proofs.NumberLaws
 pub use Rattle.ecma_number.proofs.NumberLocal
 pub use Rattle.ecma_number.proofs.NumberReading
 pub use Rattle.ecma_grammar.proofs.NumberRefusals
+pub use Rattle.ecma_number.proofs.NumberRules
 pub use Rattle.ecma_number.proofs.OctalFaults
 pub use Rattle.ecma_grammar.proofs.PartFaults
 pub use Rattle.ecma_grammar.proofs.PieceLemmas

@@ -1,9 +1,11 @@
--- The settings where none are given: ECMAScript with every option off, for the fifth edition.
+-- The settings where none are given: ECMAScript with every option off, for the fifth edition, its numbers by the crate's rule.
 use Rattle.std.specs.Prelude.{false}
 use Rattle.ecma_settings.specs.declared.settings.Syntax.{Syntax}
 use Rattle.ecma_settings.specs.declared.settings.Syntax.TheVariants.{Es}
 use Rattle.ecma_settings.specs.declared.settings.EsVersion.{EsVersion}
 use Rattle.ecma_settings.specs.declared.settings.EsVersion.TheVariants.{Es5}
+use Rattle.ecma_settings.specs.declared.settings.NumberRule.{NumberRule}
+use Rattle.ecma_settings.specs.declared.settings.NumberRule.TheVariants.{Crate}
 
 abbrev pub syntax : Syntax
 syntax = Es (record {
@@ -21,3 +23,6 @@ syntax = Es (record {
 
 abbrev pub version : EsVersion
 version = Es5
+
+abbrev pub numbers : NumberRule
+numbers = Crate

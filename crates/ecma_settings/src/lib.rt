@@ -5,4 +5,6 @@ pub mod context;
 pub mod settings;
 
 pub use context::{Context, ExpressionContext};
-pub use settings::{EsConfig, EsSyntax, EsVersion, JscTarget, Syntax, TsConfig, TsSyntax};
+pub use settings::{
+    EsConfig, EsSyntax, EsVersion, JscTarget, NumberRule, Syntax, TsConfig, TsSyntax,
+};

@@ -253,3 +253,25 @@ impl Default for EsVersion {
         EsVersion::Es5
     }
 }
+
+/// Which rule numbers are read by. The list and its keys are our own choice.
+#[derive(Debug, Clone, Copy, PartialEq, Eq, Serialize, Deserialize)]
+pub enum NumberRule {
+    /// That of the crate this layer was made after; the default. Behind a number that is no big integer no name may begin;
+    /// any decimal run may hold separators.
+    #[serde(rename = "crate")]
+    Crate,
+    /// That of ECMA-262 (12.9.3). Behind no number a name may begin or a decimal digit stand, and a decimal integer run that
+    /// begins with `0` and goes on holds no separator.
+    #[serde(rename = "standard")]
+    Standard,
+}
+
+/// The rule of the crate.
+impl Default for NumberRule {
+    ghost is_default = { λ rule. rule ≡ default_of.numbers };
+
+    fn default() -> NumberRule {
+        NumberRule::Crate
+    }
+}

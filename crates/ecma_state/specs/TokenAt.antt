@@ -77,7 +77,7 @@ ts1085 mode = is_typescript mode.settings.syntax && is_since_es5 mode.settings.t
 
 abbrev pub read_opened : Opening → Mode → Text → Scanned TokenView
 read_opened opens.Template mode text = templates.template_text (is_tpl_element mode.previous) text
-read_opened opens.Number mode text = numbers.number (ts1085 mode) text
+read_opened opens.Number mode text = numbers.number (ts1085 mode) mode.settings.numbers text
 read_opened opens.String mode text = strings.string_literal text
 read_opened opens.Word mode text = word_token mode text
 read_opened opens.Bars mode text = bars.bars_token text

@@ -1,6 +1,6 @@
 //! What a text is read by.
 
-use ecma_syntax::{EsVersion, Syntax};
+use ecma_syntax::{EsVersion, NumberRule, Syntax};
 
 /// What a text is read by, from its start to its end.
 #[derive(Debug, Clone, Copy, PartialEq, Eq)]
@@ -10,4 +10,6 @@ pub struct Settings {
     pub target: EsVersion,
     /// Whether comments are collected.
     pub comments: bool,
+    /// The rule that numbers are read by.
+    pub numbers: NumberRule,
 }

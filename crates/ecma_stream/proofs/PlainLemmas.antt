@@ -105,7 +105,7 @@ plain-of-string mode flag old now t is found same moved =
 
 -- so is a number
 pub plain-of-number : (mode : Mode) (flag : Bool) (old now : Cursor) (t : SpannedView) → opening mode flag (rest old) ≡ opens.Number
-    → found_at token_behind (place old) (number (ts1085 mode) (rest old)) ≡ plain_view t → t.had_line_break ≡ flag → now ≡ passed (length (number (ts1085 mode) (rest old)).spelling) old
+    → found_at token_behind (place old) (number (ts1085 mode) mode.settings.numbers (rest old)) ≡ plain_view t → t.had_line_break ≡ flag → now ≡ passed (length (number (ts1085 mode) mode.settings.numbers (rest old)).spelling) old
     → IsPlain mode t old now
 plain-of-number mode flag old now t is found same moved =
     let opened : opening mode t.had_line_break (rest old) ≡ opens.Number = ap (λ b. opening mode b (rest old)) same ∙ is in

@@ -13,6 +13,7 @@ use Rattle.ecma_place.proofs.CursorLemmas.{count_within-byte_len}
 use Rattle.ecma_place.proofs.MoveLemmas.{place-passed-le}
 use Rattle.ecma_syntax.specs.declared.operator.BinOpToken.TheVariants as bin
 use Rattle.ecma_syntax.specs.declared.word.Word.{Word}
+use Rattle.ecma_syntax.specs.declared.settings.NumberRule.{NumberRule}
 use Rattle.ecma_token.specs.Kinds.{kind_of}
 use Rattle.ecma_token.specs.View.{ErrorView, SpannedView, TokenView, plain_token, refused_template, error_token}
 use Rattle.ecma_token.specs.declared.kind.TokenKind.{TokenKind}
@@ -116,8 +117,8 @@ behind-slash n (Ok (refused_template raw kind span)) = refl
 behind-slash n (Ok (error_token kind span)) = refl
 behind-slash n (Err error) = refl
 
-number-no-slash : (ts1085 : Bool) (text : Text) → is_slash_token (number ts1085 text).value ≡ false
-number-no-slash ts1085 text = go (refusal parts (behind_number parts text))
+number-no-slash : (ts1085 : Bool) (rule : NumberRule) (text : Text) → is_slash_token (number ts1085 rule text).value ≡ false
+number-no-slash ts1085 rule text = go (refusal rule parts (behind_number parts text))
   where
     parts : Number
     parts = number_parts text
@@ -126,7 +127,7 @@ number-no-slash ts1085 text = go (refusal parts (behind_number parts text))
     big true = refl
     big false = refl
 
-    go : (refused : Option ErrorView) → is_slash_token (found_number ts1085 parts refused).value ≡ false
+    go : (refused : Option ErrorView) → is_slash_token (found_number ts1085 rule parts refused).value ≡ false
     go (Some error) = refl
     go None = big (is_big_number parts)
 
@@ -185,7 +186,7 @@ token-slash mode flag n text h = go (opening mode flag text) h
 
     go : (o : Opening) → is_slash_token (placed o mode n (read_opened o mode text)).value ≡ true → opens_expression text ≡ true
     go opens.Template h = absurdly (template-no-slash mode.opened.0 n (is_tpl_element mode.previous) text) h
-    go opens.Number h = absurdly (behind-slash n _ ∙ number-no-slash (ts1085 mode) text) h
+    go opens.Number h = absurdly (behind-slash n _ ∙ number-no-slash (ts1085 mode) mode.settings.numbers text) h
     go opens.String h = absurdly (behind-slash n _ ∙ string-no-slash text) h
     go opens.Word h = absurdly (behind-slash n _ ∙ word-no-slash _) h
     go opens.Bars h = cc

@@ -1,5 +1,6 @@
 //! The lexer.
 ghost use Rattle.std.specs.Prelude.{◌≡◌, ◌<◌, true, false, None, Err, alloc_error, Some, drop, is_some, length, map, option_map, IfOk, IsOk, OnOk, OnErr, []};
+ghost use Rattle.ecma_syntax.specs.declared.settings.NumberRule.TheVariants.{Crate};
 ghost use Rattle.ecma_token.specs.View.{error_view, spanned_view};
 ghost use Rattle.ecma_dispatch.specs.Besides.{IsBeside, TakesNone, bare, seen_beside, state_taking};
 ghost use Rattle.ecma_place.specs.Cursor.{rest};
@@ -28,7 +29,7 @@ use ecma_state::mode::Mode;
 use ecma_state::settings::Settings;
 use ecma_state::state::State;
 use ecma_state::token_contexts::TokenContexts;
-use ecma_syntax::{AssignOp, Context, EsVersion, Syntax};
+use ecma_syntax::{AssignOp, Context, EsVersion, NumberRule, Syntax};
 use ecma_token::{Error, TokenAndSpan};
 use std::alloc::{AllocError, Global};
 use std::marker::Model;
@@ -67,7 +68,7 @@ impl<'a> Model for Lexer<'a> {
 }
 
 impl<'a> Lexer<'a> {
-    /// A lexer of the rest of `input`, which takes no memory.
+    /// A lexer of the rest of `input`, which reads numbers by the crate's rule, and takes no memory.
     ///
     /// The place of `input` is the lexer's start place. `comments` says whether comments are collected.
     pub fn new(
@@ -77,7 +78,23 @@ impl<'a> Lexer<'a> {
         input: StringInput<'a>,
         comments: bool,
     ) -> Lexer<'a>
-        ensures { lexer_state result ≡ state_of (start_of record { syntax = syntax; target = target; comments = comments } input.entry) }
+        ensures { lexer_state result ≡ state_of (start_of record { syntax = syntax; target = target; comments = comments; numbers = Crate } input.entry) }
+    {
+        Lexer::with_rule(alloc, syntax, target, input, comments, NumberRule::Crate)
+    }
+
+    /// A lexer of the rest of `input`, which reads numbers by this rule, and takes no memory.
+    ///
+    /// The place of `input` is the lexer's start place. `comments` says whether comments are collected.
+    pub fn with_rule(
+        alloc: Global,
+        syntax: Syntax,
+        target: EsVersion,
+        input: StringInput<'a>,
+        comments: bool,
+        rule: NumberRule,
+    ) -> Lexer<'a>
+        ensures { lexer_state result ≡ state_of (start_of record { syntax = syntax; target = target; comments = comments; numbers = rule } input.entry) }
     {
         let start = input.cur_pos();
         Lexer {
@@ -86,6 +103,7 @@ impl<'a> Lexer<'a> {
                 syntax,
                 target,
                 comments,
+                numbers: rule,
             },
             input,
             context: Context::default(),

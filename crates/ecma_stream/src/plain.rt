@@ -193,11 +193,11 @@ pub fn plain_number<'a>(
     flag: bool,
 ) -> Result<Option<TokenAndSpan<'a>>, AllocError>
     requires { opens_number (rest input.old) ≡ true }
-    ensures token { IfOk result (λ found. IfSome found (λ t. found_at token_behind (place input.old) (number (ts1085 mode.now) (rest input.old)) ≡ plain_view (spanned_view t))) }
+    ensures token { IfOk result (λ found. IfSome found (λ t. found_at token_behind (place input.old) (number (ts1085 mode.now) mode.now.settings.numbers (rest input.old)) ≡ plain_view (spanned_view t))) }
     ensures flag { IfOk result (λ found. IfSome found (λ t. t.had_line_break ≡ flag)) }
-    ensures moved { OnOk result (input.new ≡ passed (length (number (ts1085 mode.now) (rest input.old)).spelling) input.old) }
+    ensures moved { OnOk result (input.new ≡ passed (length (number (ts1085 mode.now) mode.now.settings.numbers (rest input.old)).spelling) input.old) }
     ensures same { OnErr result (input.new ≡ input.old) }
-    ensures free { is_free_token Opening.Number (rest input.old) (number (ts1085 mode.now) (rest input.old)) ≡ true → IsOk result }
+    ensures free { is_free_token Opening.Number (rest input.old) (number (ts1085 mode.now) mode.now.settings.numbers (rest input.old)) ≡ true → IsOk result }
 {
     let start = input.cur_pos();
     if let Some(token) = eat_plain_number(input) {
@@ -208,7 +208,7 @@ pub fn plain_number<'a>(
             span,
         }));
     }
-    let found = scan_number(alloc, input, mode.ts1085())?;
+    let found = scan_number(alloc, input, mode.ts1085(), mode.settings.numbers)?;
     Ok(plain_found(found, flag))
 }
 

@@ -4,8 +4,8 @@
 pub mod laws;
 
 pub use ecma_settings::{
-    Context, EsConfig, EsSyntax, EsVersion, ExpressionContext, JscTarget, Syntax, TsConfig,
-    TsSyntax, context, settings,
+    Context, EsConfig, EsSyntax, EsVersion, ExpressionContext, JscTarget, NumberRule, Syntax,
+    TsConfig, TsSyntax, context, settings,
 };
 pub use ecma_word::{
     AssignOp, BinOpToken, BinaryOp, IdentKind, IdentLike, Keyword, KnownIdent, Word, WordKind,

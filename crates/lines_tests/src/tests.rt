@@ -501,6 +501,73 @@ fn tells_of_texts_that_are_not_clean(rt: HostRuntime) -> Result<(), Fail> {
 }
 
 #[test]
+fn reads_numbers_by_the_standard(rt: HostRuntime) -> Result<(), Fail> {
+    assert_rows(
+        &rt,
+        rt.alloc(),
+        &[
+            (
+                &["tokens", "standard"],
+                b"0b12",
+                0,
+                b"0 3 lf Error 0b1\n3 4 - Num 2\n",
+            ),
+            (
+                &["tokens", "standard"],
+                b"0b1 2",
+                0,
+                b"0 3 lf Num 0b1\n4 5 - Num 2\n",
+            ),
+            (
+                &["tokens", "standard"],
+                b"1na",
+                0,
+                b"0 2 lf Error 1n\n2 3 - Ident a\n",
+            ),
+            (
+                &["tokens", "standard"],
+                b"1n2",
+                0,
+                b"0 2 lf Error 1n\n2 3 - Num 2\n",
+            ),
+            (
+                &["tokens", "standard"],
+                b"3\\u0061",
+                0,
+                b"0 1 lf Error 3\n1 7 - Ident \\\\u0061\n",
+            ),
+            (&["tokens", "standard"], b"0_1", 0, b"0 3 lf Num 0_1\n"),
+            (&["tokens", "standard"], b"08_1", 0, b"0 4 lf Num 08_1\n"),
+            (&["tokens", "standard"], b"1_0", 0, b"0 3 lf Num 1_0\n"),
+            (&["tokens", "standard"], b"0_", 0, b"0 2 lf Num 0_\n"),
+            (&["tokens", "standard"], b"0_1n", 0, b"0 4 lf BigInt 0_1n\n"),
+            (
+                &["errors", "standard"],
+                b"0b12",
+                0,
+                b"token 3 3 Identifier cannot follow number\n",
+            ),
+            (
+                &["errors", "ts", "standard", "module"],
+                b"0_1n",
+                0,
+                b"recorded 0 1 A numeric separator is only allowed between two digits\n",
+            ),
+            (
+                &["comments", "standard"],
+                b"/**/1n2",
+                0,
+                b"leading 4 0 4 block \n",
+            ),
+            (&["canon", "standard"], b"0b12", 4, b"not clean\n"),
+            (&["canon", "standard"], b"0b1 2", 0, b"0b1 2"),
+            (&["tokens", "standard", "standard"], b"", 2, b"bad words\n"),
+            (&["standard"], b"", 2, b"bad words\n"),
+        ],
+    )
+}
+
+#[test]
 fn fails_where_a_read_fails(rt: HostRuntime) {
     for kind in [io::ErrorKind::Other, io::ErrorKind::Interrupted] {
         let script = [Call::Gives(b'a'), Call::Fails(kind), Call::Gives(b'b')];

@@ -4,7 +4,7 @@ use super::steps::Steps::{self, Reads, These};
 use super::steps::steps_of;
 use ecma_lexer::{Canon, Kept, Replay, Settings, Step, canonical, canonical_text, replay};
 use ecma_place::{BytePos, StringInput};
-use ecma_syntax::{EsVersion, Syntax};
+use ecma_syntax::{EsVersion, NumberRule, Syntax};
 use std::alloc::{AllocError, Global};
 use std::process::Abort;
 use std::test::Fail;
@@ -142,21 +142,37 @@ const ROWS_OF_KEPT: &[RowOfKept] = &[
     ),
 ];
 
-fn settings() -> Settings {
+fn settings_by(numbers: NumberRule) -> Settings {
     Settings {
         syntax: Syntax::default(),
         target: EsVersion::default(),
         comments: false,
+        numbers,
     }
 }
 
-/// What `canonical` answers for a row.
-fn canon_of(alloc: Global, start: u32, text: &str, steps: Steps) -> Result<Canon, AllocError> {
+fn settings() -> Settings {
+    settings_by(NumberRule::default())
+}
+
+/// What `canonical` answers for a row by a rule.
+fn canon_by(
+    alloc: Global,
+    numbers: NumberRule,
+    start: u32,
+    text: &str,
+    steps: Steps,
+) -> Result<Canon, AllocError> {
     if !StringInput::fits(text, BytePos(start)) {
         return Err(AllocError);
     }
     let steps = steps_of(alloc, steps, text.len())?;
-    canonical(alloc, &settings(), text, BytePos(start), &steps)
+    canonical(alloc, &settings_by(numbers), text, BytePos(start), &steps)
+}
+
+/// What `canonical` answers for a row.
+fn canon_of(alloc: Global, start: u32, text: &str, steps: Steps) -> Result<Canon, AllocError> {
+    canon_by(alloc, NumberRule::default(), start, text, steps)
 }
 
 /// What `canonical_text` makes of the tokens that a replay keeps.
@@ -258,6 +274,30 @@ fn these_tokens_are_kept(rt: HostRuntime) -> Result<(), Fail> {
     for (text, steps, expected) in ROWS_OF_KEPT {
         let listing = listing_of(rt.alloc(), text, *steps)?;
         assert_eq!(rt; listing.as_str(), *expected, "{text:?}");
+    }
+    Ok(())
+}
+
+/// A rule, a text, and its canonical text, if it has one.
+const ROWS_BY_RULE: &[(NumberRule, &'static str, Result<&'static str, Refusal>)] = &[
+    (NumberRule::Crate, "0b12", Ok("0b1 2")),
+    (NumberRule::Standard, "0b12", Err(NotClean)),
+    (NumberRule::Crate, "0b1 2", Ok("0b1 2")),
+    (NumberRule::Standard, "0b1 2", Ok("0b1 2")),
+];
+
+fn is_told(canon: &Canon, told: Result<&str, Refusal>) -> bool {
+    match told {
+        Ok(text) => is_text(canon, text),
+        Err(refusal) => refusal_of(canon) == Some(refusal),
+    }
+}
+
+#[test]
+fn numbers_are_read_by_the_rule(rt: HostRuntime) -> Result<(), Fail> {
+    for (numbers, text, told) in ROWS_BY_RULE {
+        let canon = canon_by(rt.alloc(), *numbers, 0, text, Reads)?;
+        assert!(rt; is_told(&canon, *told), "{text:?}");
     }
     Ok(())
 }

@@ -1,5 +1,5 @@
 //! Laws of numbers.
-ghost use Rattle.ecma_scan.specs.Numbers.{NumberTiles, NumberIsSome, NumberHasItsForm, NumberIsRead, SeparatorIsFaulty, NumberIsLocal, WholeFits, NumberBeginsNoGap};
+ghost use Rattle.ecma_scan.specs.Numbers.{NumberTiles, NumberIsSome, NumberHasItsForm, NumberIsRead, SeparatorIsFaulty, NumberIsLocal, CleanByBothRules, WholeFits, NumberBeginsNoGap};
 
 /// The parts of a number in a row are a front of the text.
 pub fn number_tiles()
@@ -22,7 +22,7 @@ pub fn number_is_read()
     ensures { NumberIsRead }
 {}
 
-/// A separator in a run is faulty unless a digit of the run stands before it and one comes next.
+/// A separator in a run is faulty unless the run may hold some, a digit of it stands before, and one comes next.
 pub fn separator_is_faulty()
     ensures { SeparatorIsFaulty }
 {}
@@ -30,6 +30,11 @@ pub fn separator_is_faulty()
 /// A number that is read cleanly is read the same at the end of the text and in front of a space or a line feed.
 pub fn number_is_local()
     ensures { NumberIsLocal }
+{}
+
+/// A number that is read cleanly by the standard's rule is read the same by the crate's.
+pub fn clean_by_both_rules()
+    ensures { CleanByBothRules }
 {}
 
 /// The whole value of a number fits 128 bits.

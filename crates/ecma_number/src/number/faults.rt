@@ -1,5 +1,5 @@
 //! What is wrong with a number that is read all the same.
-ghost use Rattle.std.specs.Prelude.{◌≡◌, ◌<◌, ◌+◌, ◌^◌, ◌++◌, ◌∷◌, [], false, length, map, OnOk, IsOk, if◌then◌else◌};
+ghost use Rattle.std.specs.Prelude.{◌≡◌, ◌<◌, ◌+◌, ◌^◌, ◌++◌, ◌∷◌, ◌&&◌, [], false, length, map, OnOk, IsOk, if◌then◌else◌};
 ghost use Rattle.std.specs.List.{list_any};
 ghost use Rattle.ecma_grammar.specs.Found.{fault_view, fault_behind};
 ghost use Rattle.ecma_token.specs.declared.token.Radix.TheVariants.{Decimal};
@@ -15,6 +15,7 @@ use crate::number::parts::{
 use crate::number::runs::is_digit;
 use ecma_grammar::found::{Blame, push_fault};
 use ecma_place::{BytePos, Span};
+use ecma_syntax::NumberRule;
 use ecma_token::{Error, Radix, SyntaxError};
 use std::alloc::{AllocError, Global};
 
@@ -53,25 +54,26 @@ fn begins_with_digit(bytes: &[u8], radix: Radix) -> bool
     }
 }
 
-/// Whether the byte of a run is a separator that does not stand between two digits.
-fn is_faulty(b: u8, seen: bool, behind: &[u8], radix: Radix) -> bool
-    ensures { result ≡ grammar.is_faulty radix seen b behind.now }
+/// Whether the byte of a run is a separator that does not stand between two digits, or stands in a run that may hold none.
+fn is_faulty(b: u8, allowed: bool, seen: bool, behind: &[u8], radix: Radix) -> bool
+    ensures { result ≡ grammar.is_faulty radix (allowed && seen) b behind.now }
 {
-    b == b'_' && !(seen && begins_with_digit(behind, radix))
+    b == b'_' && !(allowed && seen && begins_with_digit(behind, radix))
 }
 
-/// Adds the faults of the separators of a run that starts at the place.
+/// Adds the faults of the separators of a run that starts at the place, in which some may stand or none.
 fn push_separators<'a>(
     alloc: Global,
     faults: &mut Vec<(Blame, Error<'a>)>,
     run: &str,
     radix: Radix,
     start: BytePos,
+    allowed: bool,
 ) -> Result<(), AllocError>
     requires fits { start.0 + length run.now < 2 ^ 32 }
     requires run { grammar.IsRun radix run.now }
     ensures { OnOk result (map fault_view faults.new.items ≡ map fault_view faults.old.items
-        ++ map (fault_behind start.0) (grammar.run_faults radix run.now)) }
+        ++ map (fault_behind start.0) (grammar.run_faults allowed radix run.now)) }
 {
     let mut seen = false;
     let mut count = 0;
@@ -80,7 +82,7 @@ fn push_separators<'a>(
         push_separator(
             alloc,
             faults,
-            is_faulty(*b, seen, behind, radix),
+            is_faulty(*b, allowed, seen, behind, radix),
             start,
             count,
         )?;
@@ -91,24 +93,59 @@ fn push_separators<'a>(
     Ok(())
 }
 
-/// Adds what is wrong with a run that starts at the place. A run without a separator takes no memory.
+/// Adds what is wrong with a run that starts at the place, in which separators may stand or not. A run without a separator takes no memory.
 pub(super) fn push_run_faults<'a>(
     alloc: Global,
     faults: &mut Vec<(Blame, Error<'a>)>,
     run: &str,
     radix: Radix,
     start: BytePos,
+    allowed: bool,
 ) -> Result<(), AllocError>
     requires fits { start.0 + length run.now < 2 ^ 32 }
     requires run { grammar.IsRun radix run.now }
     ensures faults { OnOk result (map fault_view faults.new.items ≡ map fault_view faults.old.items
-        ++ map (fault_behind start.0) (grammar.run_faults radix run.now)) }
+        ++ map (fault_behind start.0) (grammar.run_faults allowed radix run.now)) }
     ensures free { list_any grammar.is_separator run.now ≡ false → IsOk result }
 {
     if has_separator(run) {
-        push_separators(alloc, faults, run, radix, start)?;
+        push_separators(alloc, faults, run, radix, start, allowed)?;
     }
     Ok(())
+}
+
+/// Whether a decimal run that begins a number may hold separators.
+fn may_hold_separators(run: &str, rule: NumberRule) -> bool
+    ensures { result ≡ grammar.may_hold_separators rule run.now }
+{
+    match rule {
+        NumberRule::Crate => true,
+        NumberRule::Standard => !is_legacy(run),
+    }
+}
+
+/// Adds what is wrong with a decimal run that begins a number at the place. A run without a separator takes no memory.
+fn push_first_run_faults<'a>(
+    alloc: Global,
+    faults: &mut Vec<(Blame, Error<'a>)>,
+    run: &str,
+    start: BytePos,
+    rule: NumberRule,
+) -> Result<(), AllocError>
+    requires fits { start.0 + length run.now < 2 ^ 32 }
+    requires run { grammar.IsRun Decimal run.now }
+    ensures faults { OnOk result (map fault_view faults.new.items ≡ map fault_view faults.old.items
+        ++ map (fault_behind start.0) (grammar.first_run_faults rule run.now)) }
+    ensures free { list_any grammar.is_separator run.now ≡ false → IsOk result }
+{
+    push_run_faults(
+        alloc,
+        faults,
+        run,
+        Radix::Decimal,
+        start,
+        may_hold_separators(run, rule),
+    )
 }
 
 /// Adds the fault of a decimal run at the place, if it is a legacy decimal.
@@ -153,7 +190,14 @@ fn push_fraction_faults<'a>(
     match fraction {
         WrittenFraction::Pointless => Ok(()),
         WrittenFraction::Pointed(run) => {
-            push_run_faults(alloc, faults, run, Radix::Decimal, BytePos(start.0 + 1))
+            push_run_faults(
+                alloc,
+                faults,
+                run,
+                Radix::Decimal,
+                BytePos(start.0 + 1),
+                true,
+            )
         }
     }
 }
@@ -175,7 +219,7 @@ fn push_exponent_faults<'a>(
         WrittenExponent::Unscaled => Ok(()),
         WrittenExponent::Marked { mark: _, sign, run } => {
             let behind = BytePos(start.0 + 1 + sign.len() as u32);
-            push_run_faults(alloc, faults, run, Radix::Decimal, behind)
+            push_run_faults(alloc, faults, run, Radix::Decimal, behind, true)
         }
     }
 }
@@ -188,6 +232,7 @@ fn push_decimal_faults<'a>(
     fraction: WrittenFraction,
     exponent: WrittenExponent,
     start: BytePos,
+    rule: NumberRule,
 ) -> Result<(), AllocError>
     requires fits { start.0 + (length run.now + (length (grammar.fraction_text (fraction_of fraction))
         + length (grammar.exponent_text (exponent_of exponent)))) < 2 ^ 32 }
@@ -195,13 +240,13 @@ fn push_decimal_faults<'a>(
     requires fraction { grammar.IsFraction (fraction_of fraction) }
     requires exponent { grammar.IsExponent (exponent_of exponent) }
     ensures faults { OnOk result (map fault_view faults.new.items ≡ map fault_view faults.old.items
-        ++ map (fault_behind start.0) (grammar.part_faults (DecimalRun run.now (fraction_of fraction.entry) (exponent_of exponent.entry)))) }
+        ++ map (fault_behind start.0) (grammar.part_faults rule (DecimalRun run.now (fraction_of fraction.entry) (exponent_of exponent.entry)))) }
     ensures free { list_any grammar.is_separator run.now ≡ false
         → list_any grammar.is_separator (grammar.fraction_text (fraction_of fraction.entry)) ≡ false
         → list_any grammar.is_separator (grammar.exponent_text (exponent_of exponent.entry)) ≡ false
         → grammar.is_legacy run.now ≡ false → IsOk result }
 {
-    push_run_faults(alloc, faults, run, Radix::Decimal, start)?;
+    push_first_run_faults(alloc, faults, run, start, rule)?;
     push_legacy_fault(alloc, faults, run, start)?;
     let behind = BytePos(start.0 + run.len() as u32);
     push_fraction_faults(alloc, faults, fraction, behind)?;
@@ -217,25 +262,26 @@ pub(super) fn push_part_faults<'a>(
     faults: &mut Vec<(Blame, Error<'a>)>,
     number: WrittenNumber,
     start: BytePos,
+    rule: NumberRule,
 ) -> Result<(), AllocError>
     requires fits { start.0 + length (grammar.number_text (number_of number)) < 2 ^ 32 }
     requires form { grammar.IsNumber (number_of number) }
     ensures faults { OnOk result (map fault_view faults.new.items ≡ map fault_view faults.old.items
-        ++ map (fault_behind start.0) (grammar.part_faults (number_of number.entry))) }
+        ++ map (fault_behind start.0) (grammar.part_faults rule (number_of number.entry))) }
     ensures free { list_any grammar.is_separator (grammar.number_text (number_of number.entry)) ≡ false
-        → grammar.part_faults (number_of number.entry) ≡ [] → IsOk result }
+        → grammar.part_faults rule (number_of number.entry) ≡ [] → IsOk result }
 {
     match number {
         WrittenNumber::Radixed { radix, run, .. } => {
-            push_run_faults(alloc, faults, run, radix, BytePos(start.0 + 2))
+            push_run_faults(alloc, faults, run, radix, BytePos(start.0 + 2), true)
         }
-        WrittenNumber::Big(run) => push_run_faults(alloc, faults, run, Radix::Decimal, start),
-        WrittenNumber::Legacy(run) => push_run_faults(alloc, faults, run, Radix::Decimal, start),
+        WrittenNumber::Big(run) => push_first_run_faults(alloc, faults, run, start, rule),
+        WrittenNumber::Legacy(run) => push_first_run_faults(alloc, faults, run, start, rule),
         WrittenNumber::Plain {
             run,
             fraction,
             exponent,
-        } => push_decimal_faults(alloc, faults, run, fraction, exponent, start),
+        } => push_decimal_faults(alloc, faults, run, fraction, exponent, start, rule),
     }
 }
 

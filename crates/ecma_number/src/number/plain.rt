@@ -4,6 +4,7 @@ ghost use Rattle.std.specs.Char.{is_ascii_alphabetic};
 ghost use Rattle.std.specs.List.{prefix_len};
 ghost use Rattle.std.specs.Str.Parse.{digits_value};
 ghost use Rattle.ecma_place.specs.Cursor.{rest, place, passed};
+ghost use Rattle.ecma_syntax.specs.declared.settings.NumberRule.{NumberRule};
 ghost use Rattle.ecma_token.specs.declared.token.Radix.TheVariants.{Decimal};
 ghost use Rattle.ecma_token.specs.View.{token_view};
 ghost use Rattle.ecma_grammar.specs.Found.{found_at, span_of, token_behind};
@@ -64,15 +65,15 @@ fn is_padded(bytes: &[u8], count: usize) -> bool
     count > 1 && bytes[0] == b'0'
 }
 
-/// Whether a name begins with the ASCII character.
+/// Whether a name begins with the ASCII character, or an escape.
 #[inline(always)]
 fn is_start(b: u8) -> bool
-    ensures { result ≡ ((b == 36 || b == 95) || is_ascii_alphabetic b) }
+    ensures { result ≡ (((b == 36 || b == 95) || is_ascii_alphabetic b) || b == 92) }
 {
-    b == b'$' || b == b'_' || b.is_ascii_alphabetic()
+    b == b'$' || b == b'_' || b.is_ascii_alphabetic() || b == b'\\'
 }
 
-/// Whether the byte is an ASCII character that begins no name.
+/// Whether the byte is an ASCII character with which neither a name begins nor an escape.
 #[inline(always)]
 #[tactic(auto, unfolding(ecma_place::specs::Character::is_ident_start))]
 fn ends_number(b: u8) -> bool
@@ -118,9 +119,9 @@ fn plain_extent(bytes: &[u8]) -> Option<(usize, Option<u128>)>
 }
 
 /// Moves behind the number at the cursor and answers its token, where it is plain: decimal digits with no zero before
-/// others, whose value fits 64 bits, then perhaps a point and digits, if any, and behind them an ASCII character that no
-/// name begins with (ECMA-262 DecimalLiteral, 12.9.3). [`scan_number`](crate::scan_number) finds the same token, and has
-/// nothing to tell besides.
+/// others, whose value fits 64 bits, then perhaps a point and digits, if any, and behind them an ASCII character with which
+/// neither a name begins nor an escape (ECMA-262 DecimalLiteral, 12.9.3). By each rule
+/// [`scan_number`](crate::scan_number) finds the same token, and has nothing to tell besides.
 ///
 /// Each such number with at most 18 digits before its point is answered. Of any other, and of one that ends the text,
 /// there is no answer, and the cursor stands where it stood.
@@ -129,11 +130,11 @@ fn plain_extent(bytes: &[u8]) -> Option<(usize, Option<u128>)>
 #[inline(always)]
 pub fn eat_plain_number<'a>(input: &mut StringInput<'a>) -> Option<Token<'a>>
     requires { grammar.opens_number (rest input.old) ≡ true }
-    ensures found { IfSome result (λ t. (ts1085 : Bool) →
-        found_at token_behind (place input.old) (grammar.number ts1085 (rest input.old))
+    ensures found { IfSome result (λ t. (ts1085 : Bool) (rule : NumberRule) →
+        found_at token_behind (place input.old) (grammar.number ts1085 rule (rest input.old))
         ≡ record { value = Ok (token_view t); faults = []; extent = span_of (place input.old) (place input.new); line_break = false }) }
-    ensures moved { IfSome result (λ _. (ts1085 : Bool) →
-        input.new ≡ passed (length (grammar.number ts1085 (rest input.old)).spelling) input.old) }
+    ensures moved { IfSome result (λ _. (ts1085 : Bool) (rule : NumberRule) →
+        input.new ≡ passed (length (grammar.number ts1085 rule (rest input.old)).spelling) input.old) }
     ensures same { IfNone result (input.new ≡ input.old) }
     ensures answered { (start : StartsPlain (rest input.old)) → length start.run ≤ 18 → IsSome result }
 {

@@ -4,13 +4,14 @@ ghost use Rattle.ecma_place.specs.Text.{byte_len};
 ghost use Rattle.ecma_place.specs.Cursor.{rest, place};
 ghost use Rattle.ecma_token.specs.View.{error_view};
 ghost use Rattle.ecma_grammar.specs.Found.{error_behind};
+ghost use Rattle.ecma_grammar.specs.Fronts.{next_passes};
 ghost use Rattle.ecma_grammar.specs.Numbers as grammar;
 ghost use Rattle.ecma_number.specs.WrittenNumbers.{number_of, exponent_of};
 
 use crate::number::parts::{WrittenExponent, WrittenNumber, fraction_len, is_big};
 use crate::number::runs::has_digit;
-use ecma_grammar::name_start::begins_name;
-use ecma_place::{BytePos, Span, StringInput};
+use ecma_place::{BytePos, CharExt, Span, StringInput};
+use ecma_syntax::NumberRule;
 use ecma_token::{Error, Radix, SyntaxError};
 use std::alloc::{AllocError, Global};
 
@@ -103,18 +104,39 @@ fn part_refusal<'a>(
     }
 }
 
-/// The refusal of a name that begins at the cursor, right behind a number that is no big integer.
-fn name_refusal<'a>(
+/// Whether the character may not stand right behind a number, big integer or not.
+fn may_not_follow(c: char, big: bool, rule: NumberRule) -> bool
+    ensures { result ≡ grammar.may_not_follow rule big c }
+{
+    match rule {
+        NumberRule::Crate => !big && c.is_ident_start(),
+        NumberRule::Standard => c.is_ident_start() || c.is_digit(10) || c == '\\',
+    }
+}
+
+/// Whether such a character stands at the cursor.
+fn is_followed_wrongly(number: &WrittenNumber, input: &StringInput, rule: NumberRule) -> bool
+    ensures { result ≡ next_passes (grammar.may_not_follow rule (grammar.is_big_number (number_of number.now))) (rest input.now) }
+{
+    match input.cur() {
+        Some(c) => may_not_follow(c, is_big(number), rule),
+        None => false,
+    }
+}
+
+/// The refusal of the character at the cursor, right behind a number, if it may not stand there.
+fn next_refusal<'a>(
     alloc: Global,
     number: &WrittenNumber,
     input: &StringInput,
+    rule: NumberRule,
 ) -> Result<Option<Error<'a>>, AllocError>
     ensures value { (start : ℕ) → start + byte_len (grammar.number_text (number_of number.now)) ≡ place input.now →
         IfOk result (λ r. option_map error_view r ≡
-        option_map (error_behind start) (grammar.name_refusal (number_of number.now) (rest input.now))) }
-    ensures free { grammar.name_refusal (number_of number.now) (rest input.now) ≡ None → IsOk result }
+        option_map (error_behind start) (grammar.next_refusal rule (number_of number.now) (rest input.now))) }
+    ensures free { grammar.next_refusal rule (number_of number.now) (rest input.now) ≡ None → IsOk result }
 {
-    if is_big(number) || !begins_name(input) {
+    if !is_followed_wrongly(number, input, rule) {
         return Ok(None);
     }
     let here = input.cur_pos();
@@ -122,23 +144,24 @@ fn name_refusal<'a>(
     Ok(Some(error))
 }
 
-/// Why a number that starts at the place is refused, if it is: by its parts, else by the name that begins behind it,
-/// where the cursor stands. A number that is not refused takes no memory.
+/// Why a number that starts at the place is refused, if it is: by its parts, else by the character behind it, where the
+/// cursor stands. A number that is not refused takes no memory.
 pub(super) fn refusal<'a>(
     alloc: Global,
     number: WrittenNumber,
     start: BytePos,
     input: &StringInput,
+    rule: NumberRule,
 ) -> Result<Option<Error<'a>>, AllocError>
     requires fits { start.0 + length (grammar.number_text (number_of number)) < 2 ^ 32 }
     requires form { grammar.IsNumber (number_of number) }
     requires behind { start.0 + byte_len (grammar.number_text (number_of number)) ≡ place input.now }
     ensures value { IfOk result (λ r. option_map error_view r ≡
-        option_map (error_behind start.0) (grammar.refusal (number_of number.entry) (rest input.now))) }
-    ensures free { grammar.refusal (number_of number.entry) (rest input.now) ≡ None → IsOk result }
+        option_map (error_behind start.0) (grammar.refusal rule (number_of number.entry) (rest input.now))) }
+    ensures free { grammar.refusal rule (number_of number.entry) (rest input.now) ≡ None → IsOk result }
 {
     match part_refusal(alloc, number, start, input)? {
         Some(error) => Ok(Some(error)),
-        None => name_refusal(alloc, &number, input),
+        None => next_refusal(alloc, &number, input, rule),
     }
 }

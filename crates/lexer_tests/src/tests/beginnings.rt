@@ -6,7 +6,7 @@ use super::{
 };
 use ecma_lexer::{Kept, Replay, Settings, Step};
 use ecma_place::BytePos;
-use ecma_syntax::{Context, EsSyntax, EsVersion, Syntax, TsSyntax};
+use ecma_syntax::{Context, EsSyntax, EsVersion, NumberRule, Syntax, TsSyntax};
 use std::alloc::{AllocError, Global};
 use std::process::Abort;
 use std::test::Fail;
@@ -171,6 +171,7 @@ fn assert_under(
         syntax,
         target: EsVersion::default(),
         comments: true,
+        numbers: NumberRule::default(),
     };
     let steps = steps_of(alloc, strict)?;
     let reader = Reader {

@@ -9,7 +9,7 @@ use ecma_lexer::{
     BufferedComment, BufferedCommentKind, Lexer, TokenContext, TokenContexts, Tokens, hand_comments,
 };
 use ecma_place::{Atom, BytePos, Span, Spanned, StringInput};
-use ecma_syntax::{Context, EsSyntax, EsVersion, IdentLike, Syntax, TsSyntax, Word};
+use ecma_syntax::{Context, EsSyntax, EsVersion, IdentLike, NumberRule, Syntax, TsSyntax, Word};
 use ecma_token::{Error, Token, TokenAndSpan};
 use std::alloc::{AllocError, Global};
 use std::process::Abort;
@@ -29,6 +29,7 @@ pub(super) struct Settings {
     pub(super) in_type: bool,
     pub(super) ignores_errors: bool,
     pub(super) collects_comments: bool,
+    pub(super) numbers: NumberRule,
     /// The contexts that the text stands in, the innermost last, where they aren't those of a new lexer.
     pub(super) contexts: Option<&'static [TokenContext]>,
     /// The place where the text starts.
@@ -45,6 +46,7 @@ pub(super) const PLAIN: Settings = Settings {
     in_type: false,
     ignores_errors: false,
     collects_comments: false,
+    numbers: NumberRule::Crate,
     contexts: None,
     start: 0,
 };
@@ -66,6 +68,11 @@ pub(super) const IGNORING: Settings = Settings {
 
 pub(super) const COLLECTING: Settings = Settings {
     collects_comments: true,
+    ..PLAIN
+};
+
+pub(super) const STANDARD: Settings = Settings {
+    numbers: NumberRule::Standard,
     ..PLAIN
 };
 
@@ -127,13 +134,12 @@ pub(super) fn opened<'a>(
         return Err(AllocError);
     }
     let input = StringInput::new(text, start);
-    Ok(Lexer::new(
-        alloc,
-        syntax(settings),
-        settings.target,
-        input,
-        settings.collects_comments,
-    ))
+    let syntax = syntax(settings);
+    let comments = settings.collects_comments;
+    Ok(match settings.numbers {
+        NumberRule::Crate => Lexer::new(alloc, syntax, settings.target, input, comments),
+        rule => Lexer::with_rule(alloc, syntax, settings.target, input, comments, rule),
+    })
 }
 
 /// These contexts, the innermost last.

@@ -2,7 +2,7 @@
 use super::played::{most_reads, push_reads};
 use ecma_lexer::{Class, Piece, Settings, Step, classes_of_steps};
 use ecma_place::{BytePos, StringInput};
-use ecma_syntax::{EsVersion, Syntax};
+use ecma_syntax::{EsVersion, NumberRule, Syntax};
 use std::alloc::{AllocError, Global};
 use std::process::Abort;
 use std::test::Fail;
@@ -56,6 +56,7 @@ fn told(alloc: Global, text: &str) -> Result<String, AllocError> {
         syntax: Syntax::default(),
         target: EsVersion::default(),
         comments: true,
+        numbers: NumberRule::default(),
     };
     let start = BytePos(0);
     if !StringInput::fits(text, start) {

@@ -171,6 +171,7 @@ fn play<'a>(
         syntax: syntax(settings),
         target: settings.target,
         comments: settings.collects_comments,
+        numbers: settings.numbers,
     };
     let steps = steps_of(alloc, settings, text)?;
     let found = played(alloc, &read_by, text, BytePos(settings.start), &steps);

@@ -3,7 +3,7 @@ use super::listing::{write_comments, write_errors, write_note, write_token};
 use super::played::played;
 use ecma_lexer::{Answer, Kept, Replay, Settings, Step, TokenContexts};
 use ecma_place::BytePos;
-use ecma_syntax::{Context, EsVersion, Syntax};
+use ecma_syntax::{Context, EsVersion, NumberRule, Syntax};
 use std::alloc::{AllocError, Global};
 use std::process::Abort;
 use std::test::Fail;
@@ -209,6 +209,7 @@ fn replayed<'a>(alloc: Global, text: &'a str, steps: &[Step]) -> Result<Replay<'
         syntax: Syntax::default(),
         target: EsVersion::default(),
         comments: true,
+        numbers: NumberRule::default(),
     };
     played(alloc, &settings, text, BytePos(0), steps)
 }

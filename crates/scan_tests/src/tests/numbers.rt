@@ -6,6 +6,7 @@ ghost use Rattle.ecma_scan.specs.Numbers.{opens_number};
 use super::written::{check, write_found_token};
 use ecma_place::{BytePos, CharExt, StringInput};
 use ecma_scan::scan_number;
+use ecma_syntax::NumberRule;
 use std::alloc::{AllocError, Global};
 use std::test::Fail;
 
@@ -35,22 +36,33 @@ fn write_number(
     line: &mut String,
     input: &mut StringInput,
     ts1085: bool,
+    rule: NumberRule,
 ) -> Result<(), AllocError> {
     if is_at_digit(input) || is_at_point(input) {
-        let found = scan_number(alloc, input, ts1085)?;
+        let found = scan_number(alloc, input, ts1085, rule)?;
         write_found_token(line, found, input)?;
     }
     Ok(())
 }
 
-/// What is found of the number with which the text begins, written.
-fn number_of(alloc: Global, text: &str, ts1085: bool) -> Result<String, AllocError> {
+/// What is found by a rule of the number with which the text begins, written.
+fn number_by(
+    alloc: Global,
+    text: &str,
+    ts1085: bool,
+    rule: NumberRule,
+) -> Result<String, AllocError> {
     let mut line = String::new(alloc);
     if StringInput::fits(text, BytePos(0)) {
         let mut input = StringInput::new(text, BytePos(0));
-        write_number(alloc, &mut line, &mut input, ts1085)?;
+        write_number(alloc, &mut line, &mut input, ts1085, rule)?;
     }
     Ok(line)
+}
+
+/// What is found by the crate's rule.
+fn number_of(alloc: Global, text: &str, ts1085: bool) -> Result<String, AllocError> {
+    number_by(alloc, text, ts1085, NumberRule::Crate)
 }
 
 const DECIMALS: [(&str, &str); 15] = [
@@ -200,9 +212,9 @@ fn two_numbers_of(alloc: Global, text: &str) -> Result<String, AllocError> {
     let mut line = String::new(alloc);
     if StringInput::fits(text, BytePos(0)) {
         let mut input = StringInput::new(text, BytePos(0));
-        write_number(alloc, &mut line, &mut input, false)?;
+        write_number(alloc, &mut line, &mut input, false, NumberRule::Crate)?;
         line.push_str("; ")?;
-        write_number(alloc, &mut line, &mut input, false)?;
+        write_number(alloc, &mut line, &mut input, false, NumberRule::Crate)?;
     }
     Ok(line)
 }
@@ -228,6 +240,70 @@ const TWO_NUMBERS: [(&str, &str); 4] = [
 fn ends_where_another_number_or_a_name_begins(rt: HostRuntime) -> Result<(), Fail> {
     for (text, line) in TWO_NUMBERS {
         check(&rt, text, two_numbers_of(rt.alloc(), text), line)?;
+    }
+    Ok(())
+}
+
+/// Each with the rule it is read by.
+const NUMBERS_BY_RULE: [(&str, NumberRule, &str); 16] = [
+    ("0b12", NumberRule::Crate, "0..3 Num Binary borrowed 1 = 1"),
+    ("0b12", NumberRule::Standard, "0..3 IdentAfterNum 3..3"),
+    (
+        "0b1 2",
+        NumberRule::Standard,
+        "0..3 Num Binary borrowed 1 = 1",
+    ),
+    ("1na", NumberRule::Crate, "0..2 BigInt Decimal borrowed 1"),
+    ("1na", NumberRule::Standard, "0..2 IdentAfterNum 2..2"),
+    ("1n2", NumberRule::Crate, "0..2 BigInt Decimal borrowed 1"),
+    ("1n2", NumberRule::Standard, "0..2 IdentAfterNum 2..2"),
+    (
+        "3\\u0061",
+        NumberRule::Crate,
+        "0..1 Num Decimal borrowed 3 = 3",
+    ),
+    ("3\\u0061", NumberRule::Standard, "0..1 IdentAfterNum 1..1"),
+    (
+        "0_1",
+        NumberRule::Crate,
+        "0..3 Num Octal owned 01 = 1, Strict LegacyOctal 0..3",
+    ),
+    (
+        "0_1",
+        NumberRule::Standard,
+        "0..3 Num Octal owned 01 = 1, Always NumericSeparatorIsAllowedOnlyBetweenTwoDigits 0..1, Strict LegacyOctal 0..3",
+    ),
+    (
+        "08_1",
+        NumberRule::Crate,
+        "0..4 Num Decimal owned 081 = 81, Strict LegacyDecimal 0..4",
+    ),
+    (
+        "08_1",
+        NumberRule::Standard,
+        "0..4 Num Decimal owned 081 = 81, Always NumericSeparatorIsAllowedOnlyBetweenTwoDigits 0..2, Strict LegacyDecimal 0..4",
+    ),
+    (
+        "1_0",
+        NumberRule::Standard,
+        "0..3 Num Decimal owned 10 = 10",
+    ),
+    (
+        "0_",
+        NumberRule::Standard,
+        "0..2 Num Octal owned 0 = 0, Always NumericSeparatorIsAllowedOnlyBetweenTwoDigits 0..1, Strict LegacyOctal 0..2",
+    ),
+    (
+        "0_1n",
+        NumberRule::Standard,
+        "0..4 BigInt Decimal owned 01, Always NumericSeparatorIsAllowedOnlyBetweenTwoDigits 0..1",
+    ),
+];
+
+#[test]
+fn reads_numbers_by_either_rule(rt: HostRuntime) -> Result<(), Fail> {
+    for (text, rule, line) in NUMBERS_BY_RULE {
+        check(&rt, text, number_by(rt.alloc(), text, false, rule), line)?;
     }
     Ok(())
 }

@@ -1,5 +1,7 @@
 //! The settings as data, key by key, their defaults and their questions.
-use ecma_syntax::{EsConfig, EsSyntax, EsVersion, JscTarget, Syntax, TsConfig, TsSyntax};
+use ecma_syntax::{
+    EsConfig, EsSyntax, EsVersion, JscTarget, NumberRule, Syntax, TsConfig, TsSyntax,
+};
 use std::alloc::{AllocError, Global};
 use std::test::Fail;
 
@@ -284,4 +286,19 @@ fn versions_are_in_order(rt: HostRuntime) {
         last = *version;
     }
     assert!(rt; JscTarget::default() == EsVersion::Es5);
+}
+
+#[test]
+fn rules_of_numbers(rt: HostRuntime) -> Result<(), Fail> {
+    let rows = [
+        (NumberRule::default(), "\"crate\""),
+        (NumberRule::Crate, "\"crate\""),
+        (NumberRule::Standard, "\"standard\""),
+    ];
+    for (rule, text) in rows {
+        let put = serde_json::to_string(rt.alloc(), &rule)?;
+        let read: NumberRule = serde_json::from_str(rt.alloc(), text)?;
+        assert!(rt; put.as_str() == text && read == rule, "{text}");
+    }
+    Ok(())
 }

@@ -32,13 +32,13 @@ number_token-requires-clause-some c =
 pub returns-in_err-push_part_faults-clause-free : goal.returns-in_err-push_part_faults-clause-free
 returns-in_err-push_part_faults-clause-free c =
     λ plain unrefused clean.
-    let none = append-none (part_faults (number_of c.args.number)) (octal_faults c.args.ts1085 (number_of c.args.number)) clean in
+    let none = append-none (part_faults c.args.rule (number_of c.args.number)) (octal_faults c.args.ts1085 (number_of c.args.number)) clean in
     absurd (false≢true (c.in_err-push_part_faults.ensures.free plain none.0))
 
 pub returns-in_err-push_octal_faults-in-None-clause-free : goal.returns-in_err-push_octal_faults-in-None-clause-free
 returns-in_err-push_octal_faults-in-None-clause-free c =
     λ plain unrefused clean.
-    let none = append-none (part_faults (number_of c.args.number)) (octal_faults c.args.ts1085 (number_of c.args.number)) clean in
+    let none = append-none (part_faults c.args.rule (number_of c.args.number)) (octal_faults c.args.ts1085 (number_of c.args.number)) clean in
     absurd (false≢true (c.in_err-push_octal_faults-in-None.ensures.free none.1))
 
 pub returns-in_err-error-clause-free : goal.returns-in_err-error-clause-free
@@ -58,11 +58,11 @@ returns-clause-found c =
     elim c.match-branch-3.branch [
       | in-Some w ↦
           let why = rw w.in-Some.is at c.in_ok-error.ensures.value in
-          rw (w.value-is, w.faults-is) (refused-found c.args.extent.lo.0 c.args.ts1085 number _ _ _ c.args.extent why said c.requires.extent)
+          rw (w.value-is, w.faults-is) (refused-found c.args.extent.lo.0 c.args.ts1085 c.args.rule number _ _ _ c.args.extent why said c.requires.extent)
       | in-None+in_ok-push_octal_faults-in-None+in_ok-number_token-in-None w ↦
           let none = none-behind c.args.extent.lo.0 _ (rw w.in-None.is at c.in_ok-error.ensures.value) in
           rw (w.value-is, w.faults-is)
-          (accepted-found c.args.extent.lo.0 c.args.ts1085 number _ _ _ _ c.args.extent none w.in_ok-number_token-in-None.ensures.value said w.in_ok-push_octal_faults-in-None.ensures.faults c.requires.extent)
+          (accepted-found c.args.extent.lo.0 c.args.ts1085 c.args.rule number _ _ _ _ c.args.extent none w.in_ok-number_token-in-None.ensures.value said w.in_ok-push_octal_faults-in-None.ensures.faults c.requires.extent)
     ]
 
 pub returns-clause-free : goal.returns-clause-free

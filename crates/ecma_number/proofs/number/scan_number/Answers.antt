@@ -9,7 +9,8 @@ use Rattle.ecma_grammar.specs.Numbers.{number_parts, number_text, behind_number,
 use Rattle.ecma_number.specs.WrittenNumbers.{number_of}
 use Rattle.ecma_number.proofs.NumberDigits.{number-some}
 use Rattle.ecma_number.proofs.NumberForms.{number-bytes}
-use Rattle.ecma_grammar.proofs.NumberFound.{front-taken}
+use Rattle.ecma_grammar.proofs.NumberFound.{front-taken, free-number}
+use Rattle.ecma_grammar.proofs.SignLemmas.{rest-behind}
 use Rattle.ecma_number.proofs.NumberLaws.{number_sound, number_tiles}
 use Rattle.ecma_number.proofs.NumberLocal.{spelling_is}
 use Rattle.ecma_number.proofs.number.scan_number.Goals as goal
@@ -54,5 +55,14 @@ pub returns-clause-moved : goal.returns-clause-moved
 returns-clause-moved c =
     let text = rest c.args.input.now in
     let number = number_parts text in
-    let same = spelling_is c.args.ts1085 number (refusal number (behind_number number text)) in
+    let same = spelling_is c.args.ts1085 c.args.rule number (refusal c.args.rule number (behind_number number text)) in
     c.read_parts-number.ensures.moved ∙ ap (λ s. passed (length s) c.args.input.now) (sym same)
+
+pub returns-in_default-clause-free : goal.returns-in_default-clause-free
+returns-in_default-clause-free c = λ plain accepted clean.
+    let text = rest c.args.input.now in
+    let number = number_parts text in
+    let is = c.read_parts-number.ensures.value in
+    let left = rest-behind _ _ _ c.read_parts-number.ensures.moved in
+    let free = free-number c.args.ts1085 c.args.rule number (refusal c.args.rule number (behind_number number text)) plain accepted clean in
+    c.in_default.ensures.free (rw is free.0) (rw (is, left) free.1) (rw is free.2)

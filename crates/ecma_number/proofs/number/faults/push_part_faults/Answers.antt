@@ -1,4 +1,4 @@
-use Rattle.std.proofs.Common.{◌≡◌, ◌+◌, ◌++◌, List, map, OnOk, refl, sym, subst, arith, codes, length-append}
+use Rattle.std.proofs.Common.{◌≡◌, ◌+◌, ◌++◌, true, List, map, OnOk, refl, sym, subst, arith, codes, length-append}
 use Rattle.ecma_grammar.specs.Found.{Fault, fault_view}
 use Rattle.ecma_grammar.specs.Numbers.{run_faults, is_separator, fraction_text, exponent_text, suffix_of}
 use Rattle.ecma_number.specs.WrittenNumbers.{fraction_of, exponent_of}
@@ -14,8 +14,8 @@ push_run_faults-requires-clause-fits c =
     let fits = rw c.in-Radixed.is at c.requires.fits in
     omega (arith, length-append c.in-Radixed.run'.now (suffix_of c.in-Radixed.big))
 
-pub push_run_faults-requires-in-Big-clause-fits : goal.push_run_faults-requires-in-Big-clause-fits
-push_run_faults-requires-in-Big-clause-fits c =
+pub push_first_run_faults-requires-clause-fits : goal.push_first_run_faults-requires-clause-fits
+push_first_run_faults-requires-clause-fits c =
     let fits = rw c.in-Big.is at c.requires.fits in
     omega (arith, length-append c.in-Big.run'.now (codes "n"))
 
@@ -27,7 +27,7 @@ pub returns-in-Radixed-clause-faults : goal.returns-in-Radixed-clause-faults
 returns-in-Radixed-clause-faults c =
     let start = c.args.start.0 in
     let P : List Fault → Type 0 = λ found. OnOk c.push_run_faults.result (map fault_view c.push_run_faults.new.faults.items ≡ map fault_view c.args.faults.now.items ++ found) in
-    rw c.in-Radixed.is (subst P (sym (all_shifted start 2 (start + 2) (run_faults c.in-Radixed.radix c.in-Radixed.run'.now) refl)) c.push_run_faults.ensures.faults)
+    rw c.in-Radixed.is (subst P (sym (all_shifted start 2 (start + 2) (run_faults true c.in-Radixed.radix c.in-Radixed.run'.now) refl)) c.push_run_faults.ensures.faults)
 
 pub returns-in-Plain-clause-free : goal.returns-in-Plain-clause-free
 returns-in-Plain-clause-free c =

@@ -9,5 +9,5 @@ bytes-preserved c =
     record {
       run = run-behind c.args.radix c.in-Some.b.now c.in-Some.behind.now run;
       count = omega (arith, c.bytes.invariant.count, less);
-      faults = turn c.args.start.0 c.args.radix c.bytes.seen c.bytes.count c.in-Some.b.now c.in-Some.behind.now _ _ _ run (rw c.is_faulty.ensures at c.in_ok-push_separator.ensures) (rw same at c.bytes.invariant.faults);
+      faults = turn c.args.start.0 c.args.allowed c.args.radix c.bytes.seen c.bytes.count c.in-Some.b.now c.in-Some.behind.now _ _ _ run (rw c.is_faulty.ensures at c.in_ok-push_separator.ensures) (rw same at c.bytes.invariant.faults);
     }

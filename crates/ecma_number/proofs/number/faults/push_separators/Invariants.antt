@@ -9,8 +9,8 @@ abbrev pub invariant-bytes : goal.invariant-bytes
 invariant-bytes l = record {
   run : IsRun l.radix l.left;
   count : l.count + length l.left ≡ length l.run;
-  faults : map fault_view l.faults.items ++ said l.start.0 (faulty_separators l.radix l.seen l.count l.left)
-      ≡ map fault_view l.fn.faults.items ++ said l.start.0 (faulty_separators l.radix false 0 l.run);
+  faults : map fault_view l.faults.items ++ said l.start.0 (faulty_separators l.allowed l.radix l.seen l.count l.left)
+      ≡ map fault_view l.fn.faults.items ++ said l.start.0 (faulty_separators l.allowed l.radix false 0 l.run);
 }
 
 abbrev pub decreases-bytes : goal.decreases-bytes

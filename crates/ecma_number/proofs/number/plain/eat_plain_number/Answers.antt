@@ -17,7 +17,7 @@ pub slice-raw-requires-clause-in_order : goal.slice-raw-requires-clause-in_order
 slice-raw-requires-clause-in_order c = rw (c.cur_pos-start.ensures, c.cur_pos.ensures) (place-passed-le _ _ _ c.bump_bytes.ensures)
 
 pub returns-clause-found : goal.returns-clause-found
-returns-clause-found c = λ ts1085.
+returns-clause-found c = λ ts1085 rule.
     let old = c.args.input.now in
     let is = c.as_bytes.ensures.value ∙ c.as_str.ensures in
     let moved = plain-moved c.in_ok-count.ensures.plain old _ is c.bump_bytes.ensures in
@@ -25,14 +25,14 @@ returns-clause-found c = λ ts1085.
     let raw = ap borrowed_atom (c.slice-raw.ensures ∙ text-passed old _ _ _ _ moved c.cur_pos-start.ensures c.cur_pos.ensures ∙ ap encode_utf8_all front) in
     let token = plain-token c.in_ok-count.ensures.plain _ _ (c.from.ensures ∙ raw) (c.from-2.ensures ∙ raw) in
     let extent = ap (span_of (place old)) (place-passed old _ _ moved ∙ ap (λ s. place old + byte_len s) front) in
-    ap (found_at token_behind (place old)) (plain-number c.in_ok-count.ensures.plain (rest old) ts1085 is) ∙ plain-found c.in_ok-count.ensures.plain (place old) ts1085 _ _ token extent
+    ap (found_at token_behind (place old)) (plain-number c.in_ok-count.ensures.plain (rest old) ts1085 rule is) ∙ plain-found c.in_ok-count.ensures.plain (place old) ts1085 rule _ _ token extent
 
 pub returns-clause-moved : goal.returns-clause-moved
-returns-clause-moved c = λ ts1085.
+returns-clause-moved c = λ ts1085 rule.
     let old = c.args.input.now in
     let is = c.as_bytes.ensures.value ∙ c.as_str.ensures in
     plain-moved c.in_ok-count.ensures.plain old _ is c.bump_bytes.ensures
-    ∙ ap (λ (s : Scanned TokenView). passed (length s.spelling) old) (sym (plain-number c.in_ok-count.ensures.plain (rest old) ts1085 is))
+    ∙ ap (λ (s : Scanned TokenView). passed (length s.spelling) old) (sym (plain-number c.in_ok-count.ensures.plain (rest old) ts1085 rule is))
 
 pub returns-in_err-count-clause-answered : goal.returns-in_err-count-clause-answered
 returns-in_err-count-clause-answered c = λ start short.

@@ -11,13 +11,13 @@ pub returns-in-None-clause-value : goal.returns-in-None-clause-value
 returns-in-None-clause-value c =
     let parts = rw c.in-None.is at c.in_ok-error.ensures.value in
     let none : part_refusal (number_of c.args.number) (rest c.args.input.now) ≡ None = none-behind c.args.start.0 _ parts in
-    rw none (c.name_refusal.ensures.value c.args.start.0 c.requires.behind)
+    rw none (c.next_refusal.ensures.value c.args.start.0 c.requires.behind)
 
 pub returns-in-None-clause-free : goal.returns-in-None-clause-free
 returns-in-None-clause-free c =
     let parts = rw c.in-None.is at c.in_ok-error.ensures.value in
     let none : part_refusal (number_of c.args.number) (rest c.args.input.now) ≡ None = none-behind c.args.start.0 _ parts in
-    λ unrefused. c.name_refusal.ensures.free (rw none at unrefused)
+    λ unrefused. c.next_refusal.ensures.free (rw none at unrefused)
 
 pub returns-in-Some-clause-value : goal.returns-in-Some-clause-value
 returns-in-Some-clause-value c = first_some (error_behind c.args.start.0) _ _ _ (rw c.in-Some.is at c.in_ok-error.ensures.value)
