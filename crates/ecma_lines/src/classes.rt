@@ -44,12 +44,7 @@ fn push_pieces(alloc: Global, out: &mut Vec<u8>, pieces: &[Piece]) -> Result<(),
 }
 
 /// The pieces that cover a text which starts at the place 0, where the tokens with these numbers are read again.
-fn pieces(
-    alloc: Global,
-    options: Options,
-    rereads: &[u64],
-    text: &str,
-) -> Result<Vec<Piece>, Fault>
+fn pieces(alloc: Global, options: Options, rereads: &[u64], text: &str) -> Result<Vec<Piece>, Fault>
     requires { length text.now < 2 ^ 32 }
     ensures { MatchResult result
         (λ pieces. grammar.text_pieces options rereads.now text.now ≡ Some pieces.items)
