@@ -3,7 +3,7 @@
 
 mod cover;
 mod marks;
-mod piece;
+pub mod piece;
 
 pub use cover::classes;
 pub use piece::{Class, Piece};

@@ -5,6 +5,7 @@ pub mod FewLemmas
 pub mod FreeLemmas
 pub mod GapTiling
 pub mod GoingBack
+pub mod KeptSpans
 pub mod NestedLemmas
 pub mod NothingLemmas
 pub mod OrderLemmas

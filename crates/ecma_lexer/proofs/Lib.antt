@@ -1,5 +1,6 @@
 pub use Rattle.ecma_state.proofs.AttachmentRows
 pub use Rattle.ecma_laws.proofs.CollectingLemmas
+pub use Rattle.ecma_pieces.proofs.CoveredLemmas
 pub use Rattle.ecma_laws.proofs.DeterminedLemmas
 pub use Rattle.ecma_laws.proofs.EmptyLemmas
 pub use Rattle.ecma_stream.proofs.EndLemmas

@@ -4,7 +4,7 @@
 pub mod laws;
 
 pub use ecma_canonical::{Canon, canonical, canonical_text, clean_text, joined};
-pub use ecma_classes::{Class, Piece, classes};
+pub use ecma_classes::{Class, Piece, classes, piece};
 pub use ecma_pieces::classes_of_steps;
 pub use ecma_replay::{Answer, Replay, answer, replay, replayed, runner};
 pub use ecma_state::{

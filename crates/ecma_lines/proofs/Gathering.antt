@@ -36,7 +36,7 @@ passed-next begun l next so some moved =
         (suc here.0, (so_far-token s here.0 l next t here.1 e moved).0)
 
 -- behind the read that answers the end the comments may be handed over
-ended-has : (l next : LexerState) → l.refused ≡ false → (reading_of l).found ≡ None → next ≡ state_behind l (reading_of l) → has_comments next ≡ true
+pub ended-has : (l next : LexerState) → l.refused ≡ false → (reading_of l).found ≡ None → next ≡ state_behind l (reading_of l) → has_comments next ≡ true
 ended-has l next refused none moved =
     ap has_comments moved
     ∙ ap (λ b. not b && (state_behind l (reading_of l)).state.seen.ended) refused

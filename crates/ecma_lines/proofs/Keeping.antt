@@ -8,11 +8,12 @@ use Rattle.std.proofs.lemmas.List.Folds.{list_all-append, list_all-map}
 use Rattle.std.proofs.lemmas.Grind.{reverse_onto}
 use Rattle.std.proofs.lemmas.List.Sums.{fold-append}
 use Rattle.ecma_token.specs.Kinds.{kind_of}
-use Rattle.ecma_token.specs.View.{SpannedView, spanned_view}
+use Rattle.ecma_token.specs.View.{SpannedView}
 use Rattle.ecma_lexer.specs.Canonical.{canonical_of, own_in}
 use Rattle.ecma_lexer.specs.Clean.{ends_clean}
 use Rattle.ecma_lexer.specs.Disposition as lists
-use Rattle.ecma_lexer.specs.Ending.{behind_reads, enough, errors_of, read_out, reads, tokens_of}
+use Rattle.ecma_lexer.specs.Ending.{behind_reads, comments_of, enough, errors_of, read_out, reads, tokens_of}
+use Rattle.ecma_lexer.specs.HandOver.{has_comments}
 use Rattle.ecma_lexer.specs.Joined.{StandsIn}
 use Rattle.ecma_lexer.specs.Run.{act_all, act_on, reading_of, start_of, state_behind}
 use Rattle.ecma_lexer.specs.Session.{LexerState, Session, has_ended, kept_back, kept_of, kept_tokens, state_of}
@@ -26,11 +27,11 @@ use Rattle.ecma_lexer.proofs.EndingLemmas.{ReadSoFar, read_tokens, reads_out, so
 use Rattle.ecma_lexer.proofs.KeptPlaces.{steps_keep_places}
 use Rattle.ecma_lines.specs.Begin.{begin, begin_if, context, settings, whole}
 use Rattle.ecma_lines.specs.CanonText.{KeepsCleanly, canon_from, canon_text, canonical_bytes, unless_too_long}
-use Rattle.ecma_lines.specs.Opening.{Fails, Stands, behind_rereads, opening, rereading, unless_no_slash}
+use Rattle.ecma_lines.specs.Opening.{Fails, behind_rereads, opening, rereading, unless_no_slash}
 use Rattle.ecma_lines.specs.declared.command.Options.{Options}
-use Rattle.ecma_lines.specs.declared.opening.Opened.{Opened}
 use Rattle.ecma_stdio.specs.declared.fault.Fault.{Fault}
 use Rattle.ecma_stdio.specs.declared.fault.Fault.TheVariants.{NotClean}
+use Rattle.ecma_lines.proofs.Gathering.{ended-has}
 
 -- Reading to the end
 
@@ -69,6 +70,13 @@ pub kept-errors : (begun l next : LexerState) (first kept : List Kept) → KeptS
     → (s : Session) → state_of s ≡ begun → next.errors ≡ errors_of s
 kept-errors begun l next first kept so none moved s at =
     let here = so.reads s at in (so_far-end s here.0 l next here.1 none moved).1
+
+-- so are the comments, which may be handed over there
+pub kept-comments : (begun l next : LexerState) (first kept : List Kept) → KeptSoFar begun l first kept → (reading_of l).found ≡ None → next ≡ state_behind l (reading_of l)
+    → (s : Session) → state_of s ≡ begun → (next.comments ≡ comments_of s) × (has_comments next ≡ true)
+kept-comments begun l next first kept so none moved s at =
+    let here = so.reads s at in
+    ((so_far-end s here.0 l next here.1 none moved).2, ended-has l next (ap (λ x. x.refused) here.1.state) none moved)
 
 -- The order of what is kept
 
@@ -122,17 +130,14 @@ pub canon-unclean : (o : Options) (rereads bytes : List ℕ) (s : Session) → o
 canon-unclean o rereads bytes s opened unclean =
     ap (λ s. canon_from bytes (unless_no_slash s)) opened ∙ ap (λ clean. if clean then unless_too_long (canonical_bytes bytes (read_out s)) else Err NotClean) unclean
 
--- what is told of the tokens and the errors that a loop kept
-pub told-clean : (s : Session) (opened : Opened) (first kept : List Kept) (errors : lists.Errors) (told : Bool) → Stands s opened
-    → first ≡ map kept_of (map spanned_view opened.tokens.items) → (first ≡ map kept_of (reverse (kept_back s.past)) → kept ≡ map kept_of (tokens_of s)) → errors ≡ errors_of s
+-- what is told of the tokens and the errors that were kept
+pub told-clean : (s : Session) (kept : List Kept) (errors : lists.Errors) (told : Bool) → s.reread ≡ None → kept ≡ kept_tokens (read_out s) → errors ≡ errors_of s
     → told ≡ (list_all (λ k. not (is_error k.kind)) kept && is_empty errors.recorded)
-    → (kept ≡ kept_tokens (read_out s)) × (ends_clean (read_out s) ≡ told)
-told-clean s opened first kept errors told stands first_kept all errors_are told_so =
-    let kept_all : kept ≡ map kept_of (tokens_of s) = all (first_kept ∙ ap (map kept_of) stands.kept) in
-    let clean = clean-told s kept (ended-out s stands.plain) kept_all in (
-      kept_all ∙ kept-in-order s,
-      clean ∙ ap (λ errors. list_all (λ k. not (is_error k.kind)) kept && is_empty errors.recorded) (sym errors_are) ∙ sym told_so,
-    )
+    → ends_clean (read_out s) ≡ told
+told-clean s kept errors told plain kept_there errors_are told_so =
+    clean-told s kept (ended-out s plain) (kept_there ∙ sym (kept-in-order s))
+    ∙ ap (λ errors. list_all (λ k. not (is_error k.kind)) kept && is_empty errors.recorded) (sym errors_are)
+    ∙ sym told_so
 
 -- Where the tokens stand
 
@@ -153,20 +158,20 @@ rereads-steps kept s (n ∷ ns) t e = go (is_some (slash_answered (state_of ther
         let (steps, same) = more h in
         (reads (n - kept) ++ (rereading ++ steps), same ∙ sym (fold-append act_on s (reads (n - kept)) (rereading ++ steps) ∙ fold-append act_on there rereading steps))
 
-pub begin-steps : (o : Options) (bytes : List ℕ) → (steps : List Step) × (begin false o bytes ≡ fold act_on (start_of (settings false o) (whole bytes)) steps)
-begin-steps o bytes = go (o.«module» || o.strict)
+pub begin-steps : (collects : Bool) (o : Options) (bytes : List ℕ) → (steps : List Step) × (begin collects o bytes ≡ fold act_on (start_of (settings collects o) (whole bytes)) steps)
+begin-steps collects o bytes = go (o.«module» || o.strict)
   where
-    go : (b : Bool) → (steps : List Step) × (begin_if b o (start_of (settings false o) (whole bytes)) ≡ fold act_on (start_of (settings false o) (whole bytes)) steps)
+    go : (b : Bool) → (steps : List Step) × (begin_if b o (start_of (settings collects o) (whole bytes)) ≡ fold act_on (start_of (settings collects o) (whole bytes)) steps)
     go true = (SetCtx (context o) ∷ [], refl)
     go false = ([], refl)
 
 -- where the reads come to the end is where some steps come to
-pub read_out-steps : (o : Options) (rereads bytes : List ℕ) (s : Session) → opening false o rereads bytes ≡ Some s
-    → (steps : List Step) × (read_out s ≡ fold act_on (start_of (settings false o) (whole bytes)) steps)
-read_out-steps o rereads bytes s opened =
-    let begun : Session = start_of (settings false o) (whole bytes) in
-    let (first, at) = begin-steps o bytes in
-    let (more, there) = rereads-steps 0 (begin false o bytes) rereads s opened in
+pub read_out-steps : (collects : Bool) (o : Options) (rereads bytes : List ℕ) (s : Session) → opening collects o rereads bytes ≡ Some s
+    → (steps : List Step) × (read_out s ≡ fold act_on (start_of (settings collects o) (whole bytes)) steps)
+read_out-steps collects o rereads bytes s opened =
+    let begun : Session = start_of (settings collects o) (whole bytes) in
+    let (first, at) = begin-steps collects o bytes in
+    let (more, there) = rereads-steps 0 (begin collects o bytes) rereads s opened in
     let last = reads (enough s.input) in (
       first ++ (more ++ last),
       ap (λ x. fold act_on x last) (there ∙ ap (λ x. fold act_on x more) at)
@@ -175,7 +180,7 @@ read_out-steps o rereads bytes s opened =
 
 pub kept-stand : (o : Options) (rereads bytes : List ℕ) (kept : List Kept) → KeepsCleanly o rereads bytes kept → All (StandsIn (whole bytes)) kept
 kept-stand o rereads bytes kept so =
-    let (steps, there) = read_out-steps o rereads bytes so.session so.opened in
+    let (steps, there) = read_out-steps false o rereads bytes so.session so.opened in
     subst (All (StandsIn (whole bytes))) (sym (so.kept_there ∙ ap kept_tokens there)) (steps_keep_places (settings false o) (whole bytes) steps)
 
 -- The answer is that of the bytes alone

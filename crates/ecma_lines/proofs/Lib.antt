@@ -1,3 +1,4 @@
+pub mod Covering
 pub mod Gathering
 pub mod Keeping
 pub mod Listing

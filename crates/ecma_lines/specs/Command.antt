@@ -3,7 +3,7 @@ use Rattle.std.specs.Prelude.{ℕ, Bool, true, false, List, [], ◌∷◌, ◌++
 use Rattle.std.specs.Cmp.Lexicographic.{pointwise}
 use Rattle.ecma_stdio.specs.Numbers.{number_of}
 use Rattle.ecma_lines.specs.declared.command.Command.{Command}
-use Rattle.ecma_lines.specs.declared.command.Command.TheVariants.{Tokens, Errors, Comments, Canon}
+use Rattle.ecma_lines.specs.declared.command.Command.TheVariants.{Tokens, Errors, Comments, Canon, Classes}
 use Rattle.ecma_lines.specs.declared.command.Options.{Options}
 use Rattle.ecma_lines.specs.declared.command.Request.{Request}
 
@@ -14,7 +14,8 @@ named_command word =
     else (if pointwise nat_eq word (codes "errors") then Some Errors
     else (if pointwise nat_eq word (codes "comments") then Some Comments
     else (if pointwise nat_eq word (codes "canon") then Some Canon
-    else None)))
+    else (if pointwise nat_eq word (codes "classes") then Some Classes
+    else None))))
 
 -- options that were given before are bad
 abbrev pub once : Bool → Options → Option Options

@@ -1,5 +1,6 @@
 pub mod Begin
 pub mod CanonText
+pub mod ClassLines
 pub mod Command
 pub mod CommentLines
 pub mod ErrorLines

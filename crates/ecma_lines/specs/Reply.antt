@@ -1,12 +1,13 @@
 -- What is answered to the words and the input, where memory is ample.
 use Rattle.std.specs.Prelude.{ℕ, List, Option, Some, None, Result, Ok, Err}
 use Rattle.ecma_lines.specs.declared.command.Command.{Command}
-use Rattle.ecma_lines.specs.declared.command.Command.TheVariants.{Tokens, Errors, Comments, Canon}
+use Rattle.ecma_lines.specs.declared.command.Command.TheVariants.{Tokens, Errors, Comments, Canon, Classes}
 use Rattle.ecma_lines.specs.declared.command.Options.{Options}
 use Rattle.ecma_stdio.specs.declared.fault.Fault.{Fault}
 use Rattle.ecma_stdio.specs.declared.fault.Fault.TheVariants.{BadWords}
 use Rattle.ecma_stdio.specs.Faults.{text_reply}
 use Rattle.ecma_lines.specs.CanonText.{canon_text}
+use Rattle.ecma_lines.specs.ClassLines.{classes_text}
 use Rattle.ecma_lines.specs.Command.{Asked, request_of}
 use Rattle.ecma_lines.specs.CommentLines.{comments_text}
 use Rattle.ecma_lines.specs.ErrorLines.{errors_text}
@@ -19,6 +20,7 @@ command_text Tokens options rereads bytes = unless_no_slash (tokens_text options
 command_text Errors options rereads bytes = unless_no_slash (errors_text options rereads bytes)
 command_text Comments options rereads bytes = unless_no_slash (comments_text options rereads bytes)
 command_text Canon options rereads bytes = canon_text options rereads bytes
+command_text Classes options rereads bytes = unless_no_slash (classes_text options rereads bytes)
 
 abbrev pub program_text : Asked → List ℕ → Result (List ℕ) Fault
 program_text request bytes = command_text request.command request.options request.rereads bytes

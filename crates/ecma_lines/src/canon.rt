@@ -1,9 +1,7 @@
 //! What is written of the canonical text of a text's tokens.
-ghost use Rattle.std.specs.Prelude.{◌≡◌, ◌&&◌, ◌++◌, ◌^◌, ◌<◌, None, Ok, Err, not, length, map, reverse, string_bytes, MatchResult, OnOk};
+ghost use Rattle.std.specs.Prelude.{◌≡◌, ◌&&◌, ◌^◌, ◌<◌, Ok, Err, not, length, string_bytes, MatchResult};
 ghost use Rattle.std.specs.List.{list_all};
-ghost use Rattle.ecma_token.specs.View.{spanned_view};
-ghost use Rattle.ecma_lexer.specs.Ending.{errors_of, tokens_of};
-ghost use Rattle.ecma_lexer.specs.Session.{Session, kept_back, kept_of, lexer_state, state_of};
+ghost use Rattle.ecma_lexer.specs.Session.{lexer_state};
 ghost use Rattle.ecma_lexer.specs.State as state;
 ghost use Rattle.ecma_lexer.specs.TokenAt.{is_empty};
 ghost use Rattle.ecma_lines.specs.CanonText as grammar;
@@ -11,35 +9,13 @@ ghost use Rattle.ecma_lines.specs.CanonText.{KeepsCleanly, unless_too_long};
 ghost use Rattle.ecma_lines.specs.Opening.{Fails};
 
 use crate::command::Options;
-use crate::lines::next_kept;
-use crate::opening::{Opened, open};
+use crate::keeping::keep_tokens;
+use crate::opening::open;
 use ecma_lexer::{Kept, Lexer, Tokens, canonical_text};
 use ecma_place::{BytePos, StringInput};
 use ecma_stdio::Fault;
-use ecma_token::{TokenAndSpan, TokenKind};
-use std::alloc::{AllocError, Global};
-
-/// Adds what is kept of these tokens, in order.
-fn keep_all(kept: &mut Vec<Kept>, tokens: &[TokenAndSpan]) -> Result<(), AllocError>
-    ensures { OnOk result (kept.new.items ≡ kept.old.items ++ map kept_of (map spanned_view tokens.now)) }
-{
-    for token in tokens {
-        kept.push(Kept::of(token))?;
-    }
-    Ok(())
-}
-
-/// Reads to the end, and adds what is kept of each token.
-fn keep_rest(kept: &mut Vec<Kept>, lexer: &mut Lexer) -> Result<(), AllocError>
-    requires { lexer.old.reread ≡ None }
-    ensures tokens { (s : Session) → state_of s ≡ lexer_state lexer.old → kept.old.items ≡ map kept_of (reverse (kept_back s.past)) → OnOk result (kept.new.items ≡ map kept_of (tokens_of s)) }
-    ensures errors { (s : Session) → state_of s ≡ lexer_state lexer.old → OnOk result ((lexer_state lexer.new).errors ≡ errors_of s) }
-{
-    'tokens: while let Some(token) = next_kept(lexer)? {
-        kept.push(token)?;
-    }
-    Ok(())
-}
+use ecma_token::TokenKind;
+use std::alloc::Global;
 
 /// Whether no token is an error.
 fn has_no_error(kept: &[Kept]) -> bool
@@ -72,11 +48,9 @@ fn clean_tokens(
         (λ kept. KeepsCleanly options rereads.now text.now kept.items)
         (λ fault. Fails (grammar.canon_text options rereads.now text.now) fault) }
 {
-    let Opened { mut lexer, tokens } = open(alloc, false, options, rereads, text)?;
-    let mut kept = Vec::new(alloc);
-    keep_all(&mut kept, &tokens)?;
-    keep_rest(&mut kept, &mut lexer)?;
-    if is_clean(&kept, &mut lexer) {
+    let mut opened = open(alloc, false, options, rereads, text)?;
+    let kept = keep_tokens(alloc, &mut opened)?;
+    if is_clean(&kept, &mut opened.lexer) {
         Ok(kept)
     } else {
         Err(Fault::NotClean)

@@ -5,6 +5,7 @@ ghost use Rattle.ecma_lines.specs.Opening.{Fails};
 ghost use Rattle.ecma_lines.specs.Reply.{program_text};
 
 use crate::canon::canon_text;
+use crate::classes::classes_text;
 use crate::comments::comments_text;
 use crate::errors::errors_text;
 use crate::lines::tokens_text;
@@ -23,6 +24,8 @@ pub enum Command {
     Comments,
     /// The canonical text.
     Canon,
+    /// The pieces that cover the text, a line each.
+    Classes,
 }
 
 impl Command {
@@ -35,6 +38,7 @@ impl Command {
             "errors" => Some(Command::Errors),
             "comments" => Some(Command::Comments),
             "canon" => Some(Command::Canon),
+            "classes" => Some(Command::Classes),
             _ => None,
         }
     }
@@ -145,6 +149,7 @@ impl Request {
             Command::Errors => errors_text(alloc, self.options, rereads, text),
             Command::Comments => comments_text(alloc, self.options, rereads, text),
             Command::Canon => canon_text(alloc, self.options, rereads, text),
+            Command::Classes => classes_text(alloc, self.options, rereads, text),
         }
     }
 }

@@ -57,6 +57,20 @@ impl<'a> Comments<'a> for Handed<'a> {
     }
 }
 
+/// The comments of a lexer that answered the end, in the order in which it hands them over.
+pub fn take_comments<'a>(
+    alloc: Global,
+    lexer: &mut Lexer<'a>,
+) -> Result<Vec<BufferedComment<'a>>, AllocError>
+    ensures { has_comments (lexer_state lexer.old) ≡ true → IfOk result (λ v. v.items ≡ (lexer_state lexer.old).comments) }
+{
+    let mut handed = Handed {
+        comments: Vec::new(alloc),
+    };
+    hand_comments(lexer, &mut handed)?;
+    Ok(handed.comments)
+}
+
 fn side_name(kind: BufferedCommentKind) -> &'static str
     ensures { result.now ≡ grammar.side_name kind }
 {
@@ -152,11 +166,8 @@ pub fn comments_text(
 {
     let mut lexer = open(alloc, true, options, rereads, text)?.lexer;
     read_out(&mut lexer)?;
-    let mut handed = Handed {
-        comments: Vec::new(alloc),
-    };
-    hand_comments(&mut lexer, &mut handed)?;
+    let comments = take_comments(alloc, &mut lexer)?;
     let mut out = Vec::new(alloc);
-    push_comments(alloc, &mut out, &handed.comments)?;
+    push_comments(alloc, &mut out, &comments)?;
     Ok(out)
 }

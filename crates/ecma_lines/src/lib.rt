@@ -1,12 +1,14 @@
-//! What the program writes of a text: lines of its tokens, errors or comments, or its canonical text, and the words that ask
-//! for them.
+//! What the program writes of a text: lines of its tokens, errors, comments or pieces, or its canonical text, and the words
+//! that ask for them.
 #![tactic(auto)]
 
 mod begin;
 mod canon;
+mod classes;
 pub mod command;
 pub mod comments;
 mod errors;
+mod keeping;
 mod lines;
 mod opening;
 mod particulars;

@@ -26,7 +26,7 @@ use Rattle.ecma_classes.specs.Classes.{AreApart, spans_of_comments}
 use Rattle.ecma_classes.proofs.ApartLemmas.{before-apart}
 use Rattle.ecma_classes.proofs.MemberLemmas.{IsIn, in_either}
 use Rattle.ecma_pieces.proofs.AttachedLemmas.{apart_append, apart_between, apart_regrouped, of_regrouped, one_between, regrouped, spans_more}
-use Rattle.ecma_pieces.proofs.KeptPlaces.{moved_place}
+use Rattle.ecma_laws.proofs.KeptSpans.{moved_place}
 use Rattle.ecma_pieces.proofs.ReadLemmas.{CommentsLie, HasPlaces, IsBeside, reading_lies}
 
 -- A comment among tokens, the newest first: behind the newest, in it, or before it and so among the others

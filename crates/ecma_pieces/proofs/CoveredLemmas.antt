@@ -15,6 +15,7 @@ use Rattle.ecma_state.specs.declared.kept.Kept.{Kept}
 use Rattle.ecma_state.specs.declared.settings.Settings.{Settings}
 use Rattle.ecma_state.specs.declared.step.Step.{Step}
 use Rattle.ecma_laws.specs.Order.{InOrder}
+use Rattle.ecma_laws.proofs.KeptSpans.{AllLie, kept_lie}
 use Rattle.ecma_laws.proofs.TilingLemmas.{begins_standing, fold_standing}
 use Rattle.ecma_replay.specs.Replay.{Replays}
 use Rattle.ecma_replay.specs.declared.replayed.Replay.{Replay}
@@ -23,7 +24,6 @@ use Rattle.ecma_classes.proofs.ApartLemmas.{apart_filter, before-apart, behind-a
 use Rattle.ecma_classes.proofs.MemberLemmas.{IsIn, all_of, in_filter, of_filter}
 use Rattle.ecma_pieces.specs.Covered.{MayBeCovered, ReplaysMayBeCovered, RunsMayBeCovered}
 use Rattle.ecma_pieces.proofs.CollectedLemmas.{LiesAmong, has_collected}
-use Rattle.ecma_pieces.proofs.KeptPlaces.{kept_lies}
 use Rattle.ecma_pieces.proofs.ListLemmas.{all_made, any_of, in_map, in_onto, of_map, of_onto}
 
 -- The order of the tokens
@@ -49,6 +49,13 @@ of_kept s z i =
 
 in_kept : (s : Session) (t : SpannedView) → IsIn t (kept_back s.past) → IsIn t.span (spans_of_kept (kept_tokens s))
 in_kept s t i = in_map (λ (k : Kept). k.span) (kept_of t) (kept_tokens s) (in_onto (kept_of t) (map kept_of (kept_back s.past)) [] (in_map kept_of t (kept_back s.past) i))
+
+-- each lies in the text
+one_stands : (input : Cursor) (ts : List SpannedView) → AllLie input ts → (t : SpannedView) → IsIn t ts → StandsIn input t.span
+one_stands input [] all t i = absurd i
+one_stands input (u ∷ ts) all t (inl e) =
+    let lies = all.0 in subst (λ (v : SpannedView). StandsIn input v.span) (sym e) (record { from = lies.from; to = lies.to; in_order = lies.in_order })
+one_stands input (u ∷ ts) all t (inr i) = one_stands input ts all.1 t i
 
 -- Where a comment lies among them
 
@@ -127,7 +134,7 @@ steps_may_be_covered settings input steps =
     record {
       tokens_stand = all_made (StandsIn input) (spans_of_kept (kept_tokens s)) (λ z i.
           let (t, there, is) = of_kept s z i in
-          subst (StandsIn input) (sym is) (kept_lies settings input steps t there));
+          subst (StandsIn input) (sym is) (one_stands input (kept_back s.past) (kept_lie settings input steps) t there));
       in_order = lower input.start (place input) (spans_of_kept (kept_tokens s)) (omega arith) (order_onto (place input) (place s.input) (kept_back s.past) [] k.order tt);
       comments_stand = all_made (StandsIn input) spans (λ z i. let l = c.each z i in record { from = l.places.0; to = l.places.1; in_order = l.own });
       apart = apart_filter holds_byte spans c.apart;

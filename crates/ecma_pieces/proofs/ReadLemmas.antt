@@ -31,7 +31,7 @@ use Rattle.ecma_stream.proofs.EndLemmas.{hi_in, lo_in, token-extent}
 use Rattle.ecma_classes.proofs.MemberLemmas.{IsIn, in_either}
 use Rattle.ecma_pieces.proofs.AttachedLemmas.{more_between, one_between}
 use Rattle.ecma_pieces.proofs.ElementPlaces.{SpanStands, bars_signed, elements_stand, gap_signed, own_span, own_spans, place_in, span_in_front, written, written_common, written_gap}
-use Rattle.ecma_pieces.proofs.KeptPlaces.{moved_place}
+use Rattle.ecma_laws.proofs.KeptSpans.{moved_place}
 
 -- a span begins and ends at places of the text of a cursor
 abbrev pub HasPlaces : Cursor → Span → Type 0

@@ -1,7 +1,9 @@
-//! What a parser has a lexer keep, and buffers of comments.
-use crate::rows::{module, opened};
+//! What a parser has a lexer keep, buffers of comments, and contexts.
+use crate::rows::{contexts, module, opened};
 use crate::told::tell_comments;
-use ecma_lexer::{BufferedComment, BufferedCommentKind, CommentsBuffer, Lexer, Tokens};
+use ecma_lexer::{
+    BufferedComment, BufferedCommentKind, CommentsBuffer, Lexer, TokenContext, Tokens,
+};
 use ecma_place::{Atom, BytePos, Comment, CommentKind, Span, Spanned};
 use ecma_token::{Error, SyntaxError};
 use std::alloc::{AllocError, Global};
@@ -41,10 +43,22 @@ impl Added {
     }
 }
 
-/// Whether a lexer has so many errors, those that wait among them.
-fn has_errors(lexer: &Lexer, count: u32) -> io::Result<bool> {
-    let recorded = lexer.copy()?.take_errors().len();
-    Ok(recorded.saturating_add(lexer.module_errors().len()) == count as usize)
+/// Whether these are the errors of so many numbers, in order.
+fn are_first(errors: &[Error], count: u32) -> bool {
+    let in_order = errors.iter().zip(0..count).all(|(error, number)| {
+        error.span() == span(number) && matches!(error.kind(), SyntaxError::TS1185)
+    });
+    in_order && errors.len() == count as usize
+}
+
+/// Whether a lexer has the errors of so many numbers, where they were added, and no other.
+fn has_errors(added: Added, lexer: &Lexer, count: u32) -> io::Result<bool> {
+    let recorded = lexer.copy()?.take_errors();
+    let waiting = lexer.module_errors();
+    Ok(match added {
+        Added::Error => are_first(recorded.as_slice(), count) && waiting.is_empty(),
+        Added::ModuleModeError => recorded.is_empty() && are_first(waiting, count),
+    })
 }
 
 /// Adds the error of this number, from 0 on, and, where that is refused, the error that is given back.
@@ -65,7 +79,7 @@ fn add(
     let Err(back) = added.add(lexer, error) else {
         return Ok(());
     };
-    let same = has_errors(lexer, number)?;
+    let same = has_errors(added, lexer, number)?;
     let given = back.span() == span(number);
     println!(rt;
         "refused {}: same errors {same}, error back {given}",
@@ -77,9 +91,9 @@ fn add(
 }
 
 /// Sets the flags of a module, and, where that is refused, again.
-fn enter_module(rt: &impl Print, lexer: &mut Lexer) -> io::Result<()> {
+fn enter_module(rt: &impl Print, added: Added, lexer: &mut Lexer) -> io::Result<()> {
     if lexer.set_ctx(module()).is_err() {
-        let same = has_errors(lexer, TIMES)?;
+        let same = has_errors(added, lexer, TIMES)?;
         let wait = lexer.module_errors().len();
         let outside = !lexer.ctx().module;
         println!(rt; "refused set_ctx: same errors {same}, waiting {wait}, same flags {outside}")?;
@@ -96,7 +110,7 @@ fn play_errors(rt: &impl Print, alloc: Global, added: Added) -> io::Result<()> {
         add(rt, alloc, added, &mut lexer, number)?;
     }
     let waiting = lexer.module_errors().len();
-    enter_module(rt, &mut lexer)?;
+    enter_module(rt, added, &mut lexer)?;
     let recorded = lexer.take_errors().len();
     println!(rt; "waiting {waiting}, then recorded {recorded}")
 }
@@ -133,11 +147,24 @@ impl Pushed {
     }
 }
 
-/// How many comments a buffer has, those that wait among them.
-fn count_comments(buffer: &CommentsBuffer) -> io::Result<usize> {
+/// Whether these are the comments of so many numbers, in order.
+fn are_first_comments(comments: &[BufferedComment], count: u32) -> bool {
+    let in_order = comments
+        .iter()
+        .zip(0..count)
+        .all(|(buffered, number)| buffered.pos == BytePos(number));
+    in_order && comments.len() == count as usize
+}
+
+/// Whether a buffer has the comments of so many numbers, where they were added, and no other.
+fn has_comments(pushed: Pushed, buffer: &CommentsBuffer, count: u32) -> io::Result<bool> {
     let mut copy = buffer.copy()?;
-    let count = copy.take_comments().len();
-    Ok(count.saturating_add(copy.take_pending_leading().len()))
+    let comments = copy.take_comments();
+    let pending = copy.take_pending_leading();
+    Ok(match pushed {
+        Pushed::Comment => are_first_comments(&comments, count) && pending.is_empty(),
+        Pushed::PendingLeading => comments.is_empty() && are_first_comments(&pending, count),
+    })
 }
 
 /// Adds the comment of this number, from 0 on, and, where that is refused, again.
@@ -148,7 +175,7 @@ fn push(
     number: u32,
 ) -> io::Result<()> {
     if pushed.push(buffer, number).is_err() {
-        let same = count_comments(buffer)? == number as usize;
+        let same = has_comments(pushed, buffer, number)?;
         println!(rt; "refused {}: same comments {same}", pushed.name())?;
         pushed.push(buffer, number)?;
     }
@@ -165,10 +192,28 @@ fn play_comments(rt: &impl Print, alloc: Global, pushed: Pushed) -> io::Result<(
     tell_comments(rt, &buffer.take_pending_leading())
 }
 
-/// Plays what a parser has a lexer keep, and buffers of comments.
+/// Adds a context to as many as take no memory.
+fn play_contexts(rt: &impl Print, alloc: Global) -> io::Result<()> {
+    println!(rt; "push of a context")?;
+    let mut contexts = contexts(alloc)?;
+    let before = contexts.len();
+    if contexts.push(TokenContext::Tpl).is_err() {
+        let same = contexts.len() == before && contexts.current() == Some(TokenContext::ParenExpr);
+        println!(rt; "refused push of a context: same contexts {same}")?;
+        contexts.push(TokenContext::Tpl)?;
+    }
+    println!(rt;
+        "contexts {}, the last {:?}",
+        contexts.len(),
+        contexts.current()
+    )
+}
+
+/// Plays what a parser has a lexer keep, buffers of comments, and contexts.
 pub fn play(rt: &impl Print, alloc: Global) -> io::Result<()> {
     play_errors(rt, alloc, Added::Error)?;
     play_errors(rt, alloc, Added::ModuleModeError)?;
     play_comments(rt, alloc, Pushed::Comment)?;
-    play_comments(rt, alloc, Pushed::PendingLeading)
+    play_comments(rt, alloc, Pushed::PendingLeading)?;
+    play_contexts(rt, alloc)
 }

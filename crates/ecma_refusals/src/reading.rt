@@ -2,7 +2,7 @@
 use crate::asked::Way;
 use crate::rows::{DEEP, TEXTS, contexts, opened};
 use crate::store::Store;
-use crate::told::{tell_comments, tell_errors};
+use crate::told::{take_told, tell_comments, tell_errors};
 use ecma_lexer::{Lexer, Tokens, hand_comments};
 use std::alloc::Global;
 use std::io;
@@ -21,13 +21,8 @@ fn copied<'a>(rt: &impl Print, lexer: &Lexer<'a>) -> io::Result<Lexer<'a>> {
     }
 }
 
-/// How many errors a lexer has recorded, which are then taken, and how many wait.
-fn count_errors(lexer: &mut Lexer) -> (usize, usize) {
-    (lexer.take_errors().len(), lexer.module_errors().len())
-}
-
 /// Writes what stands behind a refused read: how the same call answers then, whether there is a slash to be read again,
-/// whether comments are handed over, and whether there are as many errors as before it.
+/// whether comments are handed over, whether the errors are those from before it, and the errors.
 fn tell_refused<'a>(
     rt: &impl Print,
     alloc: Global,
@@ -46,10 +41,11 @@ fn tell_refused<'a>(
     };
     let handed = hand_comments(lexer, &mut store)?;
     let comments = store.given.len();
-    let same = count_errors(lexer) == count_errors(&mut before.copy()?);
+    let errors = take_told(alloc, lexer)?;
+    let same = errors.as_str() == take_told(alloc, &mut before.copy()?)?.as_str();
     let name = way.name();
     println!(rt;
-        "refused {name}: again {again}, slash {slash}, handed {handed}, comments {comments}, same errors {same}"
+        "refused {name}: again {again}, slash {slash}, handed {handed}, comments {comments}, same errors {same}; {errors:?}"
     )
 }
 

@@ -1,8 +1,8 @@
 //! What is written of errors and comments.
-use ecma_lexer::{BufferedComment, BufferedCommentKind};
+use ecma_lexer::{BufferedComment, BufferedCommentKind, Lexer, Tokens};
 use ecma_place::{Atom, Spanned};
 use ecma_token::{Error, SyntaxError};
-use std::alloc::Global;
+use std::alloc::{AllocError, Global};
 use std::io;
 
 /// Writes each error, behind what became of it.
@@ -12,6 +12,29 @@ pub fn tell_errors(rt: &impl Print, what: &str, errors: &[Error]) -> io::Result<
         println!(rt; "{what} {}..{} {}", span.lo.0, span.hi.0, error.kind())?;
     }
     Ok(())
+}
+
+/// Adds each error to a text, behind what became of it.
+fn add_errors(out: &mut String, what: &str, errors: &[Error]) -> Result<(), AllocError> {
+    for error in errors {
+        let span = error.span();
+        write!(
+            out,
+            "{what} {}..{} {}\n",
+            span.lo.0,
+            span.hi.0,
+            error.kind()
+        )?;
+    }
+    Ok(())
+}
+
+/// The errors that a lexer has recorded, which are then taken, and those that wait.
+pub fn take_told(alloc: Global, lexer: &mut Lexer) -> Result<String, AllocError> {
+    let mut out = String::new(alloc);
+    add_errors(&mut out, "recorded", lexer.take_errors().as_slice())?;
+    add_errors(&mut out, "waiting", lexer.module_errors())?;
+    Ok(out)
 }
 
 /// Writes each comment, behind its side and the place of its token.

@@ -500,6 +500,72 @@ fn tells_of_texts_that_are_not_clean(rt: HostRuntime) -> Result<(), Fail> {
     )
 }
 
+/// Words, an input, and the lines of its pieces.
+type Pieces = (&'static [&'static str], &'static [u8], &'static [u8]);
+
+const PIECES: &[Pieces] = &[
+    (
+        &["classes"],
+        b"f() /*a*/ //b",
+        b"0 1 token\n1 2 token\n2 3 token\n3 4 trivia\n4 9 comment\n9 10 trivia\n10 13 comment\n",
+    ),
+    (
+        &["classes"],
+        b"x<!--y\nz",
+        b"0 1 token\n1 2 trivia\n2 6 comment\n6 7 trivia\n7 8 token\n",
+    ),
+    (&["classes"], b"``", b"0 1 token\n1 2 token\n"),
+    (
+        &["classes"],
+        b"\n||||||| base\ny",
+        b"0 1 trivia\n1 14 token\n14 15 token\n",
+    ),
+    (
+        &["classes"],
+        b"a\n-->\nb",
+        b"0 1 token\n1 6 trivia\n6 7 token\n",
+    ),
+    (&["classes"], b"/*a", b"0 3 trivia\n"),
+    (&["classes"], b"", b""),
+    (
+        &["classes", "module", "strict", "ts"],
+        b"a\n-->x\nb",
+        b"0 1 token\n1 5 trivia\n5 6 comment\n6 7 trivia\n7 8 token\n",
+    ),
+    (
+        &["classes", "reread", "3"],
+        b"a / /b/g",
+        b"0 1 token\n1 2 trivia\n2 3 token\n3 4 trivia\n4 8 token\n",
+    ),
+    (
+        &["classes", "reread", "1"],
+        b"/a/ //x",
+        b"0 3 token\n3 4 trivia\n4 7 comment\n",
+    ),
+];
+
+#[test]
+fn writes_the_pieces(rt: HostRuntime) -> Result<(), Fail> {
+    for (words, input, output) in PIECES {
+        assert_words(&rt, rt.alloc(), words, input, 0, output)?;
+    }
+    Ok(())
+}
+
+#[test]
+fn tells_what_has_no_pieces(rt: HostRuntime) -> Result<(), Fail> {
+    assert_rows(
+        &rt,
+        rt.alloc(),
+        &[
+            (&["classes", "reread", "1"], b"a", 2, b"no slash\n"),
+            (&["classes"], b"\xff", 3, b"not UTF-8\n"),
+            (&["classes", "classes"], b"", 2, b"bad words\n"),
+            (&["class"], b"", 2, b"bad words\n"),
+        ],
+    )
+}
+
 #[test]
 fn reads_numbers_by_the_standard(rt: HostRuntime) -> Result<(), Fail> {
     assert_rows(

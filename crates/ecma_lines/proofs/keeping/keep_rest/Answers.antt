@@ -1,9 +1,9 @@
 use Rattle.std.proofs.Common.{◌≡◌, ◌∙◌, [], ◌∷◌, ◌++◌, sym, ap, subst}
 use Rattle.ecma_lexer.specs.Run.{reading_of}
 use Rattle.ecma_lexer.specs.Session.{kept_of, lexer_state}
-use Rattle.ecma_lines.proofs.Keeping.{KeptSoFar, kept-errors, kept-next, kept-tokens}
+use Rattle.ecma_lines.proofs.Keeping.{KeptSoFar, kept-comments, kept-errors, kept-next, kept-tokens}
 use Rattle.ecma_lines.proofs.Listing.{no-kept, some-kept, token-less}
-use Rattle.ecma_lines.proofs.canon.keep_rest.Goals as goal
+use Rattle.ecma_lines.proofs.keeping.keep_rest.Goals as goal
 
 pub tokens-smaller : goal.tokens-smaller
 tokens-smaller c =
@@ -27,3 +27,13 @@ pub returns-clause-errors : goal.returns-clause-errors
 returns-clause-errors c =
     let none = no-kept (reading_of (lexer_state c.tokens.lexer)).found (sym c.in_default.is ∙ c.in_ok-token.ensures.kept) in
     kept-errors (lexer_state c.args.lexer.now) (lexer_state c.tokens.lexer) _ c.args.kept.now.items c.tokens.kept.items c.tokens.invariant none c.in_ok-token.ensures.after
+
+pub returns-clause-comments : goal.returns-clause-comments
+returns-clause-comments c s at =
+    let none = no-kept (reading_of (lexer_state c.tokens.lexer)).found (sym c.in_default.is ∙ c.in_ok-token.ensures.kept) in
+    (kept-comments (lexer_state c.args.lexer.now) (lexer_state c.tokens.lexer) _ c.args.kept.now.items c.tokens.kept.items c.tokens.invariant none c.in_ok-token.ensures.after s at).0
+
+pub returns-clause-ended : goal.returns-clause-ended
+returns-clause-ended c s at =
+    let none = no-kept (reading_of (lexer_state c.tokens.lexer)).found (sym c.in_default.is ∙ c.in_ok-token.ensures.kept) in
+    (kept-comments (lexer_state c.args.lexer.now) (lexer_state c.tokens.lexer) _ c.args.kept.now.items c.tokens.kept.items c.tokens.invariant none c.in_ok-token.ensures.after s at).1

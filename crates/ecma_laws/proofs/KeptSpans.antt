@@ -1,9 +1,10 @@
--- The tokens that a run keeps begin and end at places of its text.
-use Rattle.std.proofs.Common.{◌≡◌, ◌∙◌, ℕ, ◌+◌, Bool, true, false, List, [], ◌∷◌, drop, Option, Some, None, inl, inr, refl, sym, subst, ap, arith}
+-- The tokens that a run keeps begin and end at places of its text, and lie in it.
+use Rattle.std.proofs.Common.{◌≡◌, ◌∙◌, ℕ, ◌+◌, ◌≤◌, Bool, true, false, List, [], ◌∷◌, drop, Option, Some, None, refl, sym, subst, ap, arith}
 use Rattle.std.specs.Prelude.{fold, is_some}
 use Rattle.ecma_place.specs.Cursor.{Cursor, HasPlace, place, rest}
 use Rattle.ecma_place.specs.Text.{byte_len}
 use Rattle.ecma_place.specs.declared.place.BytePos.{BytePos}
+use Rattle.ecma_place.specs.declared.place.Span.{Span}
 use Rattle.ecma_scan.specs.Expressions.{regular_expression}
 use Rattle.ecma_scan.specs.Found.{found_at, token_behind}
 use Rattle.ecma_token.specs.View.{SpannedView}
@@ -18,13 +19,17 @@ use Rattle.ecma_state.specs.declared.step.Step.TheVariants.{Read, SetCtx, SetExp
 use Rattle.ecma_stream.proofs.EndLemmas.{ReadsOn, reading-on}
 use Rattle.ecma_stream.proofs.SlashLemmas.{begins-reading}
 use Rattle.ecma_laws.proofs.TilingLemmas.{Standing, act_standing, again-ends, begins_standing}
-use Rattle.ecma_classes.specs.Classes.{StandsIn}
-use Rattle.ecma_classes.proofs.MemberLemmas.{IsIn}
+
+-- a span lies in the text of a cursor, between two of its places
+pub record LiesIn (c : Cursor) (s : Span) : Type 0 where
+  pub from : HasPlace c s.lo.0
+  pub to : HasPlace c s.hi.0
+  pub in_order : s.lo.0 ≤ s.hi.0
 
 -- each token lies in the text
-abbrev AllLie : Cursor → List SpannedView → Type 0
+abbrev pub AllLie : Cursor → List SpannedView → Type 0
 AllLie input [] = Unit {0}
-AllLie input (t ∷ ts) = StandsIn input t.span × AllLie input ts
+AllLie input (t ∷ ts) = LiesIn input t.span × AllLie input ts
 
 all-drop : (input : Cursor) (ts : List SpannedView) → AllLie input ts → AllLie input (drop 1 ts)
 all-drop input [] all = all
@@ -41,14 +46,14 @@ own-place : (c : Cursor) → HasPlace c (place c)
 own-place c = (c.at, refl)
 
 given-lies : (input : Cursor) (again flag : Bool) (found : Option SpannedView) (past : Past) → AllLie input (kept_back past)
-    → ((t : SpannedView) → found ≡ Some t → StandsIn input t.span) → AllLie input (kept_back (given_in again flag found ∷ past))
+    → ((t : SpannedView) → found ≡ Some t → LiesIn input t.span) → AllLie input (kept_back (given_in again flag found ∷ past))
 given-lies input true flag (Some t) past all lies = (lies t refl, all-drop input (kept_back past) all)
 given-lies input false flag (Some t) past all lies = (lies t refl, all)
 given-lies input again flag None past all lies = all
 
 -- what a read answers lies in the text
 read-lies : (input : Cursor) (s : Session) → Standing input s → (r : Option BytePos) → s.reread ≡ r
-    → (t : SpannedView) → (reading_from r (state_of s)).found ≡ Some t → StandsIn input t.span
+    → (t : SpannedView) → (reading_from r (state_of s)).found ≡ Some t → LiesIn input t.span
 read-lies input s k None plain t e =
     let mode = mode_of (state_of s) in
     let on : ReadsOn s.input (reading mode s.input) = reading-on mode s.input in
@@ -60,7 +65,7 @@ read-lies input s k None plain t e =
       to = subst (HasPlace input) (sym at.2) ends;
       in_order = at.1;
     }
-read-lies input s k (Some slash) again t e = subst (λ u. StandsIn input u.span) (some-same e) lies
+read-lies input s k (Some slash) again t e = subst (λ u. LiesIn input u.span) (some-same e) lies
   where
     here : Cursor
     here = at_place slash s.input
@@ -77,7 +82,7 @@ read-lies input s k (Some slash) again t e = subst (λ u. StandsIn input u.span)
     ends : place here + byte_len (regular_expression (rest here)).spelling ≡ place behind
     ends = again-ends (last_flag s.past) here (k.reread slash again).opens
 
-    lies : StandsIn input found.span
+    lies : LiesIn input found.span
     lies = record {
       from = moved_place input here (place here) k.start k.text (own-place here);
       to = subst (HasPlace input) (sym ends) (moved_place input behind (place behind) k.start k.text (own-place behind));
@@ -110,12 +115,6 @@ all-lie : (input : Cursor) (s : Session) (steps : List Step) → Standing input 
 all-lie input s [] k all = all
 all-lie input s (x ∷ xs) k all = all-lie input (act_on s x) xs (act_standing input s x k) (step-lies input s x k all)
 
-one-lies : (input : Cursor) (ts : List SpannedView) → AllLie input ts → (t : SpannedView) → IsIn t ts → StandsIn input t.span
-one-lies input [] all t i = absurd i
-one-lies input (u ∷ ts) all t (inl e) = subst (λ (v : SpannedView). StandsIn input v.span) (sym e) all.0
-one-lies input (u ∷ ts) all t (inr i) = one-lies input ts all.1 t i
-
 -- each token that is kept where steps lead, all of which count
-pub kept_lies : (settings : Settings) (input : Cursor) (steps : List Step) (t : SpannedView) → IsIn t (kept_back (act_all (start_of settings input) steps).past) → StandsIn input t.span
-kept_lies settings input steps =
-    one-lies input (kept_back (act_all (start_of settings input) steps).past) (all-lie input (start_of settings input) steps (begins_standing settings input) tt)
+pub kept_lie : (settings : Settings) (input : Cursor) (steps : List Step) → AllLie input (kept_back (act_all (start_of settings input) steps).past)
+kept_lie settings input steps = all-lie input (start_of settings input) steps (begins_standing settings input) tt
