@@ -138,6 +138,13 @@ impl<'a> Lexer<'a> {
         self.state.expr_allowed = allow;
     }
 
+    /// Whether an expression may begin, as the tokens before say, or as the caller set it.
+    pub fn expr_allowed(&self) -> bool
+        ensures { result ≡ (lexer_state self.now).state.expr_allowed }
+    {
+        self.state.expr_allowed
+    }
+
     /// The place of the last answer, where that was `/` or `/=`. None where memory was refused.
     pub fn last_slash(&self) -> Option<BytePos>
         ensures { result ≡ slash_answered (lexer_state self.now) }

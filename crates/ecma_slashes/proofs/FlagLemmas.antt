@@ -1,0 +1,124 @@
+-- One token by the flag.
+use Rattle.std.proofs.Common.{◌≡◌, ◌∙◌, ℕ, ◌<◌, Bool, true, false, ◌&&◌, List, [], ◌∷◌, Option, Some, None, refl, sym, subst, ap, cond}
+use Rattle.std.specs.Prelude.{is_some}
+use Rattle.std.proofs.lemmas.Option.{none-some}
+use Rattle.ecma_place.specs.declared.place.BytePos.{BytePos}
+use Rattle.ecma_token.specs.View.{SpannedView}
+use Rattle.ecma_state.specs.Run.{act_all, act_on, given_in, reading_of, reread_from, state_behind, state_rereading}
+use Rattle.ecma_state.specs.Session.{LexerState, Past, Session, has_ended, seen_of, state_of}
+use Rattle.ecma_state.specs.State.{last_slash}
+use Rattle.ecma_state.specs.declared.step.Step.TheVariants.{Read, Reread, Withdraw}
+use Rattle.ecma_stream.specs.Ending.{most_tokens}
+use Rattle.ecma_stream.specs.Slashes.{slash_answered}
+use Rattle.ecma_stream.proofs.EndingLemmas.{plain-reading, state-behind, tokens_run_out}
+use Rattle.ecma_slashes.specs.ByFlag.{ReadsByFlag, behind_flag, found_by_flag, last_read, meets_expression, read_steps}
+use Rattle.ecma_slashes.proofs.FewerLemmas.{fewer-again}
+
+-- nothing was found
+abbrev pub ended_by : Option SpannedView → Bool
+ended_by None = true
+ended_by (Some t) = false
+
+-- What is met
+
+slash-there : (s : Session) (l : LexerState) (o : Option BytePos) → l ≡ state_of (act_on s Read) → o ≡ slash_answered l → last_slash (seen_of (act_on s Read).past) ≡ o
+slash-there s l o at told = sym (told ∙ ap slash_answered at)
+
+pub meets-not-allowed : (s : Session) → s.expr_allowed ≡ false → meets_expression s ≡ false
+meets-not-allowed s e = ap (λ b. b && is_some (last_slash (seen_of (act_on s Read).past))) e
+
+pub meets-no-slash : (s : Session) (l : LexerState) → l ≡ state_of (act_on s Read) → None ≡ slash_answered l → meets_expression s ≡ false
+meets-no-slash s l at told = ap (λ o. s.expr_allowed && is_some o) (slash-there s l None at told) ∙ never s.expr_allowed
+  where
+    never : (b : Bool) → (b && false) ≡ false
+    never true = refl
+    never false = refl
+
+pub meets-slash : (s : Session) (l : LexerState) (p : BytePos) → s.expr_allowed ≡ true → l ≡ state_of (act_on s Read) → Some p ≡ slash_answered l → meets_expression s ≡ true
+meets-slash s l p allowed at told =
+    ap (λ b. b && is_some (last_slash (seen_of (act_on s Read).past))) allowed ∙ ap is_some (slash-there s l (Some p) at told)
+
+-- What is read
+
+pub read-once : (s : Session) (found : Option SpannedView) (l : LexerState) → meets_expression s ≡ false → found ≡ (reading_of (state_of s)).found → l ≡ state_of (act_on s Read) → ReadsByFlag s found l
+read-once s found l meets finds at =
+    record {
+      found = finds ∙ ap (λ b. (reading_of (state_of (last_read b s))).found) (sym meets);
+      after = at ∙ ap (λ b. state_of (act_all s (read_steps b))) (sym meets);
+    }
+
+-- where the second read begins
+again-begins : (s : Session) (l asked : LexerState) (p : BytePos) → l ≡ state_of (act_on s Read) → Some p ≡ slash_answered l → asked ≡ state_rereading (Some p) l → asked ≡ state_of (last_read true s)
+again-begins s l asked p at told sets =
+    sets ∙ ap (state_rereading (Some p)) at ∙ sym (ap (λ o. state_of (reread_from (act_on s Read) o).after) (slash-there s l (Some p) at told))
+
+pub read-twice : (s : Session) (found : Option SpannedView) (l asked now done : LexerState) (p : BytePos) → s.expr_allowed ≡ true → l ≡ state_of (act_on s Read) → Some p ≡ slash_answered l
+    → asked ≡ state_rereading (Some p) l → found ≡ (reading_of asked).found → now ≡ state_behind asked (reading_of asked) → done ≡ state_rereading None now → ReadsByFlag s found done
+read-twice s found l asked now done p allowed at told sets finds moved withdrawn =
+    let meets = meets-slash s l p allowed at told in
+    let begins = again-begins s l asked p at told sets in
+    let read : now ≡ state_of (act_on (last_read true s) Read) = moved ∙ ap (λ x. state_behind x (reading_of x)) begins ∙ sym (state-behind (last_read true s)) in
+    record {
+      found = finds ∙ ap (λ x. (reading_of x).found) begins ∙ ap (λ b. (reading_of (state_of (last_read b s))).found) (sym meets);
+      after = withdrawn ∙ ap (state_rereading None) read ∙ ap (λ b. state_of (act_all s (read_steps b))) (sym meets);
+    }
+
+-- Fewer tokens may come behind it
+
+pub fewer-once : (l next : LexerState) (t : SpannedView) → l.reread ≡ None → (reading_of l).found ≡ Some t → next ≡ state_behind l (reading_of l) → most_tokens next < most_tokens l
+fewer-once l next t plain found moved = subst (λ x. most_tokens x < most_tokens l) (sym moved) (tokens_run_out l t plain found)
+
+pub fewer-twice : (l next asked now done : LexerState) (p : BytePos) → l.reread ≡ None → next ≡ state_behind l (reading_of l) → Some p ≡ slash_answered next → next.refused ≡ false
+    → asked ≡ state_rereading (Some p) next → now ≡ state_behind asked (reading_of asked) → done ≡ state_rereading None now → most_tokens done < most_tokens l
+fewer-twice l next asked now done p plain moved told kept sets again withdrawn =
+    let first : LexerState = state_behind l (reading_of l) in
+    let slash : last_slash first.state.seen ≡ Some p = ap (λ x. last_slash x.state.seen) (sym moved) ∙ sym (told ∙ ap (λ b. cond b None (last_slash next.state.seen)) kept) in
+    let begins : asked ≡ state_rereading (Some p) first = sets ∙ ap (state_rereading (Some p)) moved in
+    let ends = withdrawn ∙ ap (state_rereading None) (again ∙ ap (λ x. state_behind x (reading_of x)) begins) in
+    subst (λ x. most_tokens x < most_tokens l) (sym ends) (fewer-again l p plain slash)
+
+-- Sessions
+
+pub flag-plain : (s : Session) → s.reread ≡ None → (behind_flag s).reread ≡ None
+flag-plain s plain = go (meets_expression s)
+  where
+    go : (b : Bool) → (act_all s (read_steps b)).reread ≡ None
+    go false = plain
+    go true = refl
+
+-- whether the end was answered
+pub flag-ended : (s : Session) → has_ended (behind_flag s).past ≡ ended_by (found_by_flag s)
+flag-ended s = go (meets_expression s)
+  where
+    told : (again flag : Bool) (found : Option SpannedView) (past : Past) → has_ended (given_in again flag found ∷ past) ≡ ended_by found
+    told again flag None past = refl
+    told true flag (Some t) past = refl
+    told false flag (Some t) past = refl
+
+    go : (b : Bool) → has_ended (act_all s (read_steps b)).past ≡ ended_by (reading_of (state_of (last_read b s))).found
+    go false = told (is_some s.reread) (reading_of (state_of s)).end_flag (reading_of (state_of s)).found s.past
+    go true =
+        let r = last_read true s in
+        told (is_some r.reread) (reading_of (state_of r)).end_flag (reading_of (state_of r)).found r.past
+
+pub flag-fewer : (s : Session) → s.reread ≡ None → ended_by (found_by_flag s) ≡ false → most_tokens (state_of (behind_flag s)) < most_tokens (state_of s)
+flag-fewer s plain more = go (meets_expression s) refl more
+  where
+    slash : (o : Option BytePos) → last_slash (seen_of (act_on s Read).past) ≡ o → is_some o ≡ true → most_tokens (state_of (act_all s (read_steps true))) < most_tokens (state_of s)
+    slash None e h = cc
+    slash (Some p) e h =
+        let asked : state_of (last_read true s) ≡ state_rereading (Some p) (state_of (act_on s Read)) = ap (λ o. state_of (reread_from (act_on s Read) o).after) e in
+        fewer-twice (state_of s) (state_of (act_on s Read)) (state_of (last_read true s)) (state_of (act_on (last_read true s) Read)) (state_of (act_all s (read_steps true))) p plain
+        (state-behind s) (sym e) refl asked (state-behind (last_read true s)) refl
+
+    met : (b : Bool) → (b && is_some (last_slash (seen_of (act_on s Read).past))) ≡ true → is_some (last_slash (seen_of (act_on s Read).past)) ≡ true
+    met true h = h
+    met false h = cc
+
+    once : (found : Option SpannedView) → (reading_of (state_of s)).found ≡ found → ended_by found ≡ false → most_tokens (state_of (act_on s Read)) < most_tokens (state_of s)
+    once None e h = cc
+    once (Some t) e h = fewer-once (state_of s) (state_of (act_on s Read)) t plain e (state-behind s)
+
+    go : (b : Bool) → meets_expression s ≡ b → ended_by (reading_of (state_of (last_read b s))).found ≡ false → most_tokens (state_of (act_all s (read_steps b))) < most_tokens (state_of s)
+    go false e h = once (reading_of (state_of s)).found refl h
+    go true e h = slash (last_slash (seen_of (act_on s Read).past)) refl (met s.expr_allowed e)

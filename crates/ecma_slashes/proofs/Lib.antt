@@ -1,0 +1,3 @@
+pub mod FewerLemmas
+pub mod FlagLemmas
+pub mod RunLemmas

@@ -1,0 +1,6 @@
+pub mod ByFlag
+pub use Rattle.ecma_state.specs.Counting
+pub use Rattle.ecma_state.specs.Run
+pub use Rattle.ecma_state.specs.Session
+pub use Rattle.ecma_state.specs.State
+pub use Rattle.ecma_stream.specs.Ending

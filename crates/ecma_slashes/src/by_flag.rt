@@ -1,0 +1,159 @@
+//! Slashes by the flag.
+ghost use Rattle.std.specs.Prelude.{◌≡◌, ◌+◌, ◌++◌, ◌<◌, ◌^◌, false, true, None, Err, [], alloc_error, is_some, length, option_map, IfOk, IsOk, OnOk, OnErr};
+ghost use Rattle.std.specs.Str.{chars};
+ghost use Rattle.ecma_place.specs.Cursor.{rest};
+ghost use Rattle.ecma_token.specs.View.{spanned_view};
+ghost use Rattle.ecma_state.specs.Run.{act_all};
+ghost use Rattle.ecma_state.specs.Session.{Session, lexer_state, state_of};
+ghost use Rattle.ecma_stream.specs.View.{IsGivenAs};
+ghost use Rattle.ecma_stream.specs.Ending.{most_tokens};
+ghost use Rattle.ecma_slashes.specs.ByFlag.{ReadsByFlag, StepsOn, meets_expression, steps_to_end, text_steps};
+
+use ecma_place::{BytePos, StringInput};
+use ecma_state::settings::Settings;
+use ecma_state::step::Step;
+use ecma_stream::lexer::Lexer;
+use ecma_stream::tokens::Tokens;
+use ecma_syntax::Context;
+use ecma_token::TokenAndSpan;
+use std::alloc::{AllocError, Global};
+
+/// What was read by the flag.
+#[derive(Drop)]
+struct ByFlag<'a> {
+    found: Option<TokenAndSpan<'a>>,
+    /// Whether a slash was read again.
+    again: bool,
+}
+
+/// Reads the next token as [`read_by_flag`] does.
+fn read_telling<'a>(lexer: &mut Lexer<'a>) -> Result<ByFlag<'a>, AllocError>
+    requires plain { lexer.old.reread ≡ None }
+    ensures steps { (s : Session) → state_of s ≡ lexer_state lexer.old → IfOk result (λ by.
+        ReadsByFlag s (option_map spanned_view by.found) (lexer_state lexer.new) × (by.again ≡ meets_expression s)) }
+    ensures fewer { IfOk result (λ by. is_some by.found ≡ true → most_tokens (lexer_state lexer.new) < most_tokens (lexer_state lexer.old)) }
+    ensures plain { OnOk result (lexer.new.reread ≡ None) }
+    ensures refused { lexer.old.refused ≡ true → (result ≡ Err alloc_error) × (lexer.new ≡ lexer.old) }
+    ensures refusal { OnErr result (lexer.new.refused ≡ true) }
+    ensures given { OnErr result (IsGivenAs lexer.old lexer.new) }
+    ensures ended { lexer.old.refused ≡ false → rest lexer.old.input ≡ [] → IsOk result }
+{
+    let allowed = lexer.expr_allowed();
+    let found = lexer.read()?;
+    if !allowed {
+        return Ok(ByFlag {
+            found,
+            again: false,
+        });
+    }
+    let Some(slash) = lexer.last_slash() else {
+        return Ok(ByFlag {
+            found,
+            again: false,
+        });
+    };
+    lexer.set_next_regexp(Some(slash));
+    let again = lexer.read();
+    lexer.set_next_regexp(None);
+    Ok(ByFlag {
+        found: again?,
+        again: true,
+    })
+}
+
+/// The next token, or nothing at the end, with no parser to say what a slash is: where `/` or `/=` was read and an
+/// expression was allowed before it ([`Lexer::expr_allowed`]), it is read again as a regular expression, whose token, or
+/// that which says what is wrong with it, is answered in its place.
+///
+/// The flag is the lexer's own and knows no grammar: behind `}` of a function expression, behind a block in front of a
+/// division (`{} /42`) and behind a name that is elsewhere a keyword (`yield`) a division is told as an expression. Our own.
+///
+/// The caller knows that no slash is read again ([`Lexer::reads_again`]).
+///
+/// # Errors
+///
+/// `AllocError` where there is no memory; each later read answers the same.
+pub fn read_by_flag<'a>(lexer: &mut Lexer<'a>) -> Result<Option<TokenAndSpan<'a>>, AllocError>
+    requires plain { lexer.old.reread ≡ None }
+    // It answers what these steps of the run answer last, and leads where they do, from any session.
+    ensures steps { (s : Session) → state_of s ≡ lexer_state lexer.old → IfOk result (λ found.
+        ReadsByFlag s (option_map spanned_view found) (lexer_state lexer.new)) }
+    // Each token leaves fewer that may come, so that a loop ends.
+    ensures fewer { IfOk result (λ found. is_some found ≡ true → most_tokens (lexer_state lexer.new) < most_tokens (lexer_state lexer.old)) }
+    ensures plain { OnOk result (lexer.new.reread ≡ None) }
+    ensures refused { lexer.old.refused ≡ true → (result ≡ Err alloc_error) × (lexer.new ≡ lexer.old) }
+    ensures refusal { OnErr result (lexer.new.refused ≡ true) }
+    ensures given { OnErr result (IsGivenAs lexer.old lexer.new) }
+    // The end takes no memory.
+    ensures ended { lexer.old.refused ≡ false → rest lexer.old.input ≡ [] → IsOk result }
+{
+    let read = read_telling(lexer)?;
+    Ok(read.found)
+}
+
+/// Reads the next token by the flag, adds the steps by which it was read, and says whether there was one.
+fn add_steps(steps: &mut Vec<Step>, lexer: &mut Lexer) -> Result<bool, AllocError>
+    requires plain { lexer.old.reread ≡ None }
+    ensures steps { (s : Session) → state_of s ≡ lexer_state lexer.old → IfOk result (λ more.
+        StepsOn s steps.old.items steps.new.items more (lexer_state lexer.new)) }
+    ensures fewer { IfOk result (λ more. more ≡ true → most_tokens (lexer_state lexer.new) < most_tokens (lexer_state lexer.old)) }
+    ensures plain { OnOk result (lexer.new.reread ≡ None) }
+{
+    let read = read_telling(lexer)?;
+    steps.push(Step::Read)?;
+    if read.again {
+        steps.push(Step::Reread)?;
+        steps.push(Step::Read)?;
+        steps.push(Step::Withdraw)?;
+    }
+    Ok(read.found.is_some())
+}
+
+/// Reads to the end by the flag ([`read_by_flag`]), and adds the steps by which all was read. Our own.
+///
+/// The caller knows that no slash is read again ([`Lexer::reads_again`]).
+///
+/// # Errors
+///
+/// `AllocError` where there is no memory; each later read answers the same.
+pub fn add_steps_to_end(steps: &mut Vec<Step>, lexer: &mut Lexer) -> Result<(), AllocError>
+    requires plain { lexer.old.reread ≡ None }
+    ensures steps { (s : Session) → state_of s ≡ lexer_state lexer.old → OnOk result (steps.new.items ≡ steps.old.items ++ steps_to_end s) }
+    ensures after { (s : Session) → state_of s ≡ lexer_state lexer.old → OnOk result (lexer_state lexer.new ≡ state_of (act_all s (steps_to_end s))) }
+{
+    'tokens: while add_steps(steps, lexer)? {}
+    Ok(())
+}
+
+/// The steps by which a text that starts at a place is read to its end by the flag ([`read_by_flag`]), in a context, which
+/// the first step sets: a list for `replay`, and for all that takes lists of steps. Our own.
+///
+/// The caller knows that the text fits its places ([`StringInput::fits`]).
+///
+/// # Errors
+///
+/// `AllocError` where there is no memory.
+pub fn steps_by_flag(
+    alloc: Global,
+    settings: &Settings,
+    context: Context,
+    source: &str,
+    start: BytePos,
+) -> Result<Vec<Step>, AllocError>
+    requires { start.0 + length source.now < 2 ^ 32 }
+    ensures { IfOk result (λ v. v.items ≡ text_steps settings.now context record { start = start.0; text = chars source.now; at = 0 }) }
+{
+    let input = StringInput::new(source, start);
+    let mut lexer = Lexer::new(
+        alloc,
+        settings.syntax,
+        settings.target,
+        input,
+        settings.comments,
+    );
+    lexer.set_ctx(context)?;
+    let mut steps = Vec::new(alloc);
+    steps.push(Step::SetCtx(context))?;
+    add_steps_to_end(&mut steps, &mut lexer)?;
+    Ok(steps)
+}
