@@ -1,5 +1,5 @@
 -- A slash that is read again leaves less of the text than stood before it.
-use Rattle.std.proofs.Common.{◌≡◌, ◌∙◌, ℕ, zero, suc, ◌+◌, ◌-◌, ◌*◌, ◌<◌, ◌≤◌, Bool, true, false, cond, List, [], ◌∷◌, ◌++◌, Option, Some, None, length, take, drop, drop-drop, length-drop, ⊎_elim, refl, sym, subst, ap, arith}
+use Rattle.std.proofs.Common.{◌≡◌, ◌∙◌, ℕ, zero, suc, ◌-◌, ◌<◌, ◌≤◌, Bool, true, false, cond, [], ◌∷◌, Option, Some, None, length, take, drop, drop-drop, length-drop, ⊎_elim, refl, sym, subst, ap, arith}
 use Rattle.std.proofs.lemmas.Str.{length-le-encodes}
 use Rattle.std.proofs.lemmas.Bool.Decides.{leb_tells}
 use Rattle.std.proofs.lemmas.Option.{none-some}
@@ -7,16 +7,15 @@ use Rattle.ecma_place.specs.Cursor.{Cursor, HasPlace, count_within, index_of, pa
 use Rattle.ecma_place.specs.Text.{Text, byte_len}
 use Rattle.ecma_place.specs.declared.place.BytePos.{BytePos}
 use Rattle.ecma_place.proofs.CursorLemmas.{byte_len-cons}
-use Rattle.ecma_token.specs.Kinds.{kind_of}
 use Rattle.ecma_token.specs.View.{SpannedView}
-use Rattle.ecma_scan.specs.Expressions.{body_cutter, body_pieces, closed_expression, expression_behind, flags, open_expression, opens_expression, regular_expression}
+use Rattle.ecma_scan.specs.Expressions.{body_cutter, body_pieces, closed_expression, flags, open_expression, opens_expression, regular_expression}
 use Rattle.ecma_scan.specs.Fronts.{next_is}
 use Rattle.ecma_scan.specs.Pieces.{remainder, spelled}
 use Rattle.ecma_state.specs.Reading.{reading, reading_again}
 use Rattle.ecma_state.specs.Run.{at_place, mode_of, reading_of, state_behind, state_rereading}
 use Rattle.ecma_state.specs.Session.{LexerState, kept_in, kept_of}
 use Rattle.ecma_state.specs.State.{last_slash, previous, seen_behind, slash_in}
-use Rattle.ecma_stream.specs.Ending.{empty_room, most_tokens}
+use Rattle.ecma_stream.specs.Ending.{most_tokens}
 use Rattle.ecma_stream.proofs.EndLemmas.{reading-on, room-le}
 use Rattle.ecma_stream.proofs.EndingLemmas.{plain-reading}
 use Rattle.ecma_stream.proofs.SlashLemmas.{begins-reading, place-there, slash-is}

@@ -1,16 +1,17 @@
 -- One token by the flag.
-use Rattle.std.proofs.Common.{◌≡◌, ◌∙◌, ℕ, ◌<◌, Bool, true, false, ◌&&◌, List, [], ◌∷◌, Option, Some, None, refl, sym, subst, ap, cond}
-use Rattle.std.specs.Prelude.{is_some}
+use Rattle.std.proofs.Common.{◌≡◌, ◌∙◌, ◌<◌, Bool, true, false, ◌&&◌, [], ◌∷◌, Option, Some, None, refl, sym, subst, ap, cond}
+use Rattle.std.specs.Prelude.{is_some, option_map}
 use Rattle.std.proofs.lemmas.Option.{none-some}
+use Rattle.ecma_place.specs.Cursor.{rest}
 use Rattle.ecma_place.specs.declared.place.BytePos.{BytePos}
 use Rattle.ecma_token.specs.View.{SpannedView}
 use Rattle.ecma_state.specs.Run.{act_all, act_on, given_in, reading_of, reread_from, state_behind, state_rereading}
-use Rattle.ecma_state.specs.Session.{LexerState, Past, Session, has_ended, seen_of, state_of}
-use Rattle.ecma_state.specs.State.{last_slash}
-use Rattle.ecma_state.specs.declared.step.Step.TheVariants.{Read, Reread, Withdraw}
+use Rattle.ecma_state.specs.Session.{LexerState, Past, Session, has_ended, kept_in, seen_of, state_of}
+use Rattle.ecma_state.specs.State.{last_slash, seen_behind}
+use Rattle.ecma_state.specs.declared.step.Step.TheVariants.{Read}
 use Rattle.ecma_stream.specs.Ending.{most_tokens}
 use Rattle.ecma_stream.specs.Slashes.{slash_answered}
-use Rattle.ecma_stream.proofs.EndingLemmas.{plain-reading, state-behind, tokens_run_out}
+use Rattle.ecma_stream.proofs.EndingLemmas.{end_found, state-behind, tokens_run_out}
 use Rattle.ecma_slashes.specs.ByFlag.{ReadsByFlag, behind_flag, found_by_flag, last_read, meets_expression, read_steps}
 use Rattle.ecma_slashes.proofs.FewerLemmas.{fewer-again}
 
@@ -43,7 +44,7 @@ meets-slash s l p allowed at told =
 pub read-once : (s : Session) (found : Option SpannedView) (l : LexerState) → meets_expression s ≡ false → found ≡ (reading_of (state_of s)).found → l ≡ state_of (act_on s Read) → ReadsByFlag s found l
 read-once s found l meets finds at =
     record {
-      found = finds ∙ ap (λ b. (reading_of (state_of (last_read b s))).found) (sym meets);
+      finds = finds ∙ ap (λ b. (reading_of (state_of (last_read b s))).found) (sym meets);
       after = at ∙ ap (λ b. state_of (act_all s (read_steps b))) (sym meets);
     }
 
@@ -59,7 +60,7 @@ read-twice s found l asked now done p allowed at told sets finds moved withdrawn
     let begins = again-begins s l asked p at told sets in
     let read : now ≡ state_of (act_on (last_read true s) Read) = moved ∙ ap (λ x. state_behind x (reading_of x)) begins ∙ sym (state-behind (last_read true s)) in
     record {
-      found = finds ∙ ap (λ x. (reading_of x).found) begins ∙ ap (λ b. (reading_of (state_of (last_read b s))).found) (sym meets);
+      finds = finds ∙ ap (λ x. (reading_of x).found) begins ∙ ap (λ b. (reading_of (state_of (last_read b s))).found) (sym meets);
       after = withdrawn ∙ ap (state_rereading None) read ∙ ap (λ b. state_of (act_all s (read_steps b))) (sym meets);
     }
 
@@ -68,11 +69,24 @@ read-twice s found l asked now done p allowed at told sets finds moved withdrawn
 pub fewer-once : (l next : LexerState) (t : SpannedView) → l.reread ≡ None → (reading_of l).found ≡ Some t → next ≡ state_behind l (reading_of l) → most_tokens next < most_tokens l
 fewer-once l next t plain found moved = subst (λ x. most_tokens x < most_tokens l) (sym moved) (tokens_run_out l t plain found)
 
-pub fewer-twice : (l next asked now done : LexerState) (p : BytePos) → l.reread ≡ None → next ≡ state_behind l (reading_of l) → Some p ≡ slash_answered next → next.refused ≡ false
+pub fewer-seen : {T : Type 0} → (seen : T → SpannedView) (l next : LexerState) (found : Option T) → l.reread ≡ None → option_map seen found ≡ (reading_of l).found → next ≡ state_behind l (reading_of l)
+    → is_some found ≡ true → most_tokens next < most_tokens l
+fewer-seen seen l next None plain finds moved some = cc
+fewer-seen seen l next (Some t) plain finds moved some = fewer-once l next (seen t) plain (sym finds) moved
+
+-- a slash was answered where memory was not refused
+slash-answered : (l : LexerState) (p : BytePos) → Some p ≡ slash_answered l → last_slash l.state.seen ≡ Some p
+slash-answered l p told = go l.refused told
+  where
+    go : (b : Bool) → Some p ≡ cond b None (last_slash l.state.seen) → last_slash l.state.seen ≡ Some p
+    go true e = absurd (none-some p (sym e))
+    go false e = sym e
+
+pub fewer-twice : (l next asked now done : LexerState) (p : BytePos) → l.reread ≡ None → next ≡ state_behind l (reading_of l) → Some p ≡ slash_answered next
     → asked ≡ state_rereading (Some p) next → now ≡ state_behind asked (reading_of asked) → done ≡ state_rereading None now → most_tokens done < most_tokens l
-fewer-twice l next asked now done p plain moved told kept sets again withdrawn =
+fewer-twice l next asked now done p plain moved told sets again withdrawn =
     let first : LexerState = state_behind l (reading_of l) in
-    let slash : last_slash first.state.seen ≡ Some p = ap (λ x. last_slash x.state.seen) (sym moved) ∙ sym (told ∙ ap (λ b. cond b None (last_slash next.state.seen)) kept) in
+    let slash : last_slash first.state.seen ≡ Some p = ap (λ x. last_slash x.state.seen) (sym moved) ∙ slash-answered next p told in
     let begins : asked ≡ state_rereading (Some p) first = sets ∙ ap (state_rereading (Some p)) moved in
     let ends = withdrawn ∙ ap (state_rereading None) (again ∙ ap (λ x. state_behind x (reading_of x)) begins) in
     subst (λ x. most_tokens x < most_tokens l) (sym ends) (fewer-again l p plain slash)
@@ -109,7 +123,7 @@ flag-fewer s plain more = go (meets_expression s) refl more
     slash (Some p) e h =
         let asked : state_of (last_read true s) ≡ state_rereading (Some p) (state_of (act_on s Read)) = ap (λ o. state_of (reread_from (act_on s Read) o).after) e in
         fewer-twice (state_of s) (state_of (act_on s Read)) (state_of (last_read true s)) (state_of (act_on (last_read true s) Read)) (state_of (act_all s (read_steps true))) p plain
-        (state-behind s) (sym e) refl asked (state-behind (last_read true s)) refl
+        (state-behind s) (sym e) asked (state-behind (last_read true s)) refl
 
     met : (b : Bool) → (b && is_some (last_slash (seen_of (act_on s Read).past))) ≡ true → is_some (last_slash (seen_of (act_on s Read).past)) ≡ true
     met true h = h
@@ -122,3 +136,31 @@ flag-fewer s plain more = go (meets_expression s) refl more
     go : (b : Bool) → meets_expression s ≡ b → ended_by (reading_of (state_of (last_read b s))).found ≡ false → most_tokens (state_of (act_all s (read_steps b))) < most_tokens (state_of s)
     go false e h = once (reading_of (state_of s)).found refl h
     go true e h = slash (last_slash (seen_of (act_on s Read).past)) refl (met s.expr_allowed e)
+
+-- At the end no slash was answered
+pub end-no-slash : (l next : LexerState) (p : BytePos) → l.reread ≡ None → rest l.input ≡ [] → next ≡ state_behind l (reading_of l) → Some p ≡ slash_answered next → ⊥
+end-no-slash l next p plain left moved told =
+    let none : last_slash next.state.seen ≡ None = ap (λ x. last_slash x.state.seen) moved ∙ ap (λ o. last_slash (seen_behind l.state.seen (reading_of l).end_flag (kept_in o))) (end_found l plain left) in
+    go next.refused (told ∙ ap (λ o. cond next.refused None o) none)
+  where
+    go : (b : Bool) → Some p ≡ cond b None None → ⊥
+    go true e = none-some p (sym e)
+    go false e = none-some p (sym e)
+
+-- For a lexer
+
+pub lexer-behind : (s : Session) (l next : LexerState) → state_of s ≡ l → next ≡ state_behind l (reading_of l) → next ≡ state_of (act_on s Read)
+lexer-behind s l next at moved = moved ∙ ap (λ x. state_behind x (reading_of x)) (sym at) ∙ sym (state-behind s)
+
+pub lexer-once : (s : Session) (l next : LexerState) (found : Option SpannedView) → state_of s ≡ l → found ≡ (reading_of l).found → next ≡ state_behind l (reading_of l) → meets_expression s ≡ false
+    → ReadsByFlag s found next × (false ≡ meets_expression s)
+lexer-once s l next found at finds moved meets =
+    (read-once s found next meets (finds ∙ ap (λ x. (reading_of x).found) (sym at)) (lexer-behind s l next at moved), sym meets)
+
+pub lexer-twice : (s : Session) (l next asked now done : LexerState) (p : BytePos) (found : Option SpannedView) → state_of s ≡ l → l.state.expr_allowed ≡ true → next ≡ state_behind l (reading_of l)
+    → Some p ≡ slash_answered next → asked ≡ state_rereading (Some p) next → found ≡ (reading_of asked).found → now ≡ state_behind asked (reading_of asked) → done ≡ state_rereading None now
+    → ReadsByFlag s found done × (true ≡ meets_expression s)
+lexer-twice s l next asked now done p found at allowed moved told sets finds again withdrawn =
+    let flag : s.expr_allowed ≡ true = ap (λ x. x.state.expr_allowed) at ∙ allowed in
+    let behind = lexer-behind s l next at moved in
+    (read-twice s found next asked now done p flag behind told sets finds again withdrawn, sym (meets-slash s next p flag behind told))

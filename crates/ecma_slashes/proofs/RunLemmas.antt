@@ -1,19 +1,17 @@
 -- Whole runs by the flag.
-use Rattle.std.proofs.Common.{◌≡◌, ◌∙◌, ℕ, zero, suc, ◌+◌, ◌-◌, ◌<◌, ◌≤◌, Bool, true, false, List, [], ◌∷◌, ◌++◌, append_assoc, append-nil, Option, Some, None, length, refl, sym, subst, ap, arith}
-use Rattle.std.specs.Prelude.{fold, is_some}
+use Rattle.std.proofs.Common.{◌≡◌, ◌∙◌, ℕ, zero, suc, ◌+◌, ◌-◌, ◌<◌, ◌≤◌, Bool, true, false, List, [], ◌∷◌, ◌++◌, append_assoc, append-nil, Option, Some, None, length, refl, sym, ap, arith}
+use Rattle.std.specs.Prelude.{is_some}
 use Rattle.std.proofs.lemmas.List.Sums.{fold-append}
 use Rattle.std.proofs.lemmas.Str.{length-le-encodes}
-use Rattle.ecma_place.specs.Cursor.{Cursor, rest}
+use Rattle.ecma_place.specs.Cursor.{rest}
 use Rattle.ecma_place.specs.Text.{byte_len}
 use Rattle.ecma_token.specs.View.{SpannedView}
 use Rattle.ecma_state.specs.Counting.{Counted, count_all, count_step, counting, none_yet}
 use Rattle.ecma_state.specs.Run.{act_all, act_on, session, start_of}
 use Rattle.ecma_state.specs.Session.{LexerState, Session, has_ended, seen_of, state_of}
 use Rattle.ecma_state.specs.State.{previous}
-use Rattle.ecma_state.specs.declared.settings.Settings.{Settings}
 use Rattle.ecma_state.specs.declared.step.Step.{Step}
 use Rattle.ecma_state.specs.declared.step.Step.TheVariants.{SetCtx}
-use Rattle.ecma_syntax.specs.declared.context.Context.{Context}
 use Rattle.ecma_stream.specs.Ending.{enough, most_tokens}
 use Rattle.ecma_stream.proofs.EndLemmas.{room-le}
 use Rattle.ecma_slashes.specs.ByFlag.{RunsByFlagAreRuns, RunsByFlagEnd, StepsOn, TextsAreReadOut, all_by_flag, behind_flag, entered, found_by_flag, meets_expression, read_steps, steps_by_flag, steps_to_end, text_steps, unless_ended}
@@ -31,22 +29,26 @@ along s n = fold-append act_on s (steps_by_flag s) (unless_ended (has_ended (beh
 
 -- The end
 
-ends : (n : ℕ) (s : Session) → s.reread ≡ None → most_tokens (state_of s) < n → (has_ended (act_all s (all_by_flag n s)).past ≡ true) × ((act_all s (all_by_flag n s)).reread ≡ None)
+-- such a run ends
+abbrev Ends : Session → List Step → Type 0
+Ends s steps = (has_ended (act_all s steps).past ≡ true) × ((act_all s steps).reread ≡ None)
+
+ends : (n : ℕ) (s : Session) → s.reread ≡ None → most_tokens (state_of s) < n → Ends s (all_by_flag n s)
 ends zero s plain h = absurd (omega (arith, h))
-ends (suc n) s plain h = go (has_ended (behind_flag s).past) refl
+ends (suc n) s plain h = go (has_ended (behind_flag s).past) refl (ends n (behind_flag s) (flag-plain s plain))
   where
     next : Session
     next = behind_flag s
 
-    go : (b : Bool) → has_ended next.past ≡ b → (has_ended (act_all s (all_by_flag (suc n) s)).past ≡ true) × ((act_all s (all_by_flag (suc n) s)).reread ≡ None)
-    go true e =
+    go : (b : Bool) → has_ended next.past ≡ b → (most_tokens (state_of next) < n → Ends next (all_by_flag n next)) → Ends s (all_by_flag (suc n) s)
+    go true e more =
         let there : act_all s (all_by_flag (suc n) s) ≡ next = along s n ∙ ap (λ b. act_all next (unless_ended b (all_by_flag n next))) e in
         (ap (λ x. has_ended x.past) there ∙ e, ap (λ x. x.reread) there ∙ flag-plain s plain)
-    go false e =
+    go false e more =
         let there : act_all s (all_by_flag (suc n) s) ≡ act_all next (all_by_flag n next) = along s n ∙ ap (λ b. act_all next (unless_ended b (all_by_flag n next))) e in
         let less = flag-fewer s plain (sym (flag-ended s) ∙ e) in
-        let more = ends n next (flag-plain s plain) (omega (arith, h, less)) in
-        (ap (λ x. has_ended x.past) there ∙ more.0, ap (λ x. x.reread) there ∙ more.1)
+        let both = more (omega (arith, h, less)) in
+        (ap (λ x. has_ended x.past) there ∙ both.0, ap (λ x. x.reread) there ∙ both.1)
 
 pub runs_by_flag_end : RunsByFlagEnd
 unfolding steps_to_end
@@ -56,25 +58,32 @@ runs_by_flag_end s plain =
 
 -- Each step counts
 
-counts : (n : ℕ) (s : Session) (c : Counted) → count_all c (all_by_flag n s) ≡ record c { steps = c.steps ++ all_by_flag n s }
-counts zero s c = ap (λ steps. record c { steps = steps }) (sym (append-nil c.steps))
-counts (suc n) s c =
-    fold-append count_step c (steps_by_flag s) more
-    ∙ ap (λ d. count_all d more) (first (meets_expression s))
-    ∙ behind (has_ended (behind_flag s).past) (record c { steps = c.steps ++ steps_by_flag s })
-    ∙ ap (λ steps. record c { steps = steps }) (append_assoc c.steps (steps_by_flag s) more)
-  where
-    more : List Step
-    more = unless_ended (has_ended (behind_flag s).past) (all_by_flag n (behind_flag s))
+-- steps stand behind those that count so far
+abbrev pub Counts : List Step → Type 0
+Counts steps = (c : Counted) → count_all c steps ≡ record c { steps = c.steps ++ steps }
 
-    first : (b : Bool) → count_all c (read_steps b) ≡ record c { steps = c.steps ++ read_steps b }
-    unfolding count_step
-    first false = refl
-    first true = ap (λ steps. record c { steps = steps }) (simp append_assoc)
+none-counts : Counts []
+none-counts c = ap (λ steps. record c { steps = steps }) (sym (append-nil c.steps))
 
-    behind : (b : Bool) (d : Counted) → count_all d (unless_ended b (all_by_flag n (behind_flag s))) ≡ record d { steps = d.steps ++ unless_ended b (all_by_flag n (behind_flag s)) }
-    behind true d = ap (λ steps. record d { steps = steps }) (sym (append-nil d.steps))
-    behind false d = counts n (behind_flag s) d
+read-counts : (b : Bool) → Counts (read_steps b)
+unfolding count_step
+read-counts false c = refl
+read-counts true c = ap (λ steps. record c { steps = steps }) (simp append_assoc)
+
+both-count : (a b : List Step) → Counts a → Counts b → Counts (a ++ b)
+both-count a b first more c =
+    fold-append count_step c a b ∙ ap (λ d. count_all d b) (first c) ∙ more (record c { steps = c.steps ++ a }) ∙ ap (λ steps. record c { steps = steps }) (append_assoc c.steps a b)
+
+unless-counts : (b : Bool) (steps : List Step) → Counts steps → Counts (unless_ended b steps)
+unless-counts true steps counts = none-counts
+unless-counts false steps counts = counts
+
+counts : (n : ℕ) (s : Session) → Counts (all_by_flag n s)
+counts zero s = none-counts
+counts (suc n) s =
+    both-count (steps_by_flag s) (unless_ended (has_ended (behind_flag s).past) (all_by_flag n (behind_flag s)))
+    (read-counts (meets_expression s))
+    (unless-counts (has_ended (behind_flag s).past) (all_by_flag n (behind_flag s)) (counts n (behind_flag s)))
 
 pub runs_by_flag_are_runs : RunsByFlagAreRuns
 unfolding steps_to_end
@@ -133,12 +142,12 @@ ended-none (Some t) h = cc
 pub so-far-next : (begun : Session) (before steps now : List Step) (l next : LexerState) (so : SoFar begun before steps l) → StepsOn so.here steps now true next → SoFar begun before now next
 so-far-next begun before steps now l next so on =
     let r = so.here in
-    let going : has_ended (behind_flag r).past ≡ false = flag-ended r ∙ ended-some (found_by_flag r) (sym on.more) in
+    let going : has_ended (behind_flag r).past ≡ false = flag-ended r ∙ ended-some (found_by_flag r) (sym on.told) in
     let less = flag-fewer r so.plain (sym (flag-ended r) ∙ going) in
     record {
       here = behind_flag r;
       added = so.added ++ steps_by_flag r;
-      behind = on.steps ∙ ap (λ front. front ++ steps_by_flag r) so.behind ∙ append_assoc before so.added (steps_by_flag r);
+      behind = on.adds ∙ ap (λ front. front ++ steps_by_flag r) so.behind ∙ append_assoc before so.added (steps_by_flag r);
       shows = on.after;
       there = ap (λ x. act_all x (steps_by_flag r)) so.there ∙ sym (fold-append act_on begun so.added (steps_by_flag r));
       plain = flag-plain r so.plain;
@@ -159,13 +168,13 @@ so-far-end begun before steps now l next so on =
     let n : ℕ = enough begun.input in
     let left = so.left in
     let most = most-enough begun in
-    let ended : has_ended (behind_flag r).past ≡ true = flag-ended r ∙ ended-none (found_by_flag r) (sym on.more) in
+    let ended : has_ended (behind_flag r).past ≡ true = flag-ended r ∙ ended-none (found_by_flag r) (sym on.told) in
     let count : n ≡ so.count + suc (n - (so.count + 1)) = omega (arith, left, most) in
     let all : all_by_flag n begun ≡ so.added ++ steps_by_flag r =
     ap (λ k. all_by_flag k begun) count
     ∙ so.more (suc (n - (so.count + 1)))
     ∙ ap (λ b. so.added ++ (steps_by_flag r ++ unless_ended b (all_by_flag (n - (so.count + 1)) (behind_flag r)))) ended
     ∙ ap (λ last. so.added ++ last) (append-nil (steps_by_flag r)) in (
-      on.steps ∙ ap (λ front. front ++ steps_by_flag r) so.behind ∙ append_assoc before so.added (steps_by_flag r) ∙ ap (λ x. before ++ x) (sym all),
+      on.adds ∙ ap (λ front. front ++ steps_by_flag r) so.behind ∙ append_assoc before so.added (steps_by_flag r) ∙ ap (λ x. before ++ x) (sym all),
       on.after ∙ ap (λ x. state_of (act_all x (steps_by_flag r))) so.there ∙ ap state_of (sym (fold-append act_on begun so.added (steps_by_flag r)) ∙ ap (act_all begun) (sym all)),
     )

@@ -39,13 +39,19 @@ found_by_flag s = (reading_of (state_of (last_read (meets_expression s) s))).fou
 
 -- from a session on this was found, and a lexer shows what the steps come to
 pub record ReadsByFlag (s : Session) (found : Option SpannedView) (l : LexerState) : Type 0 where
-  pub found : found ≡ found_by_flag s
+  pub finds : found ≡ found_by_flag s
+  pub after : l ≡ state_of (behind_flag s)
+
+-- it is told whether a token was found, and whether by a second read
+pub record PassesByFlag (s : Session) (more again : Bool) (l : LexerState) : Type 0 where
+  pub told : more ≡ is_some (found_by_flag s)
+  pub twice : again ≡ meets_expression s
   pub after : l ≡ state_of (behind_flag s)
 
 -- the steps stand behind those before them, it is told whether a token was found, and a lexer shows what they come to
 pub record StepsOn (s : Session) (before steps : List Step) (more : Bool) (l : LexerState) : Type 0 where
-  pub steps : steps ≡ before ++ steps_by_flag s
-  pub more : more ≡ is_some (found_by_flag s)
+  pub adds : steps ≡ before ++ steps_by_flag s
+  pub told : more ≡ is_some (found_by_flag s)
   pub after : l ≡ state_of (behind_flag s)
 
 -- Whole runs

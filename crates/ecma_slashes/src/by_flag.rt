@@ -7,7 +7,7 @@ ghost use Rattle.ecma_state.specs.Run.{act_all};
 ghost use Rattle.ecma_state.specs.Session.{Session, lexer_state, state_of};
 ghost use Rattle.ecma_stream.specs.View.{IsGivenAs};
 ghost use Rattle.ecma_stream.specs.Ending.{most_tokens};
-ghost use Rattle.ecma_slashes.specs.ByFlag.{ReadsByFlag, StepsOn, meets_expression, steps_to_end, text_steps};
+ghost use Rattle.ecma_slashes.specs.ByFlag.{PassesByFlag, ReadsByFlag, StepsOn, meets_expression, steps_to_end, text_steps};
 
 use ecma_place::{BytePos, StringInput};
 use ecma_state::settings::Settings;
@@ -18,20 +18,15 @@ use ecma_syntax::Context;
 use ecma_token::TokenAndSpan;
 use std::alloc::{AllocError, Global};
 
-/// What was read by the flag.
-#[derive(Drop)]
-struct ByFlag<'a> {
-    found: Option<TokenAndSpan<'a>>,
-    /// Whether a slash was read again.
-    again: bool,
-}
-
-/// Reads the next token as [`read_by_flag`] does.
-fn read_telling<'a>(lexer: &mut Lexer<'a>) -> Result<ByFlag<'a>, AllocError>
+/// Reads the next token into a slot as [`read_by_flag`] does, and says whether a slash was read again.
+fn read_telling<'a>(
+    lexer: &mut Lexer<'a>,
+    slot: &mut Option<TokenAndSpan<'a>>,
+) -> Result<bool, AllocError>
     requires plain { lexer.old.reread ≡ None }
-    ensures steps { (s : Session) → state_of s ≡ lexer_state lexer.old → IfOk result (λ by.
-        ReadsByFlag s (option_map spanned_view by.found) (lexer_state lexer.new) × (by.again ≡ meets_expression s)) }
-    ensures fewer { IfOk result (λ by. is_some by.found ≡ true → most_tokens (lexer_state lexer.new) < most_tokens (lexer_state lexer.old)) }
+    ensures steps { (s : Session) → state_of s ≡ lexer_state lexer.old → IfOk result (λ again.
+        ReadsByFlag s (option_map spanned_view slot.new) (lexer_state lexer.new) × (again ≡ meets_expression s)) }
+    ensures fewer { OnOk result (is_some slot.new ≡ true → most_tokens (lexer_state lexer.new) < most_tokens (lexer_state lexer.old)) }
     ensures plain { OnOk result (lexer.new.reread ≡ None) }
     ensures refused { lexer.old.refused ≡ true → (result ≡ Err alloc_error) × (lexer.new ≡ lexer.old) }
     ensures refusal { OnErr result (lexer.new.refused ≡ true) }
@@ -39,26 +34,18 @@ fn read_telling<'a>(lexer: &mut Lexer<'a>) -> Result<ByFlag<'a>, AllocError>
     ensures ended { lexer.old.refused ≡ false → rest lexer.old.input ≡ [] → IsOk result }
 {
     let allowed = lexer.expr_allowed();
-    let found = lexer.read()?;
+    lexer.read_into(slot)?;
     if !allowed {
-        return Ok(ByFlag {
-            found,
-            again: false,
-        });
+        return Ok(false);
     }
     let Some(slash) = lexer.last_slash() else {
-        return Ok(ByFlag {
-            found,
-            again: false,
-        });
+        return Ok(false);
     };
     lexer.set_next_regexp(Some(slash));
-    let again = lexer.read();
+    let again = lexer.read_into(slot);
     lexer.set_next_regexp(None);
-    Ok(ByFlag {
-        found: again?,
-        again: true,
-    })
+    again?;
+    Ok(true)
 }
 
 /// The next token, or nothing at the end, with no parser to say what a slash is: where `/` or `/=` was read and an
@@ -87,8 +74,34 @@ pub fn read_by_flag<'a>(lexer: &mut Lexer<'a>) -> Result<Option<TokenAndSpan<'a>
     // The end takes no memory.
     ensures ended { lexer.old.refused ≡ false → rest lexer.old.input ≡ [] → IsOk result }
 {
-    let read = read_telling(lexer)?;
-    Ok(read.found)
+    let mut answer = None;
+    read_telling(lexer, &mut answer)?;
+    Ok(answer)
+}
+
+/// What was read by the flag.
+#[derive(Clone, Copy)]
+struct Passed {
+    /// Whether there was a token.
+    more: bool,
+    /// Whether a slash was read again.
+    again: bool,
+}
+
+/// Passes the next token by the flag.
+fn pass_token(lexer: &mut Lexer) -> Result<Passed, AllocError>
+    requires plain { lexer.old.reread ≡ None }
+    ensures steps { (s : Session) → state_of s ≡ lexer_state lexer.old → IfOk result (λ passed.
+        PassesByFlag s passed.more passed.again (lexer_state lexer.new)) }
+    ensures fewer { IfOk result (λ passed. passed.more ≡ true → most_tokens (lexer_state lexer.new) < most_tokens (lexer_state lexer.old)) }
+    ensures plain { OnOk result (lexer.new.reread ≡ None) }
+{
+    let mut slot = None;
+    let again = read_telling(lexer, &mut slot)?;
+    Ok(Passed {
+        more: slot.is_some(),
+        again,
+    })
 }
 
 /// Reads the next token by the flag, adds the steps by which it was read, and says whether there was one.
@@ -99,14 +112,14 @@ fn add_steps(steps: &mut Vec<Step>, lexer: &mut Lexer) -> Result<bool, AllocErro
     ensures fewer { IfOk result (λ more. more ≡ true → most_tokens (lexer_state lexer.new) < most_tokens (lexer_state lexer.old)) }
     ensures plain { OnOk result (lexer.new.reread ≡ None) }
 {
-    let read = read_telling(lexer)?;
+    let passed = pass_token(lexer)?;
     steps.push(Step::Read)?;
-    if read.again {
+    if passed.again {
         steps.push(Step::Reread)?;
         steps.push(Step::Read)?;
         steps.push(Step::Withdraw)?;
     }
-    Ok(read.found.is_some())
+    Ok(passed.more)
 }
 
 /// Reads to the end by the flag ([`read_by_flag`]), and adds the steps by which all was read. Our own.

@@ -1,0 +1,7 @@
+-- What was added is the front of the bytes, escaped.
+use Rattle.std.proofs.Common.{◌≡◌, ◌++◌, take}
+use Rattle.ecma_html.specs.Markup.{escaped}
+use Rattle.ecma_html.proofs.markup.push_escaped.Given as goal
+
+abbrev pub invariant-loop-byte : goal.invariant-loop-byte
+invariant-loop-byte l = l.out.items ≡ l.initial.out.items ++ escaped (take l.byte-index l.bytes)

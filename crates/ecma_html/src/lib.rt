@@ -1,0 +1,8 @@
+//! A text as HTML: its bytes, each token and comment in a span that says what it is.
+#![tactic(auto)]
+
+mod class;
+mod markup;
+
+pub use class::{Class, token_classes};
+pub use markup::html;

@@ -1,0 +1,122 @@
+//! A text with its markup.
+ghost use Rattle.std.specs.Prelude.{◌≡◌, ◌++◌, drop, length, IfOk, OnOk};
+ghost use Rattle.ecma_classes.specs.Classes.{Tile, joined};
+ghost use Rattle.ecma_html.specs.Markup as markup;
+ghost use Rattle.ecma_html.specs.Styles.{left_classes, piece_class, styled};
+ghost use Rattle.ecma_html.specs.Unmark.{shown, unmark};
+
+use crate::class::Class;
+use ecma_classes::{Class as PieceClass, Piece};
+use std::alloc::{AllocError, Global};
+
+/// Adds what is shown as this byte: a reference where it would begin or end markup, or where a reader of HTML would change
+/// it, and U+FFFD for NUL, which HTML can't hold.
+fn push_escaped_byte(out: &mut Vec<u8>, byte: u8) -> Result<(), AllocError>
+    ensures { OnOk result (out.new.items ≡ out.old.items ++ markup.escaped_byte byte) }
+{
+    match byte {
+        b'&' => out.extend_from_slice(b"&amp;"),
+        b'<' => out.extend_from_slice(b"&lt;"),
+        b'>' => out.extend_from_slice(b"&gt;"),
+        b'\r' => out.extend_from_slice(b"&#13;"),
+        0 => out.extend_from_slice(b"\xef\xbf\xbd"),
+        _ => Ok(out.push(byte)?),
+    }
+}
+
+/// Adds the bytes, each as `push_escaped_byte` does.
+fn push_escaped(out: &mut Vec<u8>, bytes: &[u8]) -> Result<(), AllocError>
+    ensures { OnOk result (out.new.items ≡ out.old.items ++ markup.escaped bytes.now) }
+{
+    for byte in bytes {
+        push_escaped_byte(out, *byte)?;
+    }
+    Ok(())
+}
+
+/// Adds the bytes, in a span where they have a class.
+fn push_styled(out: &mut Vec<u8>, class: Option<Class>, bytes: &[u8]) -> Result<(), AllocError>
+    ensures { OnOk result (out.new.items ≡ out.old.items ++ markup.styled_html class bytes.now) }
+{
+    let Some(class) = class else {
+        return push_escaped(out, bytes);
+    };
+    out.extend_from_slice(b"<span class=\"")?;
+    out.extend_from_slice(class.name().as_bytes())?;
+    out.extend_from_slice(b"\">")?;
+    push_escaped(out, bytes)?;
+    out.extend_from_slice(b"</span>")
+}
+
+/// The class of a piece, where so many classes of tokens were taken before.
+fn class_of_piece(class: PieceClass, classes: &[Option<Class>], taken: usize) -> Option<Class>
+    ensures { result ≡ piece_class class (drop taken classes.now) }
+{
+    match class {
+        PieceClass::Token => match classes.get(taken) {
+            Some(class) => *class,
+            None => None,
+        },
+        PieceClass::Comment => Some(Class::Comment),
+        PieceClass::Trivia => None,
+    }
+}
+
+/// How many classes of tokens are taken behind a piece.
+fn taken_behind(class: PieceClass, classes: &[Option<Class>], taken: usize) -> usize
+    ensures { drop result classes.now ≡ left_classes class (drop taken classes.now) }
+{
+    match class {
+        PieceClass::Token if taken < classes.len() => taken + 1,
+        _ => taken,
+    }
+}
+
+/// Adds the pieces of a text that starts at the place 0.
+fn push_pieces(
+    out: &mut Vec<u8>,
+    bytes: &[u8],
+    classes: &[Option<Class>],
+    pieces: &[Piece],
+) -> Result<(), AllocError>
+    requires { Tile 0 pieces.now (length bytes.now) }
+    ensures { OnOk result (out.new.items ≡ out.old.items ++ markup.pieces_html bytes.now (styled classes.now pieces.now)) }
+{
+    let mut taken = 0;
+    for piece in pieces {
+        let class = class_of_piece(piece.class, classes, taken);
+        let own = &bytes[piece.span.lo.0 as usize..piece.span.hi.0 as usize];
+        push_styled(out, class, own)?;
+        taken = taken_behind(piece.class, classes, taken);
+    }
+    Ok(())
+}
+
+/// A text as HTML: an element `pre` of class `ecma`, in which each piece of the text stands in a span that names its class,
+/// if it has one. `classes` are those of the tokens that hold a byte, in order; a token for which there is none has none.
+///
+/// Where the markup is taken away again, what is left is the text, with U+FFFD for each NUL; so it is in a browser, whose
+/// `textContent` of the element it is. Line feeds behind `<pre>` and before `</pre>` are no part of it.
+///
+/// The caller knows that the pieces cover the text, which starts at the place 0.
+///
+/// # Errors
+///
+/// `AllocError` where there is no memory.
+pub fn html(
+    alloc: Global,
+    source: &str,
+    classes: &[Option<Class>],
+    pieces: &[Piece],
+) -> Result<Vec<u8>, AllocError>
+    requires tiles { Tile 0 pieces.now (length source.now) }
+    requires whole { joined 0 source.now pieces.now ≡ source.now }
+    ensures same { IfOk result (λ v. v.items ≡ markup.html_of source.now (styled classes.now pieces.now)) }
+    ensures back { IfOk result (λ v. unmark v.items ≡ shown source.now) }
+{
+    let mut out = Vec::new(alloc);
+    out.extend_from_slice(b"<pre class=\"ecma\">\n")?;
+    push_pieces(&mut out, source.as_bytes(), classes, pieces)?;
+    out.extend_from_slice(b"</pre>\n")?;
+    Ok(out)
+}
