@@ -157,12 +157,13 @@ pub fn steps_by_flag(
     ensures { IfOk result (λ v. v.items ≡ text_steps settings.now context record { start = start.0; text = chars source.now; at = 0 }) }
 {
     let input = StringInput::new(source, start);
-    let mut lexer = Lexer::new(
+    let mut lexer = Lexer::with_rule(
         alloc,
         settings.syntax,
         settings.target,
         input,
         settings.comments,
+        settings.numbers,
     );
     lexer.set_ctx(context)?;
     let mut steps = Vec::new(alloc);
