@@ -9,7 +9,7 @@ ghost use Rattle.ecma_lines.specs.CanonText.{KeepsCleanly, unless_too_long};
 ghost use Rattle.ecma_lines.specs.Opening.{Fails};
 
 use crate::command::Options;
-use crate::keeping::keep_tokens;
+use crate::kept_tokens::keep_tokens;
 use crate::opening::open;
 use ecma_lexer::{Kept, Lexer, Tokens, canonical_text};
 use ecma_place::{BytePos, StringInput};

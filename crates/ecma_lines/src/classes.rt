@@ -5,7 +5,7 @@ ghost use Rattle.ecma_lines.specs.Opening.{Lacks};
 
 use crate::command::Options;
 use crate::comments::take_comments;
-use crate::keeping::keep_tokens;
+use crate::kept_tokens::keep_tokens;
 use crate::opening::open;
 use ecma_lexer::{Class, Piece, classes};
 use ecma_place::BytePos;

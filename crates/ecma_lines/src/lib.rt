@@ -8,7 +8,7 @@ mod classes;
 pub mod command;
 pub mod comments;
 mod errors;
-mod keeping;
+mod kept_tokens;
 mod lines;
 mod opening;
 mod particulars;

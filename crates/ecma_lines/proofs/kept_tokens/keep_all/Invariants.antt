@@ -2,7 +2,7 @@
 use Rattle.std.proofs.Common.{◌≡◌, ◌++◌, map, take}
 use Rattle.ecma_token.specs.View.{spanned_view}
 use Rattle.ecma_lexer.specs.Session.{kept_of}
-use Rattle.ecma_lines.proofs.keeping.keep_all.Given as goal
+use Rattle.ecma_lines.proofs.kept_tokens.keep_all.Given as goal
 
 abbrev pub invariant-loop-token : goal.invariant-loop-token
 invariant-loop-token l = l.kept.items ≡ l.initial.kept.items ++ map kept_of (map spanned_view (take l.token-index l.tokens))

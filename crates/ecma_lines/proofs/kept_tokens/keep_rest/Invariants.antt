@@ -2,7 +2,7 @@
 use Rattle.ecma_lexer.specs.Ending.{most_tokens}
 use Rattle.ecma_lexer.specs.Session.{lexer_state}
 use Rattle.ecma_lines.proofs.Keeping.{KeptSoFar}
-use Rattle.ecma_lines.proofs.keeping.keep_rest.Given as goal
+use Rattle.ecma_lines.proofs.kept_tokens.keep_rest.Given as goal
 
 abbrev pub invariant-tokens : goal.invariant-tokens
 invariant-tokens l = KeptSoFar (lexer_state l.initial.lexer) (lexer_state l.lexer) l.initial.kept.items l.kept.items

@@ -2,7 +2,7 @@ use Rattle.std.proofs.Common.{◌++◌, ◌∙◌, sym, ap, map}
 use Rattle.ecma_token.specs.View.{spanned_view}
 use Rattle.ecma_lexer.specs.Session.{kept_of}
 use Rattle.ecma_lines.proofs.Keeping.{kept-in-order}
-use Rattle.ecma_lines.proofs.keeping.keep_tokens.Goals as goal
+use Rattle.ecma_lines.proofs.kept_tokens.keep_tokens.Goals as goal
 
 pub returns-clause-tokens : goal.returns-clause-tokens
 returns-clause-tokens c s stands =

@@ -3,7 +3,7 @@ use Rattle.ecma_lexer.specs.Run.{reading_of}
 use Rattle.ecma_lexer.specs.Session.{kept_of, lexer_state}
 use Rattle.ecma_lines.proofs.Keeping.{KeptSoFar, kept-comments, kept-errors, kept-next, kept-tokens}
 use Rattle.ecma_lines.proofs.Listing.{no-kept, some-kept, token-less}
-use Rattle.ecma_lines.proofs.keeping.keep_rest.Goals as goal
+use Rattle.ecma_lines.proofs.kept_tokens.keep_rest.Goals as goal
 
 pub tokens-smaller : goal.tokens-smaller
 tokens-smaller c =
