@@ -2,6 +2,7 @@
 use Rattle.std.proofs.Common.{◌≡◌, ◌∙◌, ℕ, ◌+◌, ◌≤◌, List, [], ◌∷◌, ◌++◌, Option, Some, None, length, take, drop, take-append-drop, ap, sym, arith}
 use Rattle.std.specs.List.{All}
 use Rattle.std.specs.Str.{chars, IsUtf8}
+use Rattle.std.proofs.lemmas.List.Elements.{All-cons, All-head, All-nil, All-tail}
 use Rattle.std.proofs.lemmas.Str.{encodes-chars}
 use Rattle.ecma_place.specs.Cursor.{HasPlace}
 use Rattle.ecma_place.specs.Text.{Text, byte_len}
@@ -28,13 +29,14 @@ place-within bytes p utf8 (n, e) =
 
 all-told : (P : Specifier → Type 0) (form : Option Form) (span : Span) (ss : List Specifier) → ((f : Form) → P (record { form = f; span = span })) → All P ss → All P (told form span ++ ss)
 all-told P None span ss one more = more
-all-told P (Some f) span ss one more = (one f, more)
+all-told P (Some f) span ss one more = All-cons P (record { form = f; span = span }) ss (one f) more
 
 pub told-within : (bytes : List ℕ) (stage : Stage) (depth : ℕ) (kept : List Kept) → IsUtf8 bytes → All (StandsIn (begin 0 (chars bytes))) (spans_of_kept kept)
     → All (LiesWithin (length bytes)) (specifiers_from stage depth kept)
-told-within bytes stage depth [] utf8 all = tt
+told-within bytes stage depth [] utf8 all = All-nil (LiesWithin (length bytes))
 told-within bytes stage depth (k ∷ ks) utf8 all =
+    let stands = All-head (StandsIn (begin 0 (chars bytes))) k.span (spans_of_kept ks) all in
     all-told (LiesWithin (length bytes)) (form_of stage (part_of k.kind)) k.span
     (specifiers_from (next_stage stage depth (part_of k.kind)) (next_depth depth (part_of k.kind)) ks)
-    (λ f. (all.0.in_order, place-within bytes k.span.hi.0 utf8 all.0.to))
-    (told-within bytes (next_stage stage depth (part_of k.kind)) (next_depth depth (part_of k.kind)) ks utf8 all.1)
+    (λ f. (stands.in_order, place-within bytes k.span.hi.0 utf8 stands.to))
+    (told-within bytes (next_stage stage depth (part_of k.kind)) (next_depth depth (part_of k.kind)) ks utf8 (All-tail (StandsIn (begin 0 (chars bytes))) k.span (spans_of_kept ks) all))
