@@ -1,3 +1,4 @@
 pub mod Markup
 pub mod Styles
+pub mod Text
 pub mod Unmark

@@ -3,6 +3,8 @@
 
 mod class;
 mod markup;
+mod text;
 
 pub use class::{Class, token_classes};
 pub use markup::html;
+pub use text::html_text;

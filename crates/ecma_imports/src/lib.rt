@@ -2,6 +2,8 @@
 #![tactic(auto)]
 
 mod imported;
+mod lines;
 mod stage;
 
 pub use imported::{Form, Specifier, specifiers};
+pub use lines::{imports_text, specifier_lines};

@@ -55,7 +55,7 @@ fn push_line(
 /// # Errors
 ///
 /// `AllocError` where there is no memory.
-pub fn lines(
+pub fn specifier_lines(
     alloc: Global,
     bytes: &[u8],
     specifiers: &[Specifier],
@@ -88,5 +88,5 @@ pub fn imports_text(
     let steps = steps_by_flag(alloc, settings, context, source, start)?;
     let played = replay(alloc, settings, source, start, &steps)?;
     let found = specifiers(alloc, played.kept.as_slice())?;
-    lines(alloc, source.as_bytes(), &found)
+    specifier_lines(alloc, source.as_bytes(), &found)
 }
