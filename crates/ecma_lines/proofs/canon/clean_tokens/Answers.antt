@@ -13,8 +13,8 @@ returns-then-is_clean c =
     let kept_there = all.tokens s stands in
     let told =
     c.is_clean.ensures
-    ∙ ap (λ kept. list_all (λ k. not (is_error k.kind)) kept && is_empty (lexer_state c.keep_tokens-kept.new.opened.lexer).errors.recorded) c.deref.ensures.value in
-    let clean = told-clean s c.in_ok-kept.kept.items (lexer_state c.keep_tokens-kept.new.opened.lexer).errors c.is_clean.result stands.plain kept_there (all.errors s stands) told in
+    ∙ ap (λ kept. list_all (λ k. not (is_error k.kind)) kept && is_empty (lexer_state c.keep_tokens.new.opened.lexer).errors.recorded) c.deref.ensures.value in
+    let clean = told-clean s c.in_ok-kept.kept.items (lexer_state c.keep_tokens.new.opened.lexer).errors c.is_clean.result stands.plain kept_there (all.errors s stands) told in
     record { session = s; opened = opened; clean = clean ∙ c.if-is_clean.true; kept_there = kept_there }
 
 pub returns : goal.returns
@@ -24,6 +24,6 @@ returns c =
     let kept_there = all.tokens s stands in
     let told =
     c.is_clean.ensures
-    ∙ ap (λ kept. list_all (λ k. not (is_error k.kind)) kept && is_empty (lexer_state c.keep_tokens-kept.new.opened.lexer).errors.recorded) c.deref.ensures.value in
-    let clean = told-clean s c.in_ok-kept.kept.items (lexer_state c.keep_tokens-kept.new.opened.lexer).errors c.is_clean.result stands.plain kept_there (all.errors s stands) told in
+    ∙ ap (λ kept. list_all (λ k. not (is_error k.kind)) kept && is_empty (lexer_state c.keep_tokens.new.opened.lexer).errors.recorded) c.deref.ensures.value in
+    let clean = told-clean s c.in_ok-kept.kept.items (lexer_state c.keep_tokens.new.opened.lexer).errors c.is_clean.result stands.plain kept_there (all.errors s stands) told in
     inl (canon-unclean c.args.options c.args.rereads.now c.args.text.now s opened (clean ∙ c.if-is_clean.false))
