@@ -14,7 +14,10 @@ fn main(rt: HostRuntime) -> io::Result<()> {
     let lexer = Lexer::new(rt.alloc(), syntax, EsVersion::default(), input, false);
     for token in lexer {
         let token = token?;
-        println!(rt; "{}..{} {:?}", token.span.lo.0, token.span.hi.0, token.token)?;
+        println!(rt;
+            "{}..{} {:?}",
+            token.span.lo.0, token.span.hi.0, token.token
+        )?;
     }
     Ok(())
 }
