@@ -41,6 +41,9 @@ fn read_all(alloc: Global, input: StringInput) -> Result<Vec<Kept>, AllocError> 
     let mut lexer = Lexer::new(alloc, Syntax::default(), EsVersion::default(), input, false);
     let mut tokens = Vec::new(alloc);
     for _ in 0..READS {
+        if lexer.reads_again() {
+            return Ok(tokens);
+        }
         if let Some(token) = read_by_flag(&mut lexer)? {
             tokens.push(Kept::of(&token))?;
         }

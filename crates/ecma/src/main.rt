@@ -1,0 +1,122 @@
+//! What a lexer tells of files: tokens, comments, errors, canonical texts, classes, HTML and imports.
+#![tactic(auto)]
+
+mod faces;
+mod report;
+mod source;
+mod words;
+
+use crate::faces::tell;
+use crate::source::{Failure, read_file, read_from, text_in};
+use crate::words::{Asked, command};
+use ecma_stdio::{arguments, exit_code, exit_without_words, send};
+use std::alloc::Global;
+use std::io::Write;
+use std::process::ExitCode;
+
+/// The status where a text has an error, or there is none.
+const FAULTY: u8 = 1;
+
+/// The status where the words are wrong.
+const BAD_WORDS: u8 = 2;
+
+/// Tells why there is no text.
+fn refuse<E: Write>(alloc: Global, faults: &mut E, name: &str, failure: Failure) -> u8 {
+    let message = failure.message();
+    match format!(in alloc; "{name}: {message}\n") {
+        Ok(line) => send(faults, FAULTY, line.as_bytes()),
+        Err(_) => FAULTY,
+    }
+}
+
+/// Writes what is told of a text, and its faults, and answers the status.
+fn tell_of<W: Write, E: Write>(
+    alloc: Global,
+    asked: Asked,
+    name: &str,
+    bytes: &[u8],
+    writer: &mut W,
+    faults: &mut E,
+) -> u8 {
+    let text = match text_in(bytes) {
+        Ok(text) => text,
+        Err(failure) => return refuse(alloc, faults, name, failure),
+    };
+    match tell(alloc, asked, name, text) {
+        Ok(told) => {
+            let status = if told.is_faulty { FAULTY } else { 0 };
+            let sent = send(writer, status, told.out.as_slice());
+            sent.max(send(faults, status, told.faults.as_slice()))
+        }
+        Err(_) => refuse(alloc, faults, name, Failure::OutOfMemory),
+    }
+}
+
+/// Tells of standard input.
+fn tell_input(rt: &HostRuntime, asked: Asked) -> u8 {
+    let alloc = rt.alloc();
+    match read_from(alloc, &mut rt.stdin()) {
+        Ok(bytes) => tell_of(
+            alloc,
+            asked,
+            "-",
+            bytes.as_slice(),
+            &mut rt.stdout(),
+            &mut rt.stderr(),
+        ),
+        Err(failure) => refuse(alloc, &mut rt.stderr(), "-", failure),
+    }
+}
+
+/// Tells of a file.
+fn tell_file(rt: &HostRuntime, asked: Asked, name: &str) -> u8 {
+    let alloc = rt.alloc();
+    match read_file(rt, alloc, name) {
+        Ok(bytes) => tell_of(
+            alloc,
+            asked.for_file(name),
+            name,
+            bytes.as_slice(),
+            &mut rt.stdout(),
+            &mut rt.stderr(),
+        ),
+        Err(failure) => refuse(alloc, &mut rt.stderr(), name, failure),
+    }
+}
+
+/// Tells of each file, or of standard input where there is none.
+fn tell_all(rt: &HostRuntime, asked: Asked, files: &[&str]) -> u8 {
+    if files.is_empty() {
+        return tell_input(rt, asked);
+    }
+    let mut status = 0;
+    for file in files {
+        status = tell_file(rt, asked, file).max(status);
+    }
+    status
+}
+
+/// Parses the words, and does what they ask for.
+fn run(rt: &HostRuntime, words: &[String]) -> u8 {
+    let Ok(command) = command(rt.alloc()) else {
+        return FAULTY;
+    };
+    match command.try_get_matches_from(words) {
+        Ok(matches) => tell_all(
+            rt,
+            Asked::of(&matches),
+            matches.get_strs("files").unwrap_or(&[]),
+        ),
+        Err(error) => {
+            let _printed = error.print(rt);
+            if error.use_stderr() { BAD_WORDS } else { 0 }
+        }
+    }
+}
+
+fn main(rt: HostRuntime) -> ExitCode {
+    match arguments(&rt) {
+        Ok(words) => exit_code(run(&rt, words.as_slice())),
+        Err(_) => exit_without_words(),
+    }
+}
