@@ -10,7 +10,7 @@ use ecma_lexer::{
     Settings, Step, canonical, classes_of_steps, replay, steps_by_flag,
 };
 use ecma_place::{BytePos, CommentKind, Spanned};
-use ecma_syntax::EsVersion;
+use ecma_syntax::{EsVersion, NumberRule};
 use ecma_token::{Error, Token, TokenKind};
 use serde_json::json;
 use std::alloc::{AllocError, Global};
@@ -259,6 +259,7 @@ pub fn tell<'a>(
         syntax: asked.syntax(),
         target: EsVersion::default(),
         comments: true,
+        numbers: NumberRule::default(),
     };
     let mut report = Report::new(alloc, asked, name, text)?;
     let steps = steps_by_flag(alloc, &settings, asked.context(), text, START)?;

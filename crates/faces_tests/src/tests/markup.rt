@@ -2,7 +2,7 @@
 use ecma_html::html_text;
 use ecma_lexer::Settings;
 use ecma_place::{BytePos, StringInput};
-use ecma_syntax::{Context, EsVersion, Syntax};
+use ecma_syntax::{Context, EsVersion, NumberRule, Syntax};
 use std::alloc::{AllocError, Global};
 use std::test::Fail;
 
@@ -41,6 +41,7 @@ fn is_written(alloc: Global, source: &str, inside: &str) -> Result<bool, AllocEr
         syntax: Syntax::default(),
         target: EsVersion::default(),
         comments: true,
+        numbers: NumberRule::Crate,
     };
     let html = html_text(alloc, &settings, Context::default(), source)?;
     let wanted = format!(in alloc; "<pre class=\"ecma\">\n{inside}</pre>\n")?;

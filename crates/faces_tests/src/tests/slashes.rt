@@ -1,7 +1,7 @@
 //! Rows of slashes that are read by the flag.
 use ecma_lexer::{Canon, Kept, Lexer, Settings, canonical, read_by_flag, replay, steps_by_flag};
 use ecma_place::{BytePos, Span, StringInput};
-use ecma_syntax::{AssignOp, BinOpToken, Context, EsVersion, Syntax};
+use ecma_syntax::{AssignOp, BinOpToken, Context, EsVersion, NumberRule, Syntax};
 use ecma_token::TokenKind;
 use std::alloc::{AllocError, Global};
 use std::test::Fail;
@@ -33,6 +33,7 @@ fn settings() -> Settings {
         syntax: Syntax::default(),
         target: EsVersion::default(),
         comments: false,
+        numbers: NumberRule::Crate,
     }
 }
 

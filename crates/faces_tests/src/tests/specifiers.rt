@@ -2,7 +2,7 @@
 use ecma_imports::imports_text;
 use ecma_lexer::Settings;
 use ecma_place::{BytePos, StringInput};
-use ecma_syntax::{Context, EsVersion, Syntax, TsSyntax};
+use ecma_syntax::{Context, EsVersion, NumberRule, Syntax, TsSyntax};
 use std::alloc::{AllocError, Global};
 use std::test::Fail;
 
@@ -39,6 +39,7 @@ fn is_written(alloc: Global, source: &str, lines: &str) -> Result<bool, AllocErr
         syntax: Syntax::Typescript(TsSyntax::default()),
         target: EsVersion::default(),
         comments: false,
+        numbers: NumberRule::Crate,
     };
     let written = imports_text(alloc, &settings, Context::default(), source)?;
     Ok(written.as_slice() == lines.as_bytes())
