@@ -75,7 +75,10 @@ impl<'a> Report<'a> {
 
     /// The line and column of a place.
     pub fn position(&self, place: BytePos) -> Position {
-        let before = self.starts.as_slice().partition_point(|start| *start <= place.0);
+        let before = self
+            .starts
+            .as_slice()
+            .partition_point(|start| *start <= place.0);
         let start = match before.checked_sub(1) {
             Some(last) => self.starts.get(last).copied().unwrap_or(0),
             None => 0,
@@ -88,7 +91,9 @@ impl<'a> Report<'a> {
 
     /// The text at a span.
     pub fn at(&self, span: Span) -> &'a str {
-        self.text.get(span.lo.0 as usize..span.hi.0 as usize).unwrap_or("")
+        self.text
+            .get(span.lo.0 as usize..span.hi.0 as usize)
+            .unwrap_or("")
     }
 
     /// Adds a JSON object in a line of its own.

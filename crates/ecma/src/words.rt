@@ -115,8 +115,16 @@ pub fn command<'a>(alloc: Global) -> Result<Command<'a>, AllocError> {
         .about("Tells what the lexer finds in ECMAScript and TypeScript")
         .arg(what)?
         .arg(files)?
-        .arg(flag(alloc, "ts", "Read as TypeScript, as files ending in .ts, .mts and .cts are"))?
-        .arg(flag(alloc, "module", "Read as a module, as files ending in .mjs and .mts are"))?
+        .arg(flag(
+            alloc,
+            "ts",
+            "Read as TypeScript, as files ending in .ts, .mts and .cts are",
+        ))?
+        .arg(flag(
+            alloc,
+            "module",
+            "Read as a module, as files ending in .mjs and .mts are",
+        ))?
         .arg(flag(alloc, "strict", "Read as strict code"))?
         .arg(flag(alloc, "json", "Write one JSON object a line"))?
         .arg(flag(alloc, "lines", "Write line:column beside byte places"))

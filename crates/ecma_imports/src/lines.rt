@@ -42,9 +42,7 @@ fn push_line(
 {
     let head = head(alloc, specifier)?;
     out.extend_from_slice(head.as_bytes())?;
-    out.extend_from_slice(
-        &bytes[specifier.span.lo.0 as usize..specifier.span.hi.0 as usize],
-    )?;
+    out.extend_from_slice(&bytes[specifier.span.lo.0 as usize..specifier.span.hi.0 as usize])?;
     out.push(b'\n')?;
     Ok(())
 }

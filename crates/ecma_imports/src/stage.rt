@@ -103,13 +103,7 @@ impl Stage {
         ensures { result ≡ table.begun top part }
     {
         match part {
-            Part::Import => {
-                if top {
-                    Stage::Import
-                } else {
-                    Stage::Inside
-                }
-            }
+            Part::Import => { if top { Stage::Import } else { Stage::Inside } }
             Part::Export if top => Stage::Export,
             Part::Member => Stage::Member,
             _ => Stage::Nothing,
@@ -141,12 +135,8 @@ impl Stage {
     {
         match part {
             Part::From => Stage::From,
-            Part::Type
-            | Part::Word
-            | Part::Text
-            | Part::Comma
-            | Part::Brace
-            | Part::Star => Stage::Names,
+            Part::Type | Part::Word | Part::Text | Part::Comma | Part::Brace | Part::Star =>
+                Stage::Names,
             _ => Stage::begun(true, part),
         }
     }

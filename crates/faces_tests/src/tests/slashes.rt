@@ -38,13 +38,7 @@ fn settings() -> Settings {
 
 /// Reads by the flag, and then once more behind the end, and gives what is kept.
 fn read_all(alloc: Global, input: StringInput) -> Result<Vec<Kept>, AllocError> {
-    let mut lexer = Lexer::new(
-        alloc,
-        Syntax::default(),
-        EsVersion::default(),
-        input,
-        false,
-    );
+    let mut lexer = Lexer::new(alloc, Syntax::default(), EsVersion::default(), input, false);
     let mut tokens = Vec::new(alloc);
     for _ in 0..READS {
         if lexer.reads_again() {
@@ -59,11 +53,7 @@ fn read_all(alloc: Global, input: StringInput) -> Result<Vec<Kept>, AllocError> 
 
 /// Whether the token is among those that were read one by one, and among those that a list of steps keeps, and these are
 /// the same; and whether the canonical text of these steps is there where no token is an error.
-fn is_read(
-    alloc: Global,
-    source: &str,
-    wanted: Kept,
-) -> Result<bool, AllocError> {
+fn is_read(alloc: Global, source: &str, wanted: Kept) -> Result<bool, AllocError> {
     let start = BytePos(0);
     if !StringInput::fits(source, start) {
         return Ok(false);
@@ -73,10 +63,12 @@ fn is_read(
     let played = replay(alloc, &settings(), source, start, &steps)?;
     let canon = canonical(alloc, &settings(), source, start, &steps)?;
     let is_clean = matches!(canon, Canon::Text(_));
-    Ok(kept.as_slice().contains(&wanted)
-        && kept.as_slice() == played.kept.as_slice()
-        && played.ended
-        && is_clean == (wanted.kind != TokenKind::Error))
+    Ok(
+        kept.as_slice().contains(&wanted)
+            && kept.as_slice() == played.kept.as_slice()
+            && played.ended
+            && is_clean == (wanted.kind != TokenKind::Error),
+    )
 }
 
 #[test]

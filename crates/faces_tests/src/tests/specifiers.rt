@@ -12,7 +12,10 @@ const ROWS: &[(&str, &str)] = &[
     ("import a, {b as c} from \"d\";", "static 24 27 \"d\"\n"),
     ("import * as from from 'a'", "static 22 25 'a'\n"),
     ("import type {a} from 'b'", "static 21 24 'b'\n"),
-    ("export * from 'a'; export {from} from 'b'", "static 14 17 'a'\nstatic 38 41 'b'\n"),
+    (
+        "export * from 'a'; export {from} from 'b'",
+        "static 14 17 'a'\nstatic 38 41 'b'\n",
+    ),
     ("export * as default from 'a'", "static 25 28 'a'\n"),
     ("export type {a} from 'b'", "static 21 24 'b'\n"),
     ("x = import('a')", "dynamic 11 14 'a'\n"),
