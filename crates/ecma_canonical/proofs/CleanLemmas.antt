@@ -17,7 +17,7 @@ use Rattle.ecma_place.specs.Text.{Text}
 use Rattle.ecma_canonical.specs.Canonical.{IsCanonicalText, IsTooLong}
 use Rattle.ecma_replay.specs.Replay.{Replays, answer_view}
 use Rattle.ecma_replay.specs.declared.replayed.Replay.{Replay}
-use Rattle.ecma_canonical.specs.Watching.{followed_all, none_kept}
+use Rattle.ecma_canonical.specs.Watching.{followed_all, nothing_watched}
 use Rattle.ecma_canonical.proofs.WatchLemmas.{answers-length, run-watched}
 use Rattle.ecma_state.specs.Counting.{counting, none_yet}
 use Rattle.ecma_state.specs.Run.{session, start_of}
@@ -53,7 +53,7 @@ one-each settings input steps r replays =
     sym (length-map r.answers.items answer_view) ∙ ap length replays.answers ∙ answers-length (start_of settings input) none_yet steps
 
 pub told-clean : (settings : Settings) (input : Cursor) (steps : List Step) (r : Replay) (b : Bool) → Replays (start_of settings input) steps r
-    → b ≡ (followed_all none_kept steps (map answer_view r.answers.items)).watch.is_clean
+    → b ≡ (followed_all nothing_watched steps (map answer_view r.answers.items)).watch.is_clean
     → (b && (r.ended && (list_all (λ (k : Kept). not (is_error k.kind)) r.kept.items && (length r.errors == 0)))) ≡ is_clean settings input steps
 told-clean settings input steps r b replays told =
     let begin = start_of settings input in
@@ -61,7 +61,7 @@ told-clean settings input steps r b replays told =
     let plain = each_step is_plain_step begin (counting steps) in
     let none = each_step takes_none begin (counting steps) in
     let watched : b ≡ (plain && none) =
-    told ∙ ap (λ answers. (followed_all none_kept steps answers).watch.is_clean) replays.answers ∙ ap (λ w. w.watch.is_clean) (run-watched settings input steps) in
+    told ∙ ap (λ answers. (followed_all nothing_watched steps answers).watch.is_clean) replays.answers ∙ ap (λ w. w.watch.is_clean) (run-watched settings input steps) in
     let kept : list_all (λ (k : Kept). not (is_error k.kind)) r.kept.items ≡ list_all (λ t. not (is_error (kind_of t.token))) (kept_back s.past) =
     ap (list_all (λ (k : Kept). not (is_error k.kind))) replays.kept ∙ none-error (kept_back s.past) in
     let errors : (length r.errors == 0) ≡ is_empty s.errors.recorded =

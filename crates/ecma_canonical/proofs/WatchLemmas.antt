@@ -11,7 +11,7 @@ use Rattle.ecma_token.specs.View.{SpannedView}
 use Rattle.ecma_clean.specs.Clean.{each_step, is_plain_step, takes_none, was_again}
 use Rattle.ecma_replay.specs.Replay.{answer_view}
 use Rattle.ecma_replay.specs.declared.answer.Answer.{Answer as GivenAnswer}
-use Rattle.ecma_canonical.specs.Watching.{WatcherKept, back_to, behind_step, followed, followed_all, is_done, is_token, none_kept, watch_of, watcher_of, with_step}
+use Rattle.ecma_canonical.specs.Watching.{WatcherValue, back_to, behind_step, followed, followed_all, is_done, is_token, nothing_watched, watch_of, watcher_of, with_step}
 use Rattle.ecma_canonical.specs.declared.watch.Watch.{Watch}
 use Rattle.ecma_state.specs.Contexts.{Contexts}
 use Rattle.ecma_state.specs.Counting.{Counted, count_all, count_step, counted, gone_back, none_yet}
@@ -122,7 +122,7 @@ all-watched begin c (x ∷ xs) =
     ∙ all-watched begin (count_step c x) xs
 
 pub run-watched : (settings : Settings) (input : Cursor) (steps : List Step)
-    → followed_all none_kept steps (answers_behind (start_of settings input) none_yet steps) ≡ watcher_of (start_of settings input) (count_all none_yet steps)
+    → followed_all nothing_watched steps (answers_behind (start_of settings input) none_yet steps) ≡ watcher_of (start_of settings input) (count_all none_yet steps)
 run-watched settings input steps = all-watched (start_of settings input) none_yet steps
 
 -- one answer stands for each step
@@ -132,20 +132,20 @@ answers-length begin c (x ∷ xs) = ap (λ n. suc n) (answers-length begin (coun
 
 -- What the code keeps
 
-abbrev pub kept_as : Watch → List Watch → WatcherKept
+abbrev pub kept_as : Watch → List Watch → WatcherValue
 kept_as watch saves = record { watch = watch; saves = saves }
 
-pub saved-followed : (watch : Watch) (saves : List Watch) (w : WatcherKept) → kept_as watch saves ≡ w → (x : Step) (answer : Answer) (now : List Watch) → x ≡ Save → now ≡ saves ++ watch ∷ []
+pub saved-followed : (watch : Watch) (saves : List Watch) (w : WatcherValue) → kept_as watch saves ≡ w → (x : Step) (answer : Answer) (now : List Watch) → x ≡ Save → now ≡ saves ++ watch ∷ []
     → kept_as watch now ≡ followed w x answer
 unfolding followed
 saved-followed watch saves w view x answer now is pushed =
     ap (kept_as watch) pushed ∙ ap (λ y. followed (kept_as watch saves) y answer) (sym is) ∙ ap (λ v. followed v x answer) view
 
-pub back-followed : (w : WatcherKept) (x : Step) (answer : Answer) (n : ℕ) → x ≡ Back n → back_to w (slice_get w.saves n) ≡ followed w x answer
+pub back-followed : (w : WatcherValue) (x : Step) (answer : Answer) (n : ℕ) → x ≡ Back n → back_to w (slice_get w.saves n) ≡ followed w x answer
 unfolding followed
 back-followed w x answer n is = ap (λ y. followed w y answer) (sym is)
 
-other-followed : (w : WatcherKept) (x : Step) (answer : Answer) → (x ≡ Save → ⊥) → ((n : ℕ) → x ≡ Back n → ⊥) → with_step w x answer ≡ followed w x answer
+other-followed : (w : WatcherValue) (x : Step) (answer : Answer) → (x ≡ Save → ⊥) → ((n : ℕ) → x ≡ Back n → ⊥) → with_step w x answer ≡ followed w x answer
 unfolding followed
 other-followed w Save answer save back = absurd (save refl)
 other-followed w (Back n) answer save back = absurd (back n refl)
@@ -158,13 +158,13 @@ other-followed w Reread answer save back = refl
 other-followed w Withdraw answer save back = refl
 other-followed w TakeErrors answer save back = refl
 
-pub step-followed : (watch : Watch) (saves : List Watch) (w : WatcherKept) → kept_as watch saves ≡ w → (x : Step) (answer : Answer) (now : Watch) → now ≡ behind_step watch x answer
+pub step-followed : (watch : Watch) (saves : List Watch) (w : WatcherValue) → kept_as watch saves ≡ w → (x : Step) (answer : Answer) (now : Watch) → now ≡ behind_step watch x answer
     → (x ≡ Save → ⊥) → ((n : ℕ) → x ≡ Back n → ⊥) → kept_as now saves ≡ followed w x answer
 step-followed watch saves w view x answer now told save back =
     ap (λ n. kept_as n saves) told ∙ other-followed (kept_as watch saves) x answer save back ∙ ap (λ v. followed v x answer) view
 
 -- the watch comes with what is left to where it came with one more
-pub followed-more : (w now : WatcherKept) (steps : List Step) (given : List GivenAnswer) (i : ℕ) (x : Step) (answer : GivenAnswer) → i < length steps → length given ≡ length steps
+pub followed-more : (w now : WatcherValue) (steps : List Step) (given : List GivenAnswer) (i : ℕ) (x : Step) (answer : GivenAnswer) → i < length steps → length given ≡ length steps
     → x ≡ get_or steps i x → answer ≡ get_or given i answer → now ≡ followed w x (answer_view answer)
     → followed_all now (drop (i + 1) steps) (map answer_view (drop (i + 1) given)) ≡ followed_all w (drop i steps) (map answer_view (drop i given))
 followed-more w now steps given i x answer below each is answered told =
@@ -176,6 +176,6 @@ followed-more w now steps given i x answer below each is answered told =
     ∙ ap (λ gs. followed_all w (x ∷ drop (i + 1) steps) (map answer_view gs)) next_answer)
 
 -- nothing is left behind the last step
-pub followed-end : (w all : WatcherKept) (steps : List Step) (answers : List Answer) (i : ℕ) → length steps ≤ i → followed_all w (drop i steps) answers ≡ all → w ≡ all
+pub followed-end : (w all : WatcherValue) (steps : List Step) (answers : List Answer) (i : ℕ) → length steps ≤ i → followed_all w (drop i steps) answers ≡ all → w ≡ all
 followed-end w all steps answers i past comes =
     ap (λ xs. followed_all w xs answers) (sym (drop_all i steps past)) ∙ comes

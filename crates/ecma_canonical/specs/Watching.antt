@@ -77,25 +77,25 @@ behind_step w Save answer = w
 behind_step w (Back n) answer = w
 
 -- what holds behind the steps that count so far, and what held at each save
-pub record WatcherKept : Type 0 where
+pub record WatcherValue : Type 0 where
   pub watch : Watch
   pub saves : List Watch
 
-abbrev pub watcher_of : Session → Counted → WatcherKept
+abbrev pub watcher_of : Session → Counted → WatcherValue
 watcher_of begin c = record { watch = watch_of begin c.steps; saves = map (watch_of begin) c.saves }
 
-abbrev pub none_kept : WatcherKept
-none_kept = record { watch = none_watched; saves = [] }
+abbrev pub nothing_watched : WatcherValue
+nothing_watched = record { watch = none_watched; saves = [] }
 
-abbrev pub back_to : WatcherKept → Option Watch → WatcherKept
+abbrev pub back_to : WatcherValue → Option Watch → WatcherValue
 back_to w (Some saved) = record w { watch = saved }
 back_to w None = w
 
-abbrev pub with_step : WatcherKept → Step → Answer → WatcherKept
+abbrev pub with_step : WatcherValue → Step → Answer → WatcherValue
 with_step w step answer = record w { watch = behind_step w.watch step answer }
 
 -- behind one more step of any kind
-unfoldable pub followed : WatcherKept → Step → Answer → WatcherKept
+unfoldable pub followed : WatcherValue → Step → Answer → WatcherValue
 followed w Save answer = record w { saves = w.saves ++ w.watch ∷ [] }
 followed w (Back n) answer = back_to w (slice_get w.saves n)
 followed w Read answer = with_step w Read answer
@@ -108,7 +108,7 @@ followed w Withdraw answer = with_step w Withdraw answer
 followed w TakeErrors answer = with_step w TakeErrors answer
 
 -- behind a list of steps, one answer each
-abbrev pub followed_all : WatcherKept → List Step → List Answer → WatcherKept
+abbrev pub followed_all : WatcherValue → List Step → List Answer → WatcherValue
 followed_all w [] answers = w
 followed_all w (step ∷ steps) [] = w
 followed_all w (step ∷ steps) (answer ∷ answers) = followed_all (followed w step answer) steps answers

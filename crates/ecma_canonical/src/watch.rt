@@ -2,7 +2,7 @@
 ghost use Rattle.std.specs.Prelude.{◌≡◌, length, map, if◌then◌else◌, slice_get, IfOk, OnOk};
 ghost use Rattle.ecma_replay.specs.Replay.{answer_view};
 ghost use Rattle.ecma_canonical.specs.Watching as told;
-ghost use Rattle.ecma_canonical.specs.Watching.{back_to, behind_step, clean_if, followed, followed_all, is_done, is_token, none_kept, none_watched, took_none};
+ghost use Rattle.ecma_canonical.specs.Watching.{back_to, behind_step, clean_if, followed, followed_all, is_done, is_token, nothing_watched, none_watched, took_none};
 
 use ecma_replay::Answer;
 use ecma_state::step::Step;
@@ -114,16 +114,16 @@ struct Watcher {
 }
 
 impl Model for Watcher {
-    ghost use Rattle.ecma_canonical.specs.Watching.{WatcherKept};
+    ghost use Rattle.ecma_canonical.specs.Watching.{WatcherValue};
 
-    ghost Value = { WatcherKept };
+    ghost Value = { WatcherValue };
 
     ghost view = { λ w. record { watch = w.watch; saves = w.saves.items } };
 }
 
 impl Watcher {
     fn new(alloc: Global) -> Watcher
-        ensures { result ≡ none_kept }
+        ensures { result ≡ nothing_watched }
     {
         Watcher {
             watch: Watch::new(),
@@ -160,7 +160,7 @@ pub fn steps_are_clean(
     answers: &[Answer],
 ) -> Result<bool, AllocError>
     requires { length answers.now ≡ length steps.now }
-    ensures { IfOk result (λ b. b ≡ (followed_all none_kept steps.now (map answer_view answers.now)).watch.is_clean) }
+    ensures { IfOk result (λ b. b ≡ (followed_all nothing_watched steps.now (map answer_view answers.now)).watch.is_clean) }
 {
     let mut watcher = Watcher::new(alloc);
     'steps: for i in 0..steps.len() {

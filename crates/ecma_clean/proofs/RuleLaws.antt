@@ -20,10 +20,10 @@ use Rattle.ecma_state.specs.Reading.{Reading, behind_gap, gap_in, reading, readi
 use Rattle.ecma_state.specs.Run.{act_all, act_on, acted_on, given_in, mode_of, popped_from, reading_from, reading_of, reread_from, start_of}
 use Rattle.ecma_state.specs.Session.{Past, Session, kept_back, kept_tokens, seen_of, state_of}
 use Rattle.ecma_state.specs.State.{is_error, last_slash}
-use Rattle.ecma_state.specs.TokenAt.{comments_in, opening, placed, read_opened, token_of, ts1085}
+use Rattle.ecma_state.specs.TokenAt.{comments_in, lookahead, placed, read_opened, token_of, ts1085}
 use Rattle.ecma_state.specs.declared.mode.Mode.{Mode}
-use Rattle.ecma_state.specs.declared.opening.Opening.{Opening}
-use Rattle.ecma_state.specs.declared.opening.Opening.TheVariants as opens
+use Rattle.ecma_state.specs.declared.lookahead.Lookahead.{Lookahead}
+use Rattle.ecma_state.specs.declared.lookahead.Lookahead.TheVariants as opens
 use Rattle.ecma_state.specs.declared.step.Step.{Step}
 use Rattle.ecma_state.specs.declared.step.Step.TheVariants.{Read, SetCtx, SetExprAllowed, SetContexts, PopContext, Reread, Withdraw, Save, Back, TakeErrors}
 use Rattle.ecma_syntax.specs.declared.context.Context.{Context}
@@ -89,11 +89,11 @@ number-by-rule context legacy gap here text = go (is_clean (number legacy Standa
 
 -- One read
 
-abbrev opened_reading : Mode → GapView → Cursor → Text → Opening → Reading
+abbrev opened_reading : Mode → GapView → Cursor → Text → Lookahead → Reading
 opened_reading mode gap here text opened =
     token_reading gap (placed opened mode (place here) (read_opened opened mode text)) (comments_in opened mode (place here) text) (passed (length (read_opened opened mode text).spelling) here)
 
-opened-by-rule : (context : Context) (mode : Mode) (gap : GapView) (here : Cursor) (text : Text) (opened : Opening) → mode.settings.numbers ≡ Standard
+opened-by-rule : (context : Context) (mode : Mode) (gap : GapView) (here : Cursor) (text : Text) (opened : Lookahead) → mode.settings.numbers ≡ Standard
     → IsByRule context (opened_reading mode gap here text opened) (opened_reading (mode_by_crate mode) gap here text opened)
 opened-by-rule context mode gap here text opens.Template e = Same refl
 opened-by-rule context mode gap here text opens.Number e =
@@ -109,7 +109,7 @@ opened-by-rule context mode gap here text opens.Other e = Same refl
 behind-by-rule : (context : Context) (mode : Mode) (gap : GapView) (here : Cursor) (text : Text) → mode.settings.numbers ≡ Standard
     → IsByRule context (reading_behind mode gap here text) (reading_behind (mode_by_crate mode) gap here text)
 behind-by-rule context mode gap here [] e = Same refl
-behind-by-rule context mode gap here (c ∷ cs) e = opened-by-rule context mode gap here (c ∷ cs) (opening mode gap.line_break (c ∷ cs)) e
+behind-by-rule context mode gap here (c ∷ cs) e = opened-by-rule context mode gap here (c ∷ cs) (lookahead mode gap.line_break (c ∷ cs)) e
 
 code-by-rule : (context : Context) (mode : Mode) (input : Cursor) → mode.settings.numbers ≡ Standard → IsByRule context (reading_code mode input) (reading_code (mode_by_crate mode) input)
 unfolding reading_code

@@ -69,7 +69,7 @@ pub record Reading' (c : Cursor) (s : Session) (w : Bool) : Type 0 where
   pub start : s.input.start ≡ c.start
   pub text : s.input.text ≡ c.text
   pub reread : s.reread ≡ None
-  pub outside : (bearing_of s).none_given ≡ true → tpl_on_top s.contexts ≡ false
+  pub outside : (bearing_of s).shebang_allowed ≡ true → tpl_on_top s.contexts ≡ false
   pub sound : Sound s w
 
 read-plain : (s : Session) → s.reread ≡ None → is_plain_step s Read ≡ true
@@ -210,11 +210,11 @@ at-ended c s t a p w here older k = ap has_ended k.newest ∙ go k.again
     go true = refl
     go false = refl
 
-pub at-given : (c : Cursor) (s : Session) (t : SpannedView) (a : Standing) (p : Bare) (w : Bool) (here : Text) (older : List SpannedView) → At c s t a p w here older → (bearing_of s).none_given ≡ false
+pub at-given : (c : Cursor) (s : Session) (t : SpannedView) (a : Standing) (p : Bare) (w : Bool) (here : Text) (older : List SpannedView) → At c s t a p w here older → (bearing_of s).shebang_allowed ≡ false
 at-given c s t a p w here older k = ap given k.newest ∙ go k.again
   where
     given : Past → Bool
-    given past = (bearing_of (record s { past = past })).none_given
+    given past = (bearing_of (record s { past = past })).shebang_allowed
 
     go : (again : Bool) → given (given_in again false (Some t) ∷ k.past) ≡ false
     go true = refl

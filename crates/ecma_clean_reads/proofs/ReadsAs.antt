@@ -20,9 +20,9 @@ use Rattle.ecma_stream.proofs.SlashLemmas.{again-kind, expression-no-slash}
 use Rattle.ecma_state.specs.Mode.{gap_mode}
 use Rattle.ecma_state.specs.Reading.{Reading, behind_gap, gap_in, reading, reading_again, reading_behind, reading_code, reading_if, shebang_reading, shebang_token, spanned, token_reading}
 use Rattle.ecma_state.specs.State.{is_error, is_slash}
-use Rattle.ecma_state.specs.TokenAt.{is_empty, opening, read_opened, token_at, token_comments, token_found, token_of}
-use Rattle.ecma_state.specs.declared.opening.Opening.{Opening}
-use Rattle.ecma_state.specs.declared.opening.Opening.TheVariants as opens
+use Rattle.ecma_state.specs.TokenAt.{is_empty, lookahead, read_opened, token_at, token_comments, token_found, token_of}
+use Rattle.ecma_state.specs.declared.lookahead.Lookahead.{Lookahead}
+use Rattle.ecma_state.specs.declared.lookahead.Lookahead.TheVariants as opens
 use Rattle.ecma_state.specs.Transition.{tpl_on_top}
 use Rattle.ecma_state.specs.declared.mode.Mode.{Mode}
 use Rattle.ecma_syntax.specs.declared.context.Context.{Context}
@@ -129,7 +129,7 @@ token-reads context c here gap faults f s comments x xs start text left front sa
         })
 
 -- where a template was opened is not asked for
-opened-anywhere : (o : Opening) (opened : BytePos) (b : Bearing) (text : Text) → read_opened o (mode_at opened b) text ≡ read_opened o (bare_mode b) text
+opened-anywhere : (o : Lookahead) (opened : BytePos) (b : Bearing) (text : Text) → read_opened o (mode_at opened b) text ≡ read_opened o (bare_mode b) text
 opened-anywhere opens.Template opened b text = refl
 opened-anywhere opens.Number opened b text = refl
 opened-anywhere opens.String opened b text = refl
@@ -138,7 +138,7 @@ opened-anywhere opens.Bars opened b text = refl
 opened-anywhere opens.Other opened b text = refl
 
 token-anywhere : (opened : BytePos) (b : Bearing) (flag : Bool) (text : Text) → token_at (mode_at opened b) flag text ≡ token_at (bare_mode b) flag text
-token-anywhere opened b flag text = opened-anywhere (opening (bare_mode b) flag text) opened b text
+token-anywhere opened b flag text = opened-anywhere (lookahead (bare_mode b) flag text) opened b text
 
 reads-behind : (opened : BytePos) (b : Bearing) (c here : Cursor) (gap : GapView) (faults : List Fault) (text : Text) → here.start ≡ c.start → here.text ≡ c.text → rest here ≡ text
     → SaysSame b.context gap.faults faults → ReadsAs b.context c (reading_behind (mode_at opened b) gap here text) (found_behind b gap.line_break faults text)
@@ -151,7 +151,7 @@ reads-behind opened b c here gap faults (x ∷ xs) start text left same =
     let mode : Mode = mode_at opened b in
     let flag : Bool = gap.line_break in
     let s : Scanned TokenView = token_at mode flag (x ∷ xs) in
-    let o = opening mode flag (x ∷ xs) in
+    let o = lookahead mode flag (x ∷ xs) in
     let n : ℕ = place here in
     let f : FoundView TokenView = token_found mode flag n (x ∷ xs) in
     let faults_same : SaysSame b.context f.faults s.faults = subst (λ fs. SaysSame b.context fs s.faults) (sym (placed-faults o mode n s)) (same-behind b.context n s.faults) in
@@ -231,15 +231,15 @@ shebang-reads b c input start text opens = go (rest input) refl opens
         refl)
 
 -- What a read finds, places apart, is what the grammar finds
-pub reading-reads : (opened : BytePos) (b : Bearing) (c input : Cursor) → (b.none_given ≡ true → tpl_on_top b.contexts ≡ false) → input.start ≡ c.start → input.text ≡ c.text
+pub reading-reads : (opened : BytePos) (b : Bearing) (c input : Cursor) → (b.shebang_allowed ≡ true → tpl_on_top b.contexts ≡ false) → input.start ≡ c.start → input.text ≡ c.text
     → ReadsAs b.context c (reading (mode_at opened b) input) (lexer_grammar.scan b (rest input))
-reading-reads opened b c input outside start text = go (tpl_on_top b.contexts) b.none_given (opens_shebang (rest input)) refl refl refl
+reading-reads opened b c input outside start text = go (tpl_on_top b.contexts) b.shebang_allowed (opens_shebang (rest input)) refl refl refl
   where
     mode : Mode
     mode = mode_at opened b
 
-    go : (inside none_given shebang : Bool) → tpl_on_top b.contexts ≡ inside → b.none_given ≡ none_given → opens_shebang (rest input) ≡ shebang
-        → ReadsAs b.context c (reading_if (none_given && shebang) mode input) (scan_in lexer_parts inside b (rest input))
+    go : (inside shebang_allowed shebang : Bool) → tpl_on_top b.contexts ≡ inside → b.shebang_allowed ≡ shebang_allowed → opens_shebang (rest input) ≡ shebang
+        → ReadsAs b.context c (reading_if (shebang_allowed && shebang) mode input) (scan_in lexer_parts inside b (rest input))
     go true true shebang i n o = let never : true ≡ false = sym i ∙ outside n in cc
     go true false shebang i n o =
         subst (λ f. ReadsAs b.context c (reading_code mode input) f) (sym (template_is_code b (rest input) i)) (code-reads opened b c input start text)

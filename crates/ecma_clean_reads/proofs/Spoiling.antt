@@ -9,7 +9,7 @@ use Rattle.ecma_state.specs.Disposition.{Disposition, Dropped, Errors, Recorded,
 use Rattle.ecma_state.specs.Reading.{Reading}
 use Rattle.ecma_state.specs.Run.{act_all, act_on, acted_on, at_place, given_in, mode_of, reading_from, reread_from}
 use Rattle.ecma_state.specs.Reading.{reading, reading_again}
-use Rattle.ecma_state.specs.Session.{Again, AtEnd, Past, Plain, Session, has_ended, kept_back, kept_of, last_flag, seen_of, state_of}
+use Rattle.ecma_state.specs.Session.{Again, AtEnd, Past, Next, Session, has_ended, kept_back, kept_of, last_flag, seen_of, state_of}
 use Rattle.ecma_state.specs.State.{is_error, is_slash, last_slash, slash_in}
 use Rattle.ecma_state.specs.TokenAt.{is_empty}
 use Rattle.ecma_state.specs.declared.step.Step.{Step}
@@ -55,7 +55,7 @@ is_unspoilt s = list_all is_unrefused (kept_back s.past) && is_empty s.errors.re
 pub record AnsweredSlash (past : Past) : Type 0 where
   pub slash : SpannedView
   pub before : Past
-  pub newest : past ≡ Plain slash ∷ before
+  pub newest : past ≡ Next slash ∷ before
   pub is : is_slash (kind_of slash.token) ≡ true
 
 abbrev pub IsPoised : Session → Type 0
@@ -165,7 +165,7 @@ read-poised s = go s.reread refl
 reread-poised : (s : Session) → IsPoised s → IsPoised (act_on s Reread)
 reread-poised s poised = go s.past refl
   where
-    found : (past : Past) (t : SpannedView) (b : Bool) → is_slash (kind_of t.token) ≡ b → s.past ≡ Plain t ∷ past → IsPoised (reread_from s (cond b (Some t.span.lo) None)).after
+    found : (past : Past) (t : SpannedView) (b : Bool) → is_slash (kind_of t.token) ≡ b → s.past ≡ Next t ∷ past → IsPoised (reread_from s (cond b (Some t.span.lo) None)).after
     found past t true e newest = λ p f h. record { slash = t; before = past; newest = newest; is = e }
     found past t false e newest = poised
 
@@ -175,7 +175,7 @@ reread-poised s poised = go s.past refl
 
     go : (past : Past) → s.past ≡ past → IsPoised (reread_from s (last_slash (seen_of past))).after
     go [] e = poised
-    go (Plain t ∷ past) e = found past t (is_slash (kind_of t.token)) refl e
+    go (Next t ∷ past) e = found past t (is_slash (kind_of t.token)) refl e
     go (Again t ∷ past) e = other (Again t ∷ past) (slash_in (Some (kept_of t))) e refl
     go (AtEnd flag ∷ past) e = poised
 

@@ -11,8 +11,8 @@ use Rattle.ecma_state.specs.Session.{kept_of}
 use Rattle.ecma_state.specs.State.{is_error}
 use Rattle.ecma_state.specs.TokenAt.{placed, token_of}
 use Rattle.ecma_state.specs.declared.mode.Mode.{Mode}
-use Rattle.ecma_state.specs.declared.opening.Opening.{Opening}
-use Rattle.ecma_state.specs.declared.opening.Opening.TheVariants as opens
+use Rattle.ecma_state.specs.declared.lookahead.Lookahead.{Lookahead}
+use Rattle.ecma_state.specs.declared.lookahead.Lookahead.TheVariants as opens
 use Rattle.ecma_token.specs.Kinds.{kind_of}
 use Rattle.ecma_token.specs.View.{ErrorView, SpannedView, TokenView, error_token, plain_token, refused_template}
 use Rattle.ecma_token.specs.declared.kind.TokenKind.{TokenKind}
@@ -38,7 +38,7 @@ template-kind : (opened n : ℕ) (v : Result TokenView ErrorView) → kind_of (t
 template-kind opened n (Ok t) = kind-behind n t
 template-kind opened n (Err error) = refl
 
-pub placed-kind : (o : Opening) (mode : Mode) (n : ℕ) (s : Scanned TokenView) → kind_of (token_of (placed o mode n s).value) ≡ kind_of (token_of s.value)
+pub placed-kind : (o : Lookahead) (mode : Mode) (n : ℕ) (s : Scanned TokenView) → kind_of (token_of (placed o mode n s).value) ≡ kind_of (token_of s.value)
 placed-kind opens.Template mode n s = template-kind mode.opened.0 n s.value
 placed-kind opens.Number mode n s = value-kind n s.value
 placed-kind opens.String mode n s = value-kind n s.value
@@ -56,7 +56,7 @@ template-token : (opened n : ℕ) (v : Result TokenView ErrorView) → is_error 
 template-token opened n (Ok t) h = refl
 template-token opened n (Err error) h = cc
 
-pub placed-token : (o : Opening) (mode : Mode) (n : ℕ) (s : Scanned TokenView) → is_refused s ≡ false → token_of (placed o mode n s).value ≡ token_behind n (token_of s.value)
+pub placed-token : (o : Lookahead) (mode : Mode) (n : ℕ) (s : Scanned TokenView) → is_refused s ≡ false → token_of (placed o mode n s).value ≡ token_behind n (token_of s.value)
 placed-token opens.Template mode n s h = template-token mode.opened.0 n s.value h
 placed-token opens.Number mode n s h = value-token n s.value
 placed-token opens.String mode n s h = value-token n s.value
@@ -64,7 +64,7 @@ placed-token opens.Word mode n s h = value-token n s.value
 placed-token opens.Bars mode n s h = value-token n s.value
 placed-token opens.Other mode n s h = value-token n s.value
 
-pub placed-break : (o : Opening) (mode : Mode) (n : ℕ) (s : Scanned TokenView) → (placed o mode n s).line_break ≡ s.line_break
+pub placed-break : (o : Lookahead) (mode : Mode) (n : ℕ) (s : Scanned TokenView) → (placed o mode n s).line_break ≡ s.line_break
 placed-break opens.Template mode n s = refl
 placed-break opens.Number mode n s = refl
 placed-break opens.String mode n s = refl

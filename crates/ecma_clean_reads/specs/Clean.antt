@@ -4,7 +4,7 @@ use Rattle.std.specs.List.{list_all}
 use Rattle.ecma_place.specs.Cursor.{Cursor}
 use Rattle.ecma_state.specs.Counting.{counting}
 use Rattle.ecma_state.specs.Run.{act_on, session, start_of}
-use Rattle.ecma_state.specs.Session.{Past, Plain, Again, AtEnd, Session, has_ended, kept_back}
+use Rattle.ecma_state.specs.Session.{Past, Next, Again, AtEnd, Session, has_ended, kept_back}
 use Rattle.ecma_state.specs.State.{is_error}
 use Rattle.ecma_state.specs.TokenAt.{is_empty}
 use Rattle.ecma_state.specs.declared.settings.Settings.{Settings}
@@ -15,7 +15,7 @@ use Rattle.ecma_token.specs.Kinds.{kind_of}
 -- the newest answer was read again
 abbrev pub was_again : Past → Bool
 was_again [] = false
-was_again (Plain t ∷ past) = false
+was_again (Next t ∷ past) = false
 was_again (Again t ∷ past) = true
 was_again (AtEnd flag ∷ past) = false
 

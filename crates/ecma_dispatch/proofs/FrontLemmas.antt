@@ -33,7 +33,7 @@ use Rattle.ecma_scan.specs.Shebangs.{found_shebang, opens_shebang, shebang}
 use Rattle.ecma_scan.proofs.ShebangLemmas as shebangs
 use Rattle.ecma_state.specs.Mode.{is_template, is_tpl_element, type_mode}
 use Rattle.ecma_state.specs.Reading.{shebang_token}
-use Rattle.ecma_state.specs.TokenAt.{token_at, ts1085, opening_from, read_opened, punctuator_or_stray}
+use Rattle.ecma_state.specs.TokenAt.{token_at, ts1085, lookahead_from, read_opened, punctuator_or_stray}
 use Rattle.ecma_state.specs.declared.mode.Mode.{Mode}
 
 abbrev IsFront : Text → Text → Type 0
@@ -70,7 +70,7 @@ pub token_at-front : (mode : Mode) (flag : Bool) (text : Text) → IsFront (toke
 token_at-front mode flag text =
     go (is_template mode.top) (opens_number text) (opens_string text) (opens_word text) (flag && opens_bars text) refl
   where
-    go : (template number' string word bars : Bool) → (flag && opens_bars text) ≡ bars → IsFront (read_opened (opening_from template number' string word bars) mode text).spelling text
+    go : (template number' string word bars : Bool) → (flag && opens_bars text) ≡ bars → IsFront (read_opened (lookahead_from template number' string word bars) mode text).spelling text
     go true number' string word bars e = front-of _ text (template_front (is_tpl_element mode.previous) text)
     go false true string word bars e = number-front (ts1085 mode) mode.settings.numbers text
     go false false true word bars e = front-of _ text (string_front text)
@@ -144,7 +144,7 @@ token_at-some mode flag c cs code =
     go (is_template mode.top) (opens_number (c ∷ cs)) (opens_string (c ∷ cs)) (opens_word (c ∷ cs)) (flag && opens_bars (c ∷ cs)) code refl refl
   where
     go : (template number' string word bars : Bool) → template ≡ false → opens_number (c ∷ cs) ≡ number' → opens_word (c ∷ cs) ≡ word
-        → 0 < length (read_opened (opening_from template number' string word bars) mode (c ∷ cs)).spelling
+        → 0 < length (read_opened (lookahead_from template number' string word bars) mode (c ∷ cs)).spelling
     go true number' string word bars t n w = cc
     go false true string word bars t n w = number_some (ts1085 mode) mode.settings.numbers (c ∷ cs) n
     go false false true word bars t n w = string-some c cs

@@ -12,10 +12,10 @@ use Rattle.ecma_scan.specs.Gaps.{has_line_break}
 use Rattle.ecma_scan.specs.Fronts.{line}
 use Rattle.ecma_scan.specs.Shebangs.{found_shebang, opens_shebang, shebang}
 use Rattle.ecma_state.specs.Mode.{gap_mode}
-use Rattle.ecma_state.specs.TokenAt.{asks_for_none, comments_in, token_at, token_comments, token_found, token_of, opening, placed, is_empty, is_free_at}
+use Rattle.ecma_state.specs.TokenAt.{asks_for_none, comments_in, token_at, token_comments, token_found, token_of, lookahead, placed, is_empty, is_free_at}
 use Rattle.ecma_state.specs.declared.mode.Mode.{Mode}
-use Rattle.ecma_state.specs.declared.opening.Opening.{Opening}
-use Rattle.ecma_state.specs.declared.opening.Opening.TheVariants as opens
+use Rattle.ecma_state.specs.declared.lookahead.Lookahead.{Lookahead}
+use Rattle.ecma_state.specs.declared.lookahead.Lookahead.TheVariants as opens
 use Rattle.ecma_dispatch.proofs.TokenLemmas.{and-parts, empty-none, free-parts, view}
 
 reading_behind-some : (mode : Mode) (gap : GapView) (here : Cursor) (text : Text) (x : ℕ) → slice_get text 0 ≡ Some x
@@ -51,7 +51,7 @@ free-token mode flag (c ∷ cs) x e h = h
 
 -- such a read has no faults
 
-pub placed-faults : (opening : Opening) (mode : Mode) (n : ℕ) (s : Scanned TokenView) → (placed opening mode n s).faults ≡ map (fault_behind n) s.faults
+pub placed-faults : (lookahead : Lookahead) (mode : Mode) (n : ℕ) (s : Scanned TokenView) → (placed lookahead mode n s).faults ≡ map (fault_behind n) s.faults
 placed-faults opens.Template mode n s = refl
 placed-faults opens.Number mode n s = refl
 placed-faults opens.String mode n s = refl
@@ -73,8 +73,8 @@ free-code mode input h =
         let n = place (behind_gap mode input) in
         let s = token_at mode flag (c ∷ cs) in
         ap (λ faults. faults ++ (token_found mode flag n (c ∷ cs)).faults) none
-        ∙ placed-faults (opening mode flag (c ∷ cs)) mode n s
-        ∙ ap (map (fault_behind n)) (free-parts (opening mode flag (c ∷ cs)) (c ∷ cs) s free).faults
+        ∙ placed-faults (lookahead mode flag (c ∷ cs)) mode n s
+        ∙ ap (map (fault_behind n)) (free-parts (lookahead mode flag (c ∷ cs)) (c ∷ cs) s free).faults
 
 pub free_faults : (mode : Mode) (input : Cursor) → is_free mode input ≡ true → (reading mode input).faults ≡ []
 free_faults mode input h = go (stands_shebang mode (rest input)) h
@@ -85,7 +85,7 @@ free_faults mode input h = go (stands_shebang mode (rest input)) h
 
 -- nor comments
 
-comments-none : (opening : Opening) (mode : Mode) (n : ℕ) (text : Text) (s : Scanned TokenView) → asks_for_none opening text s ≡ true → comments_in opening mode n text ≡ []
+comments-none : (lookahead : Lookahead) (mode : Mode) (n : ℕ) (text : Text) (s : Scanned TokenView) → asks_for_none lookahead text s ≡ true → comments_in lookahead mode n text ≡ []
 comments-none opens.Template mode n text s h = refl
 comments-none opens.Number mode n text s h = refl
 comments-none opens.String mode n text s h = refl
@@ -96,7 +96,7 @@ comments-none opens.Other mode n text s h = refl
 pub token_comments-none : (mode : Mode) (flag : Bool) (n : ℕ) (text : Text) → is_free_at mode flag text ≡ true → token_comments mode flag n text ≡ []
 token_comments-none mode flag n text h =
     let s = token_at mode flag text in
-    comments-none (opening mode flag text) mode n text s (free-parts (opening mode flag text) text s h).none
+    comments-none (lookahead mode flag text) mode n text s (free-parts (lookahead mode flag text) text s h).none
 
 uncommented : (mode : Mode) (input : Cursor) → is_free_code mode input ≡ true → (reading_code mode input).comments ≡ []
 unfolding reading_code
@@ -151,11 +151,11 @@ shebang-accepted n text error faults extent line_break h = go (opens_shebang tex
     go false h = let value : Err error ≡ Ok None = ap (λ v. v.value) h in cc
 
 -- where a shebang was found, it is what a read finds
-pub shebang-stands : (mode : Mode) (input : Cursor) (t : SpannedView) → mode.none_given ≡ true → Some t ≡ cond (opens_shebang (rest input)) (shebang_reading input).found None
+pub shebang-stands : (mode : Mode) (input : Cursor) (t : SpannedView) → mode.shebang_allowed ≡ true → Some t ≡ cond (opens_shebang (rest input)) (shebang_reading input).found None
     → reading mode input ≡ shebang_reading input
-shebang-stands mode input t none found = go mode.none_given (opens_shebang (rest input)) none found
+shebang-stands mode input t none found = go mode.shebang_allowed (opens_shebang (rest input)) none found
   where
-    go : (none_given opens : Bool) → none_given ≡ true → Some t ≡ cond opens (shebang_reading input).found None → reading_if (none_given && opens) mode input ≡ shebang_reading input
+    go : (shebang_allowed opens : Bool) → shebang_allowed ≡ true → Some t ≡ cond opens (shebang_reading input).found None → reading_if (shebang_allowed && opens) mode input ≡ shebang_reading input
     go false opens none found = cc
     go true false none found = cc
     go true true none found = refl
@@ -171,9 +171,9 @@ pub free-kept : (mode : Mode) (old now : Cursor) → None ≡ cond (opens_sheban
 free-kept mode old now none moved h =
     let stands = none-stands (opens_shebang (rest old)) (spanned false (found_at token_behind (place old) (shebang_token (rest old)))) none in
     let same : now ≡ old = moved ∙ ap (λ b. cond b (shebang_reading old).input old) stands in
-    let kept = go mode.none_given (ap (λ b. (mode.none_given && b) || is_free_code mode old) (sym stands) ∙ h) in
+    let kept = go mode.shebang_allowed (ap (λ b. (mode.shebang_allowed && b) || is_free_code mode old) (sym stands) ∙ h) in
     ap (is_free_code mode) same ∙ kept
   where
-    go : (none_given : Bool) → ((none_given && false) || is_free_code mode old) ≡ true → is_free_code mode old ≡ true
+    go : (shebang_allowed : Bool) → ((shebang_allowed && false) || is_free_code mode old) ≡ true → is_free_code mode old ≡ true
     go true h = h
     go false h = h

@@ -14,13 +14,13 @@ use Rattle.ecma_scan.specs.Punctuators.{Punctuator, found_punctuator}
 use Rattle.ecma_scan.proofs.PunctuatorLemmas.{passed-zero}
 use Rattle.ecma_scan.specs.Locality.{is_accepted}
 use Rattle.ecma_scan.specs.Bars.{bars_at, bars_error, bars_faults, bars_spelling, bars_token, found_bars, opens_bars}
-use Rattle.ecma_scan.specs.Readings.{BarsView, bars_found_at}
+use Rattle.ecma_scan.specs.GapRecords.{BarsView, bars_found_at}
 use Rattle.ecma_scan.specs.declared.gap_mode.GapMode.{GapMode}
 use Rattle.ecma_scan.specs.Numbers.{is_separator}
 use Rattle.ecma_scan.specs.Words.{identifier_name}
 use Rattle.ecma_state.specs.TokenAt.{is_empty, is_borrowed, is_borrowed_name, is_free_token, asks_for_none, as_token, word_value, punctuator_or_stray, stray}
-use Rattle.ecma_state.specs.declared.opening.Opening.{Opening}
-use Rattle.ecma_state.specs.declared.opening.Opening.TheVariants as opens
+use Rattle.ecma_state.specs.declared.lookahead.Lookahead.{Lookahead}
+use Rattle.ecma_state.specs.declared.lookahead.Lookahead.TheVariants as opens
 
 abbrev pub view : {A : Type 0} → Result A ErrorView → List Fault → Span → Bool → FoundView A
 view value faults extent line_break = record { value = value; faults = faults; extent = extent; line_break = line_break }
@@ -115,12 +115,12 @@ pub empty-none : {A : Type 0} → (items : List A) → is_empty items ≡ true �
 empty-none [] h = refl
 empty-none (item ∷ items) h = cc
 
-pub record IsFreeToken (opened : Opening) (text : Text) (s : Scanned TokenView) : Type 0 where
+pub record IsFreeToken (opened : Lookahead) (text : Text) (s : Scanned TokenView) : Type 0 where
   pub ok : is_ok s.value ≡ true
   pub faults : s.faults ≡ []
   pub none : asks_for_none opened text s ≡ true
 
-pub free-parts : (opened : Opening) (text : Text) (s : Scanned TokenView) → is_free_token opened text s ≡ true → IsFreeToken opened text s
+pub free-parts : (opened : Lookahead) (text : Text) (s : Scanned TokenView) → is_free_token opened text s ≡ true → IsFreeToken opened text s
 free-parts opened text s h =
     let one = and-parts (is_ok s.value) _ h in
     let two = and-parts (is_empty s.faults) _ one.1 in

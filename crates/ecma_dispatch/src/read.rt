@@ -7,7 +7,7 @@ ghost use Rattle.ecma_place.specs.Cursor.{rest, place};
 ghost use Rattle.ecma_scan.specs.Expressions.{opens_expression};
 ghost use Rattle.ecma_scan.specs.Shebangs.{opens_shebang};
 ghost use Rattle.ecma_state.specs.Reading.{reading, reading_again, reading_code, shebang_reading, spanned, is_free, is_free_again, is_free_code};
-ghost use Rattle.ecma_state.specs.TokenAt as grammar;
+ghost use Rattle.ecma_state.specs.TokenAt as tokens;
 
 use crate::token_at::{Taken, token_at};
 use ecma_place::{Comment, StringInput};
@@ -41,7 +41,7 @@ pub struct Besides<'a> {
 
 /// A refused text is a token too.
 fn token_of<'a>(value: Result<Token<'a>, Error<'a>>) -> Token<'a>
-    ensures { token_view result ≡ grammar.token_of (value_view token_view value.entry) }
+    ensures { token_view result ≡ tokens.token_of (value_view token_view value.entry) }
 {
     match value {
         Ok(token) => token,
@@ -172,7 +172,7 @@ pub fn read_from<'a>(
     ensures moved { OnOk result (input.new ≡ (reading mode.now input.old).input) }
     ensures free { is_free mode.now input.old ≡ true → IsOk result }
 {
-    if !mode.none_given {
+    if !mode.shebang_allowed {
         return read_code(alloc, input, mode);
     }
     match shebang_at(alloc, input)? {

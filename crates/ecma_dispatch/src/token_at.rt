@@ -6,21 +6,21 @@ ghost use Rattle.ecma_scan.specs.Found.{found_view, found_at, token_behind, valu
 ghost use Rattle.ecma_scan.specs.Bars.{opens_bars, bars_comments_at, bars_spelling, bars_token};
 ghost use Rattle.ecma_scan.specs.Words.{identifier_name, opens_word};
 ghost use Rattle.ecma_state.specs.Mode.{gap_mode};
-ghost use Rattle.ecma_state.specs.TokenAt as grammar;
+ghost use Rattle.ecma_state.specs.TokenAt as tokens;
 
 use ecma_place::{Comment, Span, StringInput};
 use ecma_scan::{
     Bars, Found, scan_bars, scan_number, scan_punct, scan_string, scan_template, scan_word,
 };
+use ecma_state::lookahead::Lookahead;
 use ecma_state::mode::Mode;
-use ecma_state::opening::Opening;
 use ecma_syntax::Word;
 use ecma_token::{Error, SyntaxError, Token};
 use std::alloc::{AllocError, Global};
 
 /// A word as a token, or why it is refused.
 fn word_token<'a>(value: Result<Word<'a>, Error<'a>>) -> Result<Token<'a>, Error<'a>>
-    ensures { value_view token_view result ≡ grammar.word_value (value_view (λ w. w) value.entry) }
+    ensures { value_view token_view result ≡ tokens.word_value (value_view (λ w. w) value.entry) }
 {
     match value {
         Ok(word) => Ok(Token::Word(word)),
@@ -36,10 +36,10 @@ fn word_at<'a>(
 ) -> Result<Found<'a, Token<'a>>, AllocError>
     requires { opens_word (rest input.old) ≡ true }
     ensures found { IfOk result (λ f. found_view token_view f ≡
-        found_at token_behind (place input.old) (grammar.word_token mode.now (rest input.old))) }
+        found_at token_behind (place input.old) (tokens.word_token mode.now (rest input.old))) }
     ensures moved { OnOk result
-        (input.new ≡ passed (length (grammar.word_token mode.now (rest input.old)).spelling) input.old) }
-    ensures free { grammar.is_borrowed_name (identifier_name (rest input.old)).value ≡ true → IsOk result }
+        (input.new ≡ passed (length (tokens.word_token mode.now (rest input.old)).spelling) input.old) }
+    ensures free { tokens.is_borrowed_name (identifier_name (rest input.old)).value ≡ true → IsOk result }
 {
     let found = scan_word(alloc, input, &mode.context)?;
     let Found {
@@ -64,9 +64,9 @@ fn stray_at<'a>(
 ) -> Result<Found<'a, Token<'a>>, AllocError>
     requires { slice_get (rest input.old) 0 ≡ Some c }
     ensures found { IfOk result (λ f. found_view token_view f ≡
-        found_at token_behind (place input.old) (grammar.stray (rest input.old))) }
+        found_at token_behind (place input.old) (tokens.stray (rest input.old))) }
     ensures moved { OnOk result
-        (input.new ≡ passed (length (grammar.stray (rest input.old)).spelling) input.old) }
+        (input.new ≡ passed (length (tokens.stray (rest input.old)).spelling) input.old) }
 {
     let start = input.cur_pos();
     let error = Error::new(
@@ -92,10 +92,10 @@ fn punctuator_at<'a>(
 ) -> Result<Found<'a, Token<'a>>, AllocError>
     requires { slice_get (rest input.old) 0 ≡ Some c }
     ensures found { IfOk result (λ f. found_view token_view f ≡
-        found_at token_behind (place input.old) (grammar.other_token mode.now (rest input.old))) }
+        found_at token_behind (place input.old) (tokens.other_token mode.now (rest input.old))) }
     ensures moved { OnOk result
-        (input.new ≡ passed (length (grammar.other_token mode.now (rest input.old)).spelling) input.old) }
-    ensures free { is_ok (grammar.other_token mode.now (rest input.old)).value ≡ true → IsOk result }
+        (input.new ≡ passed (length (tokens.other_token mode.now (rest input.old)).spelling) input.old) }
+    ensures free { is_ok (tokens.other_token mode.now (rest input.old)).value ≡ true → IsOk result }
 {
     let Found {
         value,
@@ -162,25 +162,27 @@ fn plain_at<'a>(
     alloc: Global,
     input: &mut StringInput<'a>,
     mode: &Mode,
-    opening: Opening,
+    lookahead: Lookahead,
     c: char,
 ) -> Result<Found<'a, Token<'a>>, AllocError>
     requires first { slice_get (rest input.old) 0 ≡ Some c }
     requires opened { mode.now.opened.0 ≤ place input.old }
-    requires opens { grammar.Opens opening (rest input.old) }
+    requires opens { tokens.Opens lookahead (rest input.old) }
     ensures found { IfOk result (λ f. found_view token_view f ≡
-        grammar.placed opening mode.now (place input.old) (grammar.read_opened opening mode.now (rest input.old))) }
+        tokens.placed lookahead mode.now (place input.old) (tokens.read_opened lookahead mode.now (rest input.old))) }
     ensures moved { OnOk result
-        (input.new ≡ passed (length (grammar.read_opened opening mode.now (rest input.old)).spelling) input.old) }
-    ensures free { grammar.is_free_token opening (rest input.old) (grammar.read_opened opening mode.now (rest input.old)) ≡ true → IsOk result }
+        (input.new ≡ passed (length (tokens.read_opened lookahead mode.now (rest input.old)).spelling) input.old) }
+    ensures free { tokens.is_free_token lookahead (rest input.old) (tokens.read_opened lookahead mode.now (rest input.old)) ≡ true → IsOk result }
 {
-    match opening {
-        Opening::Template => { scan_template(alloc, input, mode.opened, mode.is_after_template()) }
-        Opening::Number => scan_number(alloc, input, mode.ts1085(), mode.settings.numbers),
-        Opening::String => scan_string(alloc, input),
-        Opening::Word => word_at(alloc, input, mode),
-        Opening::Bars => unreachable!(),
-        Opening::Other => punctuator_at(alloc, input, mode, c),
+    match lookahead {
+        Lookahead::Template => {
+            scan_template(alloc, input, mode.opened, mode.is_after_template())
+        }
+        Lookahead::Number => scan_number(alloc, input, mode.ts1085(), mode.settings.numbers),
+        Lookahead::String => scan_string(alloc, input),
+        Lookahead::Word => word_at(alloc, input, mode),
+        Lookahead::Bars => unreachable!(),
+        Lookahead::Other => punctuator_at(alloc, input, mode, c),
     }
 }
 
@@ -195,19 +197,19 @@ pub fn token_at<'a>(
     requires first { slice_get (rest input.old) 0 ≡ Some c }
     requires opened { mode.now.opened.0 ≤ place input.old }
     ensures found { IfOk result (λ t. found_view token_view t.found ≡
-        grammar.token_found mode.now flag (place input.old) (rest input.old)) }
+        tokens.token_found mode.now flag (place input.old) (rest input.old)) }
     ensures comments { IfOk result (λ t. t.comments.items ≡
-        grammar.token_comments mode.now flag (place input.old) (rest input.old)) }
+        tokens.token_comments mode.now flag (place input.old) (rest input.old)) }
     ensures moved { OnOk result
-        (input.new ≡ passed (length (grammar.token_at mode.now flag (rest input.old)).spelling) input.old) }
-    ensures free { grammar.is_free_at mode.now flag (rest input.old) ≡ true → IsOk result }
+        (input.new ≡ passed (length (tokens.token_at mode.now flag (rest input.old)).spelling) input.old) }
+    ensures free { tokens.is_free_at mode.now flag (rest input.old) ≡ true → IsOk result }
 {
-    let opening = Opening::at(input, mode, flag, c);
-    if let Opening::Bars = opening {
+    let lookahead = Lookahead::at(input, mode, flag, c);
+    if let Lookahead::Bars = lookahead {
         return bars_at(alloc, input, mode);
     }
     Ok(Taken {
-        found: plain_at(alloc, input, mode, opening, c)?,
+        found: plain_at(alloc, input, mode, lookahead, c)?,
         comments: Vec::new(alloc),
     })
 }

@@ -7,8 +7,8 @@ use Rattle.ecma_place.specs.Character.{is_line_terminator}
 use Rattle.ecma_place.specs.Text.{Text, byte_len}
 use Rattle.ecma_place.proofs.MoveLemmas.{byte_len-append}
 use Rattle.ecma_grammar.specs.Fronts.{after, next_is, next_passes}
-use Rattle.ecma_grammar.specs.Escapes.{Use, InString, InTemplate, InWord, Escape, Accepted, Refused, is_hex_digit, is_octal_digit, is_surrogate, hex_front, hex_escape, code_escape, four_escape, braced_escape, out_of_range, no_brace, unicode_escape, octal_digits, octal_escape, legacy_escape, surrogate_faults, escape_of, escape_behind, Opening, opening, UnicodeLetter, HexLetter, OctalDigit, LineEnd, Single}
-use Rattle.ecma_escape.specs.EscapeAnswers.{digit_front}
+use Rattle.ecma_grammar.specs.Escapes.{Use, InString, InTemplate, InWord, Escape, Accepted, Refused, is_hex_digit, is_octal_digit, is_surrogate, hex_front, hex_escape, code_escape, four_escape, braced_escape, out_of_range, no_brace, unicode_escape, octal_digits, octal_escape, legacy_escape, surrogate_faults, escape_of, escape_behind, Lead, lead, UnicodeLetter, HexLetter, OctalDigit, LineEnd, Single}
+use Rattle.ecma_escape.specs.EscapeMeanings.{digit_front}
 use Rattle.ecma_escape.proofs.EscapeReading.{front-bytes, hex-bytes, digit_ascii}
 
 abbrev IsAscii : Text → Type 0
@@ -148,9 +148,9 @@ unicode_named text = go (next_is 123 text)
 
 pub word_named : (text : Text) → IsNamed (escape_behind InWord text)
 word_named [] = tt
-word_named (c ∷ cs) = go (opening c)
+word_named (c ∷ cs) = go (lead c)
   where
-    go : (o : Opening) → IsNamed (escape_of InWord o c cs)
+    go : (o : Lead) → IsNamed (escape_of InWord o c cs)
     go UnicodeLetter = unicode_named cs
     go HexLetter = tt
     go OctalDigit = tt

@@ -10,27 +10,27 @@ use Rattle.ecma_place.specs.Character.{is_line_terminator}
 use Rattle.ecma_place.specs.Text.{Text}
 use Rattle.ecma_place.specs.Cursor.{Cursor, rest, passed}
 use Rattle.ecma_place.proofs.RunLemmas.{first-cons, passed-later-by}
-use Rattle.ecma_escape.specs.declared.escape.Answer.{Answer}
-use Rattle.ecma_escape.specs.declared.escape.Answer.TheVariants as answer
+use Rattle.ecma_escape.specs.declared.escape.Meaning.{Meaning}
+use Rattle.ecma_escape.specs.declared.escape.Meaning.TheVariants as answer
 use Rattle.ecma_escape.specs.declared.escape.Refusal.TheVariants as because
 use Rattle.ecma_grammar.specs.Found.{error_over}
 use Rattle.ecma_grammar.specs.Fronts.{next_is, after}
-use Rattle.ecma_grammar.specs.Escapes.{Use, Escape, Refused, two_digits_wanted, four_digits_wanted, code_point_wanted, escape_spelling, is_surrogate, hex_escape, code_escape, four_escape, braced_escape, unicode_refusal, unicode_escape, out_of_range, no_brace, escape_of, escape_behind, opening, HexLetter, OctalDigit, LineEnd, Single, InWord, hex_front, is_hex_digit, is_octal_digit, octal_digits, octal_front, line_end}
+use Rattle.ecma_grammar.specs.Escapes.{Use, Escape, Refused, two_digits_wanted, four_digits_wanted, code_point_wanted, escape_spelling, is_surrogate, hex_escape, code_escape, four_escape, braced_escape, unicode_refusal, unicode_escape, out_of_range, no_brace, escape_of, escape_behind, lead, HexLetter, OctalDigit, LineEnd, Single, InWord, hex_front, is_hex_digit, is_octal_digit, octal_digits, octal_front, line_end}
 use Rattle.ecma_token.specs.View.{plain}
 use Rattle.ecma_token.specs.declared.error.SyntaxError.{ExpectedUnicodeEscape, InvalidStrEscape}
 use Rattle.ecma_escape.specs.declared.escape.Use.{Use as Place}
 use Rattle.ecma_escape.specs.declared.escape.Use.TheVariants as place
 use Rattle.ecma_grammar.specs.Found.{error_at}
-use Rattle.ecma_escape.specs.EscapeAnswers.{answered, refusal_error, use_of, is_word, digit_front}
+use Rattle.ecma_escape.specs.EscapeMeanings.{answered, refusal_error, use_of, is_word, digit_front}
 use Rattle.ecma_escape.proofs.EscapeReading.{parsed-ok, parsed-err}
 use Rattle.ecma_grammar.proofs.Fronts.{after_drop}
 use Rattle.ecma_grammar.proofs.SignLemmas.{rest-behind}
 
 -- an escape that is answered so, and n characters long
-abbrev pub Answers : Use → Answer → ℕ → Escape → Type 0
-Answers within a n e = (answered within (escape_spelling e) a ≡ e) × (length (escape_spelling e) ≡ n)
+abbrev pub Means : Use → Meaning → ℕ → Escape → Type 0
+Means within a n e = (answered within (escape_spelling e) a ≡ e) × (length (escape_spelling e) ≡ n)
 
-abbrev pub StandsFor : Answer → ℕ → Type 0
+abbrev pub StandsFor : Meaning → ℕ → Type 0
 StandsFor a code = (within : Use) (spelling : Text) → answered within spelling a ≡ code_escape within spelling code
 
 -- a cursor that went past all but the first k characters
@@ -46,11 +46,11 @@ code_spelling within spelling code = go (is_surrogate code) refl
     go true e = rw e refl
     go false e = rw e refl
 
-code_answers : (within : Use) (spelling : Text) (code : ℕ) (a : Answer) → StandsFor a code → Answers within a (length spelling) (code_escape within spelling code)
+code_answers : (within : Use) (spelling : Text) (code : ℕ) (a : Meaning) → StandsFor a code → Means within a (length spelling) (code_escape within spelling code)
 code_answers within spelling code a h = (rw (code_spelling within spelling code) (h within spelling), ap length (code_spelling within spelling code))
 
 -- the same of another escape, and of another length
-as_other : (within : Use) (a : Answer) (m n : ℕ) (e f : Escape) → e ≡ f → m ≡ n → Answers within a m e → Answers within a n f
+as_other : (within : Use) (a : Meaning) (m n : ℕ) (e f : Escape) → e ≡ f → m ≡ n → Means within a m e → Means within a n f
 as_other within a m n e f same size h = rw (← same, ← size) h
 
 two_more : (n : ℕ) → suc (suc n) ≡ 2 + n
@@ -61,12 +61,12 @@ three_more n = omega arith
 
 -- Two digits
 
-pub hex_accepts : (within : Use) (ds : Text) (v : ℕ) → length ds ≡ 2 → v ≡ digits_value 16 ds → Answers within (answer.Character v) (2 + length ds) (hex_escape ds)
+pub hex_accepts : (within : Use) (ds : Text) (v : ℕ) → length ds ≡ 2 → v ≡ digits_value 16 ds → Means within (answer.Character v) (2 + length ds) (hex_escape ds)
 hex_accepts within ds v e is =
     let two : (length ds == 2) ≡ true = eq-eqb (length ds) 2 e in
     rw (two, is) (refl, two_more (length ds))
 
-pub hex_refuses : (within : Use) (ds : Text) → length ds ≢ 2 → Answers within (answer.Refused because.TwoDigits) (2 + length ds) (hex_escape ds)
+pub hex_refuses : (within : Use) (ds : Text) → length ds ≢ 2 → Means within (answer.Refused because.TwoDigits) (2 + length ds) (hex_escape ds)
 hex_refuses within ds not =
     let two : (length ds == 2) ≡ false = ne_eqb (length ds) 2 not in
     let s : Text = codes "\\x" ++ ds in
@@ -74,13 +74,13 @@ hex_refuses within ds not =
 
 -- Four digits
 
-pub four_accepts : (within : Use) (ds : Text) (code : ℕ) (a : Answer) → length ds ≡ 4 → code ≡ digits_value 16 ds → StandsFor a code → Answers within a (2 + length ds) (four_escape within ds)
+pub four_accepts : (within : Use) (ds : Text) (code : ℕ) (a : Meaning) → length ds ≡ 4 → code ≡ digits_value 16 ds → StandsFor a code → Means within a (2 + length ds) (four_escape within ds)
 four_accepts within ds code a e is h =
     let four : (length ds == 4) ≡ true = eq-eqb (length ds) 4 e in
     let found = code_answers within (codes "\\u" ++ ds) code a h in
     rw (four, ← is) (found.0, found.1 ∙ two_more (length ds))
 
-pub four_refuses : (within : Use) (ds : Text) → length ds ≢ 4 → Answers within (answer.Refused because.FourDigits) (2 + length ds) (four_escape within ds)
+pub four_refuses : (within : Use) (ds : Text) → length ds ≢ 4 → Means within (answer.Refused because.FourDigits) (2 + length ds) (four_escape within ds)
 four_refuses within ds not =
     let four : (length ds == 4) ≡ false = ne_eqb (length ds) 4 not in
     let s : Text = codes "\\u" ++ ds in
@@ -94,25 +94,25 @@ short_value k n ds all e l =
 
 -- Braces
 
-pub braced_none : (within : Use) (ds cs : Text) → ds ≡ [] → Answers within (answer.Refused because.NoDigits) (3 + length ds) (braced_escape within ds cs)
+pub braced_none : (within : Use) (ds cs : Text) → ds ≡ [] → Means within (answer.Refused because.NoDigits) (3 + length ds) (braced_escape within ds cs)
 braced_none within ds cs e = rw e (refl, refl)
 
 pub braced_out : (within : Use) (ds cs : Text) → 0 < length ds → nat_lt 0x10_FFFF (digits_value 16 ds) ≡ true
-    → Answers within (answer.Refused because.OutOfRange) (3 + length ds) (braced_escape within ds cs)
+    → Means within (answer.Refused because.OutOfRange) (3 + length ds) (braced_escape within ds cs)
 braced_out within [] cs some e = absurd (omega arith)
 braced_out within (d ∷ ds) cs some e =
     let s : Text = codes "\\u{" ++ (d ∷ ds) in
     rw e (ap (λ n. Refused s (unicode_refusal within code_point_wanted n n)) (three_more (length (d ∷ ds))), three_more (length (d ∷ ds)))
 
 pub braced_open : (within : Use) (ds cs : Text) → 0 < length ds → nat_lt 0x10_FFFF (digits_value 16 ds) ≡ false → next_is 125 cs ≡ false
-    → Answers within (answer.Refused because.NoBrace) (3 + length ds) (braced_escape within ds cs)
+    → Means within (answer.Refused because.NoBrace) (3 + length ds) (braced_escape within ds cs)
 braced_open within [] cs some e n = absurd (omega arith)
 braced_open within (d ∷ ds) cs some e n =
     let s : Text = codes "\\u{" ++ (d ∷ ds) in
     rw (e, n) (ap (λ n. Refused s (refusal_error within because.NoBrace n)) (three_more (length (d ∷ ds))), three_more (length (d ∷ ds)))
 
-pub braced_code : (within : Use) (ds cs : Text) (code : ℕ) (a : Answer) → 0 < length ds → nat_lt 0x10_FFFF (digits_value 16 ds) ≡ false → next_is 125 cs ≡ true
-    → code ≡ digits_value 16 ds → StandsFor a code → Answers within a (3 + (length ds + 1)) (braced_escape within ds cs)
+pub braced_code : (within : Use) (ds cs : Text) (code : ℕ) (a : Meaning) → 0 < length ds → nat_lt 0x10_FFFF (digits_value 16 ds) ≡ false → next_is 125 cs ≡ true
+    → code ≡ digits_value 16 ds → StandsFor a code → Means within a (3 + (length ds + 1)) (braced_escape within ds cs)
 braced_code within [] cs code a some e n is h = absurd (omega arith)
 braced_code within (d ∷ ds) cs code a some e n is h =
     let found = code_answers within (codes "\\u{" ++ ((d ∷ ds) ++ codes "}")) code a h in
@@ -267,7 +267,7 @@ onward-all old one two part whole same first more long =
     let size = ap (λ e. length (escape_spelling e)) same in
     passed-both old one two 1 _ _ first more (omega arith)
 
-pub answers-whole : (within : Use) (a : Answer) (part whole : Escape) → part ≡ whole → answered within (escape_spelling part) a ≡ part → answered within (escape_spelling whole) a ≡ whole
+pub answers-whole : (within : Use) (a : Meaning) (part whole : Escape) → part ≡ whole → answered within (escape_spelling part) a ≡ part → answered within (escape_spelling whole) a ≡ whole
 answers-whole within a part whole same h = rw (← same) h
 
 pub braced_long : (within : Use) (ds cs : Text) → 3 ≤ length (escape_spelling (braced_escape within ds cs))
@@ -285,7 +285,7 @@ unicode-braced within text behind e is = rw (e, is) refl
 pub unicode-four : (within : Use) (text : Text) → next_is 123 text ≡ false → four_escape within (digit_front 16 4 text) ≡ unicode_escape within text
 unicode-four within text e = rw e refl
 
-pub hex-of : (w : Place) (c : ℕ) (cs behind : Text) → is_word w ≡ false → c ≡ 120 → behind ≡ cs → hex_escape (digit_front 16 2 behind) ≡ escape_of (use_of w) (opening c) c cs
+pub hex-of : (w : Place) (c : ℕ) (cs behind : Text) → is_word w ≡ false → c ≡ 120 → behind ≡ cs → hex_escape (digit_front 16 2 behind) ≡ escape_of (use_of w) (lead c) c cs
 hex-of place.InString c cs behind e h is = rw (h, is) refl
 hex-of place.InTemplate c cs behind e h is = rw (h, is) refl
 hex-of place.InWord c cs behind e h is = cc
@@ -295,7 +295,7 @@ at-letter within [] behind e is = cc
 at-letter within (c ∷ cs) behind e is =
     rw (is, eqb-true c 117 e) refl
 
-pub at-other : (within : Use) (text : Text) (c : ℕ) → slice_get text 0 ≡ Some c → escape_of within (opening c) c (drop 1 text) ≡ escape_behind within text
+pub at-other : (within : Use) (text : Text) (c : ℕ) → slice_get text 0 ≡ Some c → escape_of within (lead c) c (drop 1 text) ≡ escape_behind within text
 at-other within [] c e = cc
 at-other within (d ∷ cs) c e =
     let same : d ≡ c = cc in

@@ -11,7 +11,7 @@ use Rattle.ecma_place.specs.Cursor.{Cursor, rest, place, passed, moved_to, index
 use Rattle.ecma_place.proofs.RunLemmas.{passed-later-by, runs, text-passed, further-start, further-step, further-place-le, further-HasPlace}
 use Rattle.ecma_grammar.specs.Fronts.{front, next_passes}
 use Rattle.ecma_grammar.specs.Escapes.{is_hex_digit, hex_front}
-use Rattle.ecma_escape.specs.EscapeAnswers.{is_digit_in, digit_front}
+use Rattle.ecma_escape.specs.EscapeMeanings.{is_digit_in, digit_front}
 use Rattle.ecma_grammar.proofs.Fronts.{front-is, length-take_while}
 
 -- the digits from `now` on, at most `left` of them, end where those from `old` on do

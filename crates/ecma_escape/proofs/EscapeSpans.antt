@@ -15,12 +15,12 @@ use Rattle.ecma_escape.specs.declared.escape.Use.{Use as Place}
 use Rattle.ecma_escape.specs.declared.escape.Use.TheVariants as place_of
 use Rattle.ecma_escape.specs.declared.escape.Refusal.{Refusal}
 use Rattle.ecma_escape.specs.declared.escape.Refusal.TheVariants as because
-use Rattle.ecma_escape.specs.declared.escape.Answer.{Answer}
-use Rattle.ecma_escape.specs.declared.escape.Answer.TheVariants as answer
+use Rattle.ecma_escape.specs.declared.escape.Meaning.{Meaning}
+use Rattle.ecma_escape.specs.declared.escape.Meaning.TheVariants as answer
 use Rattle.ecma_grammar.specs.Found.{Fault, FoundView, error_behind, fault_behind, value_behind, found_at, placeless, span_of}
 use Rattle.ecma_grammar.specs.Fronts.{after, next_is, next_passes}
 use Rattle.ecma_grammar.specs.Escapes.{Use, InString, InTemplate, InWord, Escape, Accepted, Refused, escape_spelling, escape_value, escape_faults, escape_refusal, escape, is_hex_digit, is_octal_digit, is_surrogate, hex_front, hex_escape, code_escape, four_escape, braced_escape, out_of_range, no_brace, unicode_escape, octal_front, octal_digits, octal_escape, legacy_escape, line_end, escape_of, escape_behind, UnicodeLetter, HexLetter, OctalDigit, LineEnd, Single, value_atom, found_escape}
-use Rattle.ecma_escape.specs.EscapeAnswers.{use_of, is_word, answered, refusal_error, opens_escape}
+use Rattle.ecma_escape.specs.EscapeMeanings.{use_of, is_word, answered, refusal_error, opens_escape}
 use Rattle.ecma_escape.specs.EscapeParts.{answer_value, answer_faults}
 use Rattle.ecma_escape.proofs.EscapeBytes.{IsAsciiIfRefused, refused_ascii}
 use Rattle.ecma_grammar.proofs.EscapeLaws.{begins_is, line_length, octal_length, escape_front, escape_some}
@@ -120,7 +120,7 @@ spans within (c ∷ cs) = go (c == 117) (c == 120) (is_octal_digit c) (is_line_t
 
 -- An escape that was read
 
-pub record IsRead (within : Use) (a : Answer) (old now : Cursor) : Type 0 where
+pub record IsRead (within : Use) (a : Meaning) (old now : Cursor) : Type 0 where
   pub opens : opens_escape (rest old) ≡ true
   pub answer : answered within (escape_spelling (escape within (rest old))) a ≡ escape within (rest old)
   pub moved : now ≡ passed (length (escape_spelling (escape within (rest old)))) old
@@ -136,7 +136,7 @@ pub escape-place : (within : Use) (old now : Cursor) → opens_escape (rest old)
 escape-place within old now opens moved =
     place-passed old now _ moved ∙ ap (λ s. place old + byte_len s) (escape-take within (rest old) opens)
 
-pub escape-text : (within : Use) (a : Answer) (old now : Cursor) (from to : ℕ) → IsRead within a old now → from ≡ place old → to ≡ place now
+pub escape-text : (within : Use) (a : Meaning) (old now : Cursor) (from to : ℕ) → IsRead within a old now → from ≡ place old → to ≡ place now
     → encode_utf8_all (slice_range now.text (index_of now from) (index_of now to)) ≡ encode_utf8_all (escape_spelling (escape within (rest old)))
 escape-text within a old now from to r f t = text-passed old now _ from to r.moved f t ∙ ap encode_utf8_all (escape-take within (rest old) r.opens)
 
@@ -168,14 +168,14 @@ refused-error within refusal old now start end v r s e is =
 
 -- What an answer says of the escape
 
-pub value-answered : (within : Use) (spelling : Text) (a : Answer) (e : Escape) → answered within spelling a ≡ e → answer_value (encode_utf8_all spelling) a ≡ encode_utf8_all (escape_value e)
+pub value-answered : (within : Use) (spelling : Text) (a : Meaning) (e : Escape) → answered within spelling a ≡ e → answer_value (encode_utf8_all spelling) a ≡ encode_utf8_all (escape_value e)
 value-answered within spelling answer.Nothing e h = ap (λ x. encode_utf8_all (escape_value x)) h
 value-answered within spelling (answer.Character c) e h = ap (λ x. encode_utf8_all (escape_value x)) h
 value-answered within spelling (answer.Octal c) e h = ap (λ x. encode_utf8_all (escape_value x)) h
 value-answered within spelling answer.Spelling e h = ap (λ x. encode_utf8_all (escape_value x)) h
 value-answered within spelling (answer.Refused refusal) e h = ap (λ x. encode_utf8_all (escape_value x)) h
 
-pub faults-answered : (within : Place) (spelling : Text) (a : Answer) (e : Escape) → is_word within ≡ false → answered (use_of within) spelling a ≡ e → answer_faults a ≡ escape_faults e
+pub faults-answered : (within : Place) (spelling : Text) (a : Meaning) (e : Escape) → is_word within ≡ false → answered (use_of within) spelling a ≡ e → answer_faults a ≡ escape_faults e
 faults-answered within spelling answer.Nothing e w h = ap escape_faults h
 faults-answered within spelling (answer.Character c) e w h = ap escape_faults h
 faults-answered within spelling (answer.Octal c) e w h = ap escape_faults h
@@ -185,19 +185,19 @@ faults-answered place_of.InWord spelling answer.Spelling e w h = cc
 faults-answered within spelling (answer.Refused refusal) e w h = ap escape_faults h
 
 -- the text and the faults behind an escape
-pub value-behind : (within : Use) (a : Answer) (old now : Cursor) (was new spelling : List ℕ) → IsRead within a old now
+pub value-behind : (within : Use) (a : Meaning) (old now : Cursor) (was new spelling : List ℕ) → IsRead within a old now
     → spelling ≡ encode_utf8_all (escape_spelling (escape within (rest old))) → new ≡ was ++ answer_value spelling a
     → new ≡ was ++ encode_utf8_all (escape_value (escape within (rest old)))
 value-behind within a old now was new spelling r s e =
     e ∙ ap (λ l. was ++ answer_value l a) s ∙ ap (λ l. was ++ l) (value-answered within _ a _ r.answer)
 
-pub faults-behind : (within : Place) (a : Answer) (old now : Cursor) (was new : List Fault) (start : ℕ) → IsRead (use_of within) a old now → is_word within ≡ false → start ≡ place old
+pub faults-behind : (within : Place) (a : Meaning) (old now : Cursor) (was new : List Fault) (start : ℕ) → IsRead (use_of within) a old now → is_word within ≡ false → start ≡ place old
     → new ≡ was ++ map (fault_behind start) (answer_faults a)
     → new ≡ was ++ map (fault_behind (place old)) (escape_faults (escape (use_of within) (rest old)))
 faults-behind within a old now was new start r w s e =
     e ∙ ap (λ n. was ++ map (fault_behind n) (answer_faults a)) s ∙ ap (λ l. was ++ map (fault_behind (place old)) l) (faults-answered within _ a _ w r.answer)
 
-pub not-refused : (within : Use) (spelling : Text) (a : Answer) (e : Escape) → answered within spelling a ≡ e → ((refusal : Refusal) → a ≡ answer.Refused refusal → ⊥) → escape_refusal e ≡ None
+pub not-refused : (within : Use) (spelling : Text) (a : Meaning) (e : Escape) → answered within spelling a ≡ e → ((refusal : Refusal) → a ≡ answer.Refused refusal → ⊥) → escape_refusal e ≡ None
 not-refused within spelling answer.Nothing e h not = sym (ap escape_refusal h)
 not-refused within spelling (answer.Character c) e h not = sym (ap escape_refusal h)
 not-refused within spelling (answer.Octal c) e h not = sym (ap escape_refusal h)
@@ -205,21 +205,21 @@ not-refused within spelling answer.Spelling e h not = sym (ap escape_refusal h)
 not-refused within spelling (answer.Refused refusal) e h not = absurd (not refusal refl)
 
 -- the first two characters of an octal escape end at a place
-pub octal-room : (within : Use) (a : Answer) (c : ℕ) (old now : Cursor) → IsRead within a old now → a ≡ answer.Octal c → place old + 2 ≤ place now
+pub octal-room : (within : Use) (a : Meaning) (c : ℕ) (old now : Cursor) → IsRead within a old now → a ≡ answer.Octal c → place old + 2 ≤ place now
 octal-room within a c old now r h =
     let s = escape_spelling (escape within (rest old)) in
     let long : Spans (answered within s (answer.Octal c)) = subst (λ x. Spans (answered within s x)) h (subst Spans (sym r.answer) (spans within (drop 1 (rest old)))) in
     omega (arith, long, escape-place within old now r.opens r.moved, length-le-encodes s)
 
 -- an escape without a value that is not refused passes over a line terminator
-pub nothing-is : (within : Use) (text : Text) (a : Answer) → answered within (escape_spelling (escape within text)) a ≡ escape within text → escape_value (escape within text) ≡ []
+pub nothing-is : (within : Use) (text : Text) (a : Meaning) → answered within (escape_spelling (escape within text)) a ≡ escape within text → escape_value (escape within text) ≡ []
     → escape_refusal (escape within text) ≡ None → a ≡ answer.Nothing
 nothing-is within text a h empty accepted = go a (ap escape_value h ∙ empty) (ap escape_refusal h ∙ accepted)
   where
     spelling : Text
     spelling = escape_spelling (escape within text)
 
-    go : (a : Answer) → escape_value (answered within spelling a) ≡ [] → escape_refusal (answered within spelling a) ≡ None → a ≡ answer.Nothing
+    go : (a : Meaning) → escape_value (answered within spelling a) ≡ [] → escape_refusal (answered within spelling a) ≡ None → a ≡ answer.Nothing
     go answer.Nothing v r = refl
     go (answer.Character c) v r = cc
     go (answer.Octal c) v r = cc

@@ -11,13 +11,13 @@ use Rattle.ecma_place.specs.Cursor.{Cursor, rest, place, passed}
 use Rattle.ecma_token.specs.View.{ErrorView, plain}
 use Rattle.ecma_token.specs.declared.error.SyntaxError.{InvalidIdentChar}
 use Rattle.ecma_escape.specs.declared.escape.Refusal.{Refusal}
-use Rattle.ecma_escape.specs.declared.escape.Answer.{Answer}
-use Rattle.ecma_escape.specs.declared.escape.Answer.TheVariants as answer
+use Rattle.ecma_escape.specs.declared.escape.Meaning.{Meaning}
+use Rattle.ecma_escape.specs.declared.escape.Meaning.TheVariants as answer
 use Rattle.ecma_grammar.specs.declared.found.Blame.TheVariants.{Always}
 use Rattle.ecma_grammar.specs.Found.{Fault, FoundView, error_behind, fault_behind, value_behind, placeless, found_at, span_of}
 use Rattle.ecma_grammar.specs.Pieces.{pieces, spelled}
 use Rattle.ecma_grammar.specs.Escapes.{Escape, Accepted, Refused, InWord, escape, escape_spelling, escape_value, escape_refusal}
-use Rattle.ecma_escape.specs.EscapeAnswers.{opens_escape, answered}
+use Rattle.ecma_escape.specs.EscapeMeanings.{opens_escape, answered}
 use Rattle.ecma_grammar.specs.Strings.{Piece, Plain, Escaped, is_escaped, atom_of, faults_of}
 use Rattle.ecma_grammar.specs.Words.{Part, Backslash, Stop, word_role, may_stand, named_piece, word_piece_of, word_piece, word_cutter, WordEnding, Ended, BadEscape, bad_escape_ending, word_ending_of, word_ending, found_name, identifier_name}
 use Rattle.ecma_escape.specs.PieceParts.{values_from, faults_from, end_from, unless_refused, behind_refused}
@@ -38,7 +38,7 @@ use Rattle.std.proofs.lemmas.Bool.{ne_eqb}
 
 -- The fault of an escape
 
-named-said : (is_first : Bool) (a : Answer) (s : Text) (e : Escape) (p q : ℕ) → answered InWord s a ≡ e → IsNamed e → q ≡ p + byte_len s → ((refusal : Refusal) → a ≡ answer.Refused refusal → ⊥)
+named-said : (is_first : Bool) (a : Meaning) (s : Text) (e : Escape) (p q : ℕ) → answered InWord s a ≡ e → IsNamed e → q ≡ p + byte_len s → ((refusal : Refusal) → a ≡ answer.Refused refusal → ⊥)
     → named_faults (is_named is_first a) p q ≡ map (fault_behind p) (faults_in (named_piece is_first e))
 named-said is_first answer.Nothing s e p q h n at not = absurd (subst IsNamed (sym h) n)
 named-said is_first (answer.Octal c) s e p q h n at not = let n' = subst IsNamed (sym h) n in cc
@@ -61,7 +61,7 @@ named-said is_first answer.Spelling (c ∷ (d ∷ cs)) e p q h n at not =
     ap (λ a. fault a q ∷ []) (let same : p ≡ p + 0 = omega arith in same) ∙ ap (λ b. fault (p + 0) b ∷ []) there
     ∙ ap (λ x. map (fault_behind p) (faults_in (named_piece is_first x))) h
 
-pub name-faults : (is_first : Bool) (a : Answer) (old now : Cursor) (was new : List Fault) (start end : ℕ) → IsRead InWord a old now → ((refusal : Refusal) → a ≡ answer.Refused refusal → ⊥) → start ≡ place old → end ≡ place now
+pub name-faults : (is_first : Bool) (a : Meaning) (old now : Cursor) (was new : List Fault) (start end : ℕ) → IsRead InWord a old now → ((refusal : Refusal) → a ≡ answer.Refused refusal → ⊥) → start ≡ place old → end ≡ place now
     → new ≡ was ++ named_faults (is_named is_first a) start end
     → new ≡ was ++ map (fault_behind (place old)) (faults_in (named_piece is_first (escape InWord (rest old))))
 name-faults is_first a old now was new start end r not s e n =

@@ -12,7 +12,7 @@ use Rattle.ecma_place.specs.Run.{is_in_class}
 use Rattle.ecma_place.specs.declared.run.ByteClass.TheVariants.{Part}
 use Rattle.ecma_place.proofs.ChunkLemmas.{chunk-run}
 use Rattle.ecma_place.proofs.ClassLemmas.{ascii-run, part_ascii}
-use Rattle.ecma_escape.specs.EscapeAnswers.{opens_escape}
+use Rattle.ecma_escape.specs.EscapeMeanings.{opens_escape}
 use Rattle.ecma_grammar.proofs.Fronts.{length-take_while, take_while-front}
 use Rattle.ecma_escape.proofs.NameRuns.{part-end}
 

@@ -14,7 +14,7 @@ use Rattle.ecma_token.specs.View.{ErrorView}
 use Rattle.ecma_grammar.specs.Found.{Fault, error_behind, fault_behind}
 use Rattle.ecma_grammar.specs.Pieces.{pieces}
 use Rattle.ecma_grammar.specs.Escapes.{Escape, Accepted, Refused, InString, escape, escape_spelling, escape_value, escape_faults, escape_refusal}
-use Rattle.ecma_escape.specs.EscapeAnswers.{opens_escape}
+use Rattle.ecma_escape.specs.EscapeMeanings.{opens_escape}
 use Rattle.ecma_grammar.specs.Strings.{Piece, Plain, Escaped, is_escaped, value_of, atom_of, escaped_piece, Role, Quote, Backslash, Break, Itself, role, piece_of, string_piece, Ending, Closed, Unclosed, BadEscape, bad_escape_ending, ending_of, ending}
 use Rattle.ecma_escape.specs.PieceParts.{values_from, faults_from, end_from, quoted, unless_refused, behind_refused, ending_from, text_from, atom_from, behind_pieces}
 use Rattle.ecma_grammar.proofs.EscapeLaws.{begins_is, escape_some}

@@ -19,13 +19,13 @@ use Rattle.ecma_grammar.specs.Fronts.{front, after, next_is, next_passes}
 use Rattle.ecma_grammar.specs.Locality.{is_clean, is_accepted, has_clean_faults, separates}
 use Rattle.ecma_grammar.specs.Pieces.{pieces, spelled, remainder}
 use Rattle.ecma_grammar.specs.Cutters.{IsCutter, ReadsInOrder}
-use Rattle.ecma_grammar.specs.Escapes.{Escape, Accepted, Refused, InWord, escape_spelling, Opening, UnicodeLetter, HexLetter, OctalDigit, LineEnd, Single, opening, escape_of, escape_behind, unicode_escape}
+use Rattle.ecma_grammar.specs.Escapes.{Escape, Accepted, Refused, InWord, escape_spelling, Lead, UnicodeLetter, HexLetter, OctalDigit, LineEnd, Single, lead, escape_of, escape_behind, unicode_escape}
 use Rattle.ecma_grammar.specs.Strings.{Piece, Plain, Escaped, piece_text, value_of, faults_of, atom_of, is_escaped}
 use Rattle.ecma_grammar.specs.Words.{WordRole, Part, Backslash, Stop, word_role, named_piece, word_piece_of, word_piece, word_cutter, WordEnding, Ended, BadEscape, bad_escape_ending, word_ending_of, word_ending, found_name, word_pieces, identifier_name, owned_word, word_value, found_word, word, WordTiles, WordIsPieces, WordIsFront, NameIsLocal, WordIsLocal, WordIsItsRow, PlainWordIsItsRow}
 use Rattle.ecma_grammar.proofs.Agreement.{Agree, agree_less, agree_behind}
 use Rattle.ecma_grammar.proofs.Fronts.{separated, after_drop}
 use Rattle.ecma_grammar.proofs.PieceLemmas.{FrontIf, is_cutter, pieces_in_order, cut, tiling, maximal}
-use Rattle.ecma_grammar.proofs.EscapeLaws.{is_accepted_escape, IsFrontOf, Names, opening_names, unicode_front, unicode_accepted_again, accepted_size, escape_front, front_begins}
+use Rattle.ecma_grammar.proofs.EscapeLaws.{is_accepted_escape, IsFrontOf, Names, lead_names, unicode_front, unicode_accepted_again, accepted_size, escape_front, front_begins}
 
 backslash_is : (c : ℕ) → word_role c ≡ Backslash → 92 ≡ c
 backslash_is c h = go (is_ident_part c) (c == 92) refl h
@@ -46,7 +46,7 @@ named_text is_first (Accepted spelling (c ∷ []) faults) piece h = (refl, writt
 named_text is_first (Accepted spelling (c ∷ d ∷ ds) faults) piece h = let same : Escaped spelling (c ∷ d ∷ ds) faults ≡ piece = cc in (refl, ap piece_text same)
 
 -- an escape that is a piece of a word names a code point
-of_named : (is_first : Bool) (o : Opening) (c : ℕ) (cs : Text) (piece : Piece) → named_piece is_first (escape_of InWord o c cs) ≡ Some piece → o ≡ UnicodeLetter
+of_named : (is_first : Bool) (o : Lead) (c : ℕ) (cs : Text) (piece : Piece) → named_piece is_first (escape_of InWord o c cs) ≡ Some piece → o ≡ UnicodeLetter
 of_named is_first UnicodeLetter c cs piece h = refl
 of_named is_first HexLetter c cs piece h = cc
 of_named is_first OctalDigit c cs piece h = cc
@@ -57,8 +57,8 @@ named_unicode : (is_first : Bool) (t : Text) (piece : Piece) → named_piece is_
     → (cs : Text) × (t ≡ 117 ∷ cs) × (named_piece is_first (unicode_escape InWord cs) ≡ Some piece)
 named_unicode is_first [] piece h = cc
 named_unicode is_first (c ∷ cs) piece h =
-    let o : opening c ≡ UnicodeLetter = of_named is_first (opening c) c cs piece h in
-    let name : 117 ≡ c = subst (λ x. Names x c) o (opening_names c) in
+    let o : lead c ≡ UnicodeLetter = of_named is_first (lead c) c cs piece h in
+    let name : 117 ≡ c = subst (λ x. Names x c) o (lead_names c) in
     (cs, ap (λ x. x ∷ cs) (sym name), subst (λ x. named_piece is_first (escape_of InWord x c cs) ≡ Some piece) o h)
 
 -- what such a piece reads is a front of the text at its backslash

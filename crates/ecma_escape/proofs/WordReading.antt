@@ -20,12 +20,12 @@ use Rattle.ecma_syntax.specs.declared.word.Word.TheVariants as word_of_text
 use Rattle.ecma_syntax.proofs.Words.{word_of-kind}
 use Rattle.ecma_token.specs.View.{ErrorView, plain}
 use Rattle.ecma_token.specs.declared.error.SyntaxError.{EscapeInReservedWord}
-use Rattle.ecma_escape.specs.EscapeAnswers.{opens_escape}
+use Rattle.ecma_escape.specs.EscapeMeanings.{opens_escape}
 use Rattle.ecma_grammar.specs.Found.{FoundView, Scanned, fault_behind, value_behind, placeless, found_at, scanned, span_of}
 use Rattle.ecma_grammar.specs.Fronts.{next_is}
 use Rattle.ecma_escape.specs.NameParts.{word_at}
 use Rattle.ecma_grammar.specs.Words.{owned_word, word, word_value, found_word}
-use Rattle.ecma_grammar.proofs.AttachmentLemmas.{after-run}
+use Rattle.ecma_grammar.proofs.ForNextLemmas.{after-run}
 use Rattle.ecma_grammar.proofs.Fronts.{front-is}
 use Rattle.ecma_escape.proofs.WordLaws.{plain_word_is_its_row}
 

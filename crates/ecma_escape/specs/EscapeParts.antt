@@ -2,14 +2,14 @@
 use Rattle.std.specs.Prelude.{ℕ, Bool, true, false, List, [], ◌∷◌, encode_utf8_all}
 use Rattle.ecma_token.specs.View.{plain}
 use Rattle.ecma_token.specs.declared.error.SyntaxError.{LegacyOctal}
-use Rattle.ecma_escape.specs.declared.escape.Answer.{Answer}
-use Rattle.ecma_escape.specs.declared.escape.Answer.TheVariants as answer
+use Rattle.ecma_escape.specs.declared.escape.Meaning.{Meaning}
+use Rattle.ecma_escape.specs.declared.escape.Meaning.TheVariants as answer
 use Rattle.ecma_grammar.specs.declared.found.Blame.TheVariants.{Strict}
 use Rattle.ecma_grammar.specs.Found.{Fault, error_over}
 use Rattle.ecma_grammar.specs.Escapes.{Use, InString, InTemplate}
 
 -- what an escape in a string or a template stands for that is answered so and written with these bytes
-abbrev pub answer_value : List ℕ → Answer → List ℕ
+abbrev pub answer_value : List ℕ → Meaning → List ℕ
 answer_value spelling answer.Nothing = []
 answer_value spelling (answer.Character c) = encode_utf8_all (c ∷ [])
 answer_value spelling (answer.Octal c) = encode_utf8_all (c ∷ [])
@@ -17,7 +17,7 @@ answer_value spelling answer.Spelling = spelling
 answer_value spelling (answer.Refused refusal) = []
 
 -- what is said of it
-abbrev pub answer_faults : Answer → List Fault
+abbrev pub answer_faults : Meaning → List Fault
 answer_faults answer.Nothing = []
 answer_faults (answer.Character c) = []
 answer_faults (answer.Octal c) = record { blame = Strict; error = error_over (plain LegacyOctal) 2 } ∷ []

@@ -1,4 +1,4 @@
-pub mod EscapeAnswers
+pub mod EscapeMeanings
 pub mod EscapeParts
 pub mod NameParts
 pub mod PieceParts

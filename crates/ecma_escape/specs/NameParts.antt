@@ -11,8 +11,8 @@ use Rattle.ecma_syntax.specs.declared.context.Context.{Context}
 use Rattle.ecma_syntax.specs.declared.word.Word.{Word}
 use Rattle.ecma_token.specs.View.{ErrorView, plain}
 use Rattle.ecma_token.specs.declared.error.SyntaxError.{InvalidIdentChar, EscapeInReservedWord}
-use Rattle.ecma_escape.specs.declared.escape.Answer.{Answer}
-use Rattle.ecma_escape.specs.declared.escape.Answer.TheVariants as answer
+use Rattle.ecma_escape.specs.declared.escape.Meaning.{Meaning}
+use Rattle.ecma_escape.specs.declared.escape.Meaning.TheVariants as answer
 use Rattle.ecma_grammar.specs.declared.found.Blame.TheVariants.{Always}
 use Rattle.ecma_grammar.specs.Found.{Fault, span_of}
 use Rattle.ecma_grammar.specs.Pieces.{pieces}
@@ -27,7 +27,7 @@ faults_in None = []
 faults_in (Some piece) = piece_faults piece
 
 -- what is answered of an escape is a character that may be named here
-abbrev pub is_named : Bool → Answer → Bool
+abbrev pub is_named : Bool → Meaning → Bool
 is_named is_first (answer.Character c) = may_stand is_first c
 is_named is_first answer.Nothing = false
 is_named is_first (answer.Octal c) = false

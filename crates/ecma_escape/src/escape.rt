@@ -4,15 +4,15 @@ ghost use Rattle.std.specs.Str.Parse.{AllDigits, digits_value};
 ghost use Rattle.ecma_place.specs.Cursor.{rest, passed};
 ghost use Rattle.ecma_place.specs.Text.{Text};
 ghost use Rattle.ecma_grammar.specs.Fronts.{next_passes, after};
-ghost use Rattle.ecma_grammar.specs.Escapes as grammar;
+ghost use Rattle.ecma_grammar.specs.Escapes as escapes;
 ghost use Rattle.std.specs.Prelude.{ℕ, ◌^◌, IfOk, OnErr, OnOk, IsOk, Ok, encode_utf8_all, [], ◌∷◌, ◌++◌, ◌+◌, map, option_map, string_bytes};
 ghost use Rattle.ecma_place.specs.Cursor.{place};
 ghost use Rattle.ecma_token.specs.View.{kind_view, error_view};
 ghost use Rattle.ecma_grammar.specs.Found.{found_view, found_at, placeless, fault_view, fault_behind, error_behind, span_behind};
-ghost use Rattle.ecma_escape.specs.EscapeAnswers.{refusal_kind, refusal_error, use_of, answered, is_digit_in, digit_front, is_word, opens_escape};
+ghost use Rattle.ecma_escape.specs.EscapeMeanings.{refusal_kind, refusal_error, use_of, answered, is_digit_in, digit_front, is_word, opens_escape};
 ghost use Rattle.ecma_escape.specs.EscapeParts.{answer_value, answer_faults, use_in};
 ghost use Rattle.ecma_escape.specs.declared.escape.Refusal.TheVariants.{NoBrace};
-ghost use Rattle.ecma_escape.specs.declared.escape.Answer.TheVariants.{Nothing, Octal};
+ghost use Rattle.ecma_escape.specs.declared.escape.Meaning.TheVariants.{Nothing, Octal};
 
 use ecma_grammar::found::{Blame, Found, push_fault};
 use ecma_place::{Atom, BytePos, CharExt, Span, StringInput};
@@ -53,7 +53,7 @@ pub enum Refusal {
 
 /// What an escape stands for.
 #[derive(Clone, Copy)]
-pub enum Answer {
+pub enum Meaning {
     /// Nothing: a line terminator that is passed over.
     Nothing,
     /// A character.
@@ -98,8 +98,8 @@ fn some_digits<'a>(input: &mut StringInput<'a>, radix: u32, most: u32) -> &'a st
 /// Moves behind the hexadecimal digits at the cursor, and answers them.
 #[tactic(auto, using(crate::proofs::EscapeReading::hex_runs))]
 fn hex_run<'a>(input: &mut StringInput<'a>) -> &'a str
-    ensures text { result.now ≡ grammar.hex_front (rest input.old) }
-    ensures moved { input.new ≡ passed (length (grammar.hex_front (rest input.old))) input.old }
+    ensures text { result.now ≡ escapes.hex_front (rest input.old) }
+    ensures moved { input.new ≡ passed (length (escapes.hex_front (rest input.old))) input.old }
 {
     let start = input.cur_pos();
     'chars: while let Some(c) = input.cur() {
@@ -112,41 +112,41 @@ fn hex_run<'a>(input: &mut StringInput<'a>) -> &'a str
 }
 
 /// The escape of a code point.
-fn code_escape(code: u32) -> Answer
+fn code_escape(code: u32) -> Meaning
     requires { code ≤ 0x10_FFFF }
-    ensures { (within : grammar.Use) (spelling : Text) → answered within spelling result ≡ grammar.code_escape within spelling code }
+    ensures { (within : escapes.Use) (spelling : Text) → answered within spelling result ≡ escapes.code_escape within spelling code }
 {
     match char::from_u32(code) {
-        Some(c) => Answer::Character(c),
-        None => Answer::Spelling,
+        Some(c) => Meaning::Character(c),
+        None => Meaning::Spelling,
     }
 }
 
 /// The escape whose `\x` stands before the cursor.
-fn hex_escape(input: &mut StringInput) -> Answer
-    ensures answer { (within : grammar.Use) → let e = grammar.hex_escape (digit_front 16 2 (rest input.old)) in
-        answered within (grammar.escape_spelling e) result ≡ e }
-    ensures moved { let e = grammar.hex_escape (digit_front 16 2 (rest input.old)) in
-        input.new ≡ passed (length (grammar.escape_spelling e) - 2) input.old }
+fn hex_escape(input: &mut StringInput) -> Meaning
+    ensures answer { (within : escapes.Use) → let e = escapes.hex_escape (digit_front 16 2 (rest input.old)) in
+        answered within (escapes.escape_spelling e) result ≡ e }
+    ensures moved { let e = escapes.hex_escape (digit_front 16 2 (rest input.old)) in
+        input.new ≡ passed (length (escapes.escape_spelling e) - 2) input.old }
 {
     let digits = some_digits(input, 16, 2);
     match u8::from_str_radix(digits, 16) {
-        Ok(value) if digits.len() == 2 => Answer::Character(char::from(value)),
-        _ => Answer::Refused(Refusal::TwoDigits),
+        Ok(value) if digits.len() == 2 => Meaning::Character(char::from(value)),
+        _ => Meaning::Refused(Refusal::TwoDigits),
     }
 }
 
 /// The escape whose `\u` stands before the cursor, without braces.
-fn four_escape(input: &mut StringInput) -> Answer
-    ensures answer { (within : grammar.Use) → let e = grammar.four_escape within (digit_front 16 4 (rest input.old)) in
-        answered within (grammar.escape_spelling e) result ≡ e }
-    ensures moved { (within : grammar.Use) → let e = grammar.four_escape within (digit_front 16 4 (rest input.old)) in
-        input.new ≡ passed (length (grammar.escape_spelling e) - 2) input.old }
+fn four_escape(input: &mut StringInput) -> Meaning
+    ensures answer { (within : escapes.Use) → let e = escapes.four_escape within (digit_front 16 4 (rest input.old)) in
+        answered within (escapes.escape_spelling e) result ≡ e }
+    ensures moved { (within : escapes.Use) → let e = escapes.four_escape within (digit_front 16 4 (rest input.old)) in
+        input.new ≡ passed (length (escapes.escape_spelling e) - 2) input.old }
 {
     let digits = some_digits(input, 16, 4);
     match u16::from_str_radix(digits, 16) {
         Ok(code) if digits.len() == 4 => code_escape(u32::from(code)),
-        _ => Answer::Refused(Refusal::FourDigits),
+        _ => Meaning::Refused(Refusal::FourDigits),
     }
 }
 
@@ -163,34 +163,34 @@ fn code_point(digits: &str) -> Option<u32>
 }
 
 /// The escape whose `\u{` stands before the cursor.
-fn braced_escape(input: &mut StringInput) -> Answer
-    ensures answer { (within : grammar.Use) → let e = grammar.braced_escape within (grammar.hex_front (rest input.old)) (after grammar.is_hex_digit (rest input.old)) in
-        answered within (grammar.escape_spelling e) result ≡ e }
-    ensures moved { (within : grammar.Use) → let e = grammar.braced_escape within (grammar.hex_front (rest input.old)) (after grammar.is_hex_digit (rest input.old)) in
-        input.new ≡ passed (length (grammar.escape_spelling e) - 3) input.old }
+fn braced_escape(input: &mut StringInput) -> Meaning
+    ensures answer { (within : escapes.Use) → let e = escapes.braced_escape within (escapes.hex_front (rest input.old)) (after escapes.is_hex_digit (rest input.old)) in
+        answered within (escapes.escape_spelling e) result ≡ e }
+    ensures moved { (within : escapes.Use) → let e = escapes.braced_escape within (escapes.hex_front (rest input.old)) (after escapes.is_hex_digit (rest input.old)) in
+        input.new ≡ passed (length (escapes.escape_spelling e) - 3) input.old }
 {
     let digits = hex_run(input);
     if digits.is_empty() {
-        return Answer::Refused(Refusal::NoDigits);
+        return Meaning::Refused(Refusal::NoDigits);
     }
     match code_point(digits) {
-        None => Answer::Refused(Refusal::OutOfRange),
+        None => Meaning::Refused(Refusal::OutOfRange),
         Some(code) => {
             if input.eat_byte(b'}') {
                 code_escape(code)
             } else {
-                Answer::Refused(Refusal::NoBrace)
+                Meaning::Refused(Refusal::NoBrace)
             }
         }
     }
 }
 
 /// The escape whose `\u` stands before the cursor.
-fn unicode_escape(input: &mut StringInput) -> Answer
-    ensures answer { (within : grammar.Use) → let e = grammar.unicode_escape within (rest input.old) in
-        answered within (grammar.escape_spelling e) result ≡ e }
-    ensures moved { (within : grammar.Use) → let e = grammar.unicode_escape within (rest input.old) in
-        input.new ≡ passed (length (grammar.escape_spelling e) - 2) input.old }
+fn unicode_escape(input: &mut StringInput) -> Meaning
+    ensures answer { (within : escapes.Use) → let e = escapes.unicode_escape within (rest input.old) in
+        answered within (escapes.escape_spelling e) result ≡ e }
+    ensures moved { (within : escapes.Use) → let e = escapes.unicode_escape within (rest input.old) in
+        input.new ≡ passed (length (escapes.escape_spelling e) - 2) input.old }
 {
     if input.eat_byte(b'{') {
         braced_escape(input)
@@ -203,9 +203,9 @@ fn unicode_escape(input: &mut StringInput) -> Answer
 /// the character of that value.
 fn octal_character(input: &mut StringInput, first: char) -> char
     requires first { slice_get (rest input.old) 0 ≡ Some first }
-    requires digit { grammar.is_octal_digit first ≡ true }
-    ensures value { result ≡ digits_value 8 (grammar.octal_digits (rest input.old)) }
-    ensures moved { input.new ≡ passed (length (grammar.octal_digits (rest input.old))) input.old }
+    requires digit { escapes.is_octal_digit first ≡ true }
+    ensures value { result ≡ digits_value 8 (escapes.octal_digits (rest input.old)) }
+    ensures moved { input.new ≡ passed (length (escapes.octal_digits (rest input.old))) input.old }
 {
     let most = if first <= '3' { 3 } else { 2 };
     let digits = some_digits(input, 8, most);
@@ -214,7 +214,7 @@ fn octal_character(input: &mut StringInput, first: char) -> char
 
 /// Whether an octal digit stands behind the first character.
 fn octal_digit_follows(input: &StringInput) -> bool
-    ensures { result ≡ next_passes grammar.is_octal_digit (drop 1 (rest input.now)) }
+    ensures { result ≡ next_passes escapes.is_octal_digit (drop 1 (rest input.now)) }
 {
     match input.peek() {
         Some(second) => second.is_digit(8),
@@ -223,29 +223,29 @@ fn octal_digit_follows(input: &StringInput) -> bool
 }
 
 /// The escape whose backslash stands before the cursor and whose octal digit at it.
-fn octal_escape(input: &mut StringInput, within: Use, first: char) -> Answer
+fn octal_escape(input: &mut StringInput, within: Use, first: char) -> Meaning
     requires first { slice_get (rest input.old) 0 ≡ Some first }
-    requires digit { grammar.is_octal_digit first ≡ true }
-    ensures answer { let e = grammar.octal_escape (use_of within) first (drop 1 (rest input.old)) in
-        answered (use_of within) (grammar.escape_spelling e) result ≡ e }
-    ensures moved { let e = grammar.octal_escape (use_of within) first (drop 1 (rest input.old)) in
-        input.new ≡ passed (length (grammar.escape_spelling e) - 1) input.old }
+    requires digit { escapes.is_octal_digit first ≡ true }
+    ensures answer { let e = escapes.octal_escape (use_of within) first (drop 1 (rest input.old)) in
+        answered (use_of within) (escapes.escape_spelling e) result ≡ e }
+    ensures moved { let e = escapes.octal_escape (use_of within) first (drop 1 (rest input.old)) in
+        input.new ≡ passed (length (escapes.escape_spelling e) - 1) input.old }
 {
     if first == '0' && !octal_digit_follows(input) {
         input.bump();
-        Answer::Character('\0')
+        Meaning::Character('\0')
     } else if matches!(within, Use::InTemplate) {
         input.bump();
-        Answer::Refused(Refusal::Octal)
+        Meaning::Refused(Refusal::Octal)
     } else {
-        Answer::Octal(octal_character(input, first))
+        Meaning::Octal(octal_character(input, first))
     }
 }
 
 /// Moves behind the line terminator at the cursor; CR LF is one.
 fn skip_line_end(input: &mut StringInput, first: char)
     requires { slice_get (rest input.old) 0 ≡ Some first }
-    ensures { input.new ≡ passed (length (grammar.line_end first (drop 1 (rest input.old)))) input.old }
+    ensures { input.new ≡ passed (length (escapes.line_end first (drop 1 (rest input.old)))) input.old }
 {
     input.bump();
     if first == '\r' {
@@ -255,7 +255,7 @@ fn skip_line_end(input: &mut StringInput, first: char)
 
 /// What a character stands for behind a backslash.
 fn single_value(c: char) -> char
-    ensures { result ≡ grammar.single_value c }
+    ensures { result ≡ escapes.single_value c }
 {
     match c {
         'b' => '\u{8}',
@@ -269,14 +269,14 @@ fn single_value(c: char) -> char
 }
 
 /// The escape whose backslash stands before the cursor, which is none of a code point, in a string or a template.
-fn escape_at(input: &mut StringInput, within: Use, first: char) -> Answer
+fn escape_at(input: &mut StringInput, within: Use, first: char) -> Meaning
     requires first { slice_get (rest input.old) 0 ≡ Some first }
     requires other { (first == 117) ≡ false }
     requires within { is_word within ≡ false }
-    ensures answer { let e = grammar.escape_of (use_of within) (grammar.opening first) first (drop 1 (rest input.old)) in
-        answered (use_of within) (grammar.escape_spelling e) result ≡ e }
-    ensures moved { let e = grammar.escape_of (use_of within) (grammar.opening first) first (drop 1 (rest input.old)) in
-        input.new ≡ passed (length (grammar.escape_spelling e) - 1) input.old }
+    ensures answer { let e = escapes.escape_of (use_of within) (escapes.lead first) first (drop 1 (rest input.old)) in
+        answered (use_of within) (escapes.escape_spelling e) result ≡ e }
+    ensures moved { let e = escapes.escape_of (use_of within) (escapes.lead first) first (drop 1 (rest input.old)) in
+        input.new ≡ passed (length (escapes.escape_spelling e) - 1) input.old }
 {
     if first == 'x' {
         input.bump();
@@ -285,10 +285,10 @@ fn escape_at(input: &mut StringInput, within: Use, first: char) -> Answer
         octal_escape(input, within, first)
     } else if first.is_line_terminator() {
         skip_line_end(input, first);
-        Answer::Nothing
+        Meaning::Nothing
     } else {
         input.bump();
-        Answer::Character(single_value(first))
+        Meaning::Character(single_value(first))
     }
 }
 
@@ -302,22 +302,22 @@ fn is_word(within: Use) -> bool
 /// Moves behind the escape at the cursor, and answers what it stands for.
 ///
 /// A backslash stands at the cursor. No memory is taken.
-pub fn read_escape(input: &mut StringInput, within: Use) -> Answer
+pub fn read_escape(input: &mut StringInput, within: Use) -> Meaning
     requires { opens_escape (rest input.old) ≡ true }
-    ensures answer { let e = grammar.escape (use_of within) (rest input.old) in
-        answered (use_of within) (grammar.escape_spelling e) result ≡ e }
-    ensures moved { let e = grammar.escape (use_of within) (rest input.old) in
-        input.new ≡ passed (length (grammar.escape_spelling e)) input.old }
+    ensures answer { let e = escapes.escape (use_of within) (rest input.old) in
+        answered (use_of within) (escapes.escape_spelling e) result ≡ e }
+    ensures moved { let e = escapes.escape (use_of within) (rest input.old) in
+        input.new ≡ passed (length (escapes.escape_spelling e)) input.old }
 {
     input.bump();
     if input.eat_byte(b'u') {
         return unicode_escape(input);
     }
     if is_word(within) {
-        return Answer::Refused(Refusal::NoCodePoint);
+        return Meaning::Refused(Refusal::NoCodePoint);
     }
     match input.cur() {
-        None => Answer::Refused(Refusal::AtEnd),
+        None => Meaning::Refused(Refusal::AtEnd),
         Some(first) => escape_at(input, within, first),
     }
 }
@@ -385,14 +385,14 @@ pub(crate) fn refusal_error<'a>(
 }
 
 /// Adds what an escape stands for, which is written so. An escape that stands for nothing takes no memory.
-pub fn push_value(text: &mut String, answer: Answer, spelling: &str) -> Result<(), AllocError>
+pub fn push_value(text: &mut String, answer: Meaning, spelling: &str) -> Result<(), AllocError>
     ensures text { OnOk result (string_bytes text.new ≡ string_bytes text.old ++ answer_value spelling.now answer) }
     ensures free { answer ≡ Nothing → IsOk result }
 {
     match answer {
-        Answer::Nothing | Answer::Refused(_) => Ok(()),
-        Answer::Character(c) | Answer::Octal(c) => text.push(c),
-        Answer::Spelling => text.push_str(spelling),
+        Meaning::Nothing | Meaning::Refused(_) => Ok(()),
+        Meaning::Character(c) | Meaning::Octal(c) => text.push(c),
+        Meaning::Spelling => text.push_str(spelling),
     }
 }
 
@@ -400,7 +400,7 @@ pub fn push_value(text: &mut String, answer: Answer, spelling: &str) -> Result<(
 fn push_octal_fault<'a>(
     alloc: Global,
     faults: &mut Vec<(Blame, Error<'a>)>,
-    answer: Answer,
+    answer: Meaning,
     start: BytePos,
 ) -> Result<(), AllocError>
     requires { (c : ℕ) → answer ≡ Octal c → start.0 + 2 < 2 ^ 32 }
@@ -408,7 +408,7 @@ fn push_octal_fault<'a>(
         ++ map (fault_behind start.0) (answer_faults answer)) }
     ensures free { answer_faults answer ≡ [] → IsOk result }
 {
-    if let Answer::Octal(_) = answer {
+    if let Meaning::Octal(_) = answer {
         let span = Span::new(start, BytePos(start.0 + 2));
         push_fault(alloc, faults, Blame::Strict, span, SyntaxError::LegacyOctal)?;
     }
@@ -429,19 +429,19 @@ pub fn push_escape<'a>(
     requires opens { opens_escape (rest input.old) ≡ true }
     requires within { is_word within ≡ false }
     ensures refusal { IfOk result (λ r. option_map error_view r
-        ≡ option_map (error_behind (place input.old)) (grammar.escape_refusal (grammar.escape (use_of within) (rest input.old)))) }
+        ≡ option_map (error_behind (place input.old)) (escapes.escape_refusal (escapes.escape (use_of within) (rest input.old)))) }
     ensures text { OnOk result (string_bytes text.new
-        ≡ string_bytes text.old ++ encode_utf8_all (grammar.escape_value (grammar.escape (use_of within) (rest input.old)))) }
+        ≡ string_bytes text.old ++ encode_utf8_all (escapes.escape_value (escapes.escape (use_of within) (rest input.old)))) }
     ensures faults { OnOk result (map fault_view faults.new.items ≡ map fault_view faults.old.items
-        ++ map (fault_behind (place input.old)) (grammar.escape_faults (grammar.escape (use_of within) (rest input.old)))) }
+        ++ map (fault_behind (place input.old)) (escapes.escape_faults (escapes.escape (use_of within) (rest input.old)))) }
     ensures moved { OnOk result (input.new
-        ≡ passed (length (grammar.escape_spelling (grammar.escape (use_of within) (rest input.old)))) input.old) }
-    ensures free { grammar.escape_value (grammar.escape (use_of within) (rest input.old)) ≡ []
-        → grammar.escape_refusal (grammar.escape (use_of within) (rest input.old)) ≡ None → IsOk result }
+        ≡ passed (length (escapes.escape_spelling (escapes.escape (use_of within) (rest input.old)))) input.old) }
+    ensures free { escapes.escape_value (escapes.escape (use_of within) (rest input.old)) ≡ []
+        → escapes.escape_refusal (escapes.escape (use_of within) (rest input.old)) ≡ None → IsOk result }
 {
     let start = input.cur_pos();
     let answer = read_escape(input, within);
-    if let Answer::Refused(refusal) = answer {
+    if let Meaning::Refused(refusal) = answer {
         let error = refusal_error(alloc, refusal, within, start, input.cur_pos())?;
         return Ok(Some(error));
     }
@@ -452,7 +452,7 @@ pub fn push_escape<'a>(
 
 /// The text of an escape's value, if it is not empty.
 fn value_atom<'a>(text: String) -> Option<Atom<'a>>
-    ensures { (value : Text) → string_bytes text ≡ encode_utf8_all value → result ≡ grammar.value_atom value }
+    ensures { (value : Text) → string_bytes text ≡ encode_utf8_all value → result ≡ escapes.value_atom value }
 {
     if text.is_empty() {
         None
@@ -493,10 +493,10 @@ pub fn scan_escape<'a>(
 ) -> Result<Found<'a, Option<Atom<'a>>>, AllocError>
     requires { opens_escape (rest input.old) ≡ true }
     ensures found { IfOk result (λ f. found_view (λ value. value) f ≡
-        found_at placeless (place input.old) (grammar.scanned_escape (use_in in_template) (rest input.old))) }
+        found_at placeless (place input.old) (escapes.scanned_escape (use_in in_template) (rest input.old))) }
     ensures moved { OnOk result (input.new
-        ≡ passed (length (grammar.scanned_escape (use_in in_template) (rest input.old)).spelling) input.old) }
-    ensures free { (grammar.scanned_escape (use_in in_template) (rest input.old)).value ≡ Ok None → IsOk result }
+        ≡ passed (length (escapes.scanned_escape (use_in in_template) (rest input.old)).spelling) input.old) }
+    ensures free { (escapes.scanned_escape (use_in in_template) (rest input.old)).value ≡ Ok None → IsOk result }
     ensures same { OnErr result (input.new ≡ input.old) }
 {
     let before = input.clone()?;

@@ -9,13 +9,13 @@ ghost use Rattle.ecma_place.specs.declared.run.ByteClass.TheVariants.{Part};
 ghost use Rattle.ecma_token.specs.View.{error_view};
 ghost use Rattle.ecma_grammar.specs.Found.{found_view, found_at, placeless, fault_view, fault_behind, error_behind, value_view};
 ghost use Rattle.ecma_grammar.specs.Escapes.{InWord, escape, escape_spelling, escape_value, escape_refusal};
-ghost use Rattle.ecma_escape.specs.EscapeAnswers.{opens_escape};
+ghost use Rattle.ecma_escape.specs.EscapeMeanings.{opens_escape};
 ghost use Rattle.ecma_escape.specs.PieceParts.{faults_from};
 ghost use Rattle.ecma_escape.specs.NameParts.{faults_in, is_named, named_faults, text_from, name_from, behind_pieces, cow_atom};
 ghost use Rattle.ecma_grammar.specs.Fronts.{next_passes};
-ghost use Rattle.ecma_grammar.specs.Words as grammar;
+ghost use Rattle.ecma_grammar.specs.Words as words;
 
-use crate::escape::{Answer, Use, at_escape, push_value, read_escape, refusal_error};
+use crate::escape::{Meaning, Use, at_escape, push_value, read_escape, refusal_error};
 use ecma_grammar::found::{Blame, Found, push_fault};
 use ecma_place::{ByteClass, CharExt, Span, StringInput};
 use ecma_token::{Error, SyntaxError};
@@ -66,11 +66,11 @@ pub(crate) fn part_characters<'a>(input: &mut StringInput<'a>) -> &'a str
 
 /// Whether what an escape stands for is a character that may be named here: a start character as the first of a word,
 /// a part character later.
-fn is_named(is_first: bool, answer: Answer) -> bool
+fn is_named(is_first: bool, answer: Meaning) -> bool
     ensures { result ≡ is_named is_first answer }
 {
     match answer {
-        Answer::Character(c) => {
+        Meaning::Character(c) => {
             if is_first {
                 c.is_ident_start()
             } else {
@@ -119,13 +119,13 @@ fn push_name_escape<'a>(
         ≡ option_map (error_behind (place input.old)) (escape_refusal (escape InWord (rest input.old)))) }
     ensures text { OnOk result (string_bytes text.new ≡ string_bytes text.old ++ encode_utf8_all (escape_value (escape InWord (rest input.old)))) }
     ensures faults { OnOk result (map fault_view faults.new.items ≡ map fault_view faults.old.items
-        ++ map (fault_behind (place input.old)) (faults_in (grammar.named_piece is_first (escape InWord (rest input.old))))) }
+        ++ map (fault_behind (place input.old)) (faults_in (words.named_piece is_first (escape InWord (rest input.old))))) }
     ensures moved { OnOk result (input.new ≡ passed (length (escape_spelling (escape InWord (rest input.old)))) input.old) }
 {
     let start = input.cur_pos();
     let answer = read_escape(input, Use::InWord);
     let end = input.cur_pos();
-    if let Answer::Refused(refusal) = answer {
+    if let Meaning::Refused(refusal) = answer {
         let error = refusal_error(alloc, refusal, Use::InWord, start, end)?;
         return Ok(Some(error));
     }
@@ -151,7 +151,7 @@ fn escaped_name<'a>(
     requires { prefix_len is_ident_part (rest input.old) ≡ 0 }
     ensures value { IfOk result (λ r. value_view string_bytes r ≡ text_from is_first before.now input.old) }
     ensures faults { OnOk result (map fault_view faults.new.items ≡ map fault_view faults.old.items
-        ++ faults_from grammar.word_cutter is_first input.old) }
+        ++ faults_from words.word_cutter is_first input.old) }
     ensures moved { OnOk result (input.new ≡ behind_pieces is_first input.old) }
 {
     let mut text = String::from_str(alloc, before)?;
@@ -175,7 +175,7 @@ fn name_text<'a>(
 ) -> Result<Result<CowStr<'a>, Error<'a>>, AllocError>
     ensures value { IfOk result (λ r. value_view cow_atom r ≡ name_from input.old) }
     ensures faults { OnOk result (map fault_view faults.new.items ≡ map fault_view faults.old.items
-        ++ faults_from grammar.word_cutter true input.old) }
+        ++ faults_from words.word_cutter true input.old) }
     ensures moved { OnOk result (input.new ≡ behind_pieces true input.old) }
     ensures free { (text : AtomView) → name_from input.old ≡ Ok text → text.is_borrowed ≡ true → IsOk result }
 {
@@ -198,9 +198,9 @@ pub fn read_name<'a>(
     input: &mut StringInput<'a>,
 ) -> Result<Found<'a, CowStr<'a>>, AllocError>
     ensures found { IfOk result (λ f. found_view cow_atom f ≡
-        found_at placeless (place input.old) (grammar.identifier_name (rest input.old))) }
-    ensures moved { OnOk result (input.new ≡ passed (length (grammar.identifier_name (rest input.old)).spelling) input.old) }
-    ensures free { (text : AtomView) → (grammar.identifier_name (rest input.old)).value ≡ Ok text → text.is_borrowed ≡ true → IsOk result }
+        found_at placeless (place input.old) (words.identifier_name (rest input.old))) }
+    ensures moved { OnOk result (input.new ≡ passed (length (words.identifier_name (rest input.old)).spelling) input.old) }
+    ensures free { (text : AtomView) → (words.identifier_name (rest input.old)).value ≡ Ok text → text.is_borrowed ≡ true → IsOk result }
 {
     let start = input.cur_pos();
     let mut faults = Vec::new(alloc);

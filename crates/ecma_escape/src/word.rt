@@ -1,6 +1,6 @@
 //! Words.
 ghost use Rattle.std.specs.Prelude.{◌≡◌, true, false, length, encode_utf8_all, string_bytes, Result, Ok, Err, IfNone, IfOk, IfSome, IsOk, OnErr, OnOk};
-ghost use Rattle.ecma_escape.specs.EscapeAnswers.{opens_escape};
+ghost use Rattle.ecma_escape.specs.EscapeMeanings.{opens_escape};
 ghost use Rattle.std.specs.List.{prefix_len, take_while};
 ghost use Rattle.ecma_place.specs.Atom.{AtomView, owned_atom};
 ghost use Rattle.ecma_place.specs.Character.{is_ident_part};
@@ -10,7 +10,7 @@ ghost use Rattle.ecma_syntax.specs.Word.{word_of, word_kind};
 ghost use Rattle.ecma_syntax.specs.declared.context.Context.{Context};
 ghost use Rattle.ecma_grammar.specs.Found.{found_view, found_at, placeless, scanned, value_view};
 ghost use Rattle.ecma_escape.specs.NameParts.{cow_atom, escaped_word_at, word_at};
-ghost use Rattle.ecma_grammar.specs.Words as grammar;
+ghost use Rattle.ecma_grammar.specs.Words as words;
 
 use crate::escape::at_escape;
 use crate::name::{part_characters, read_name};
@@ -33,7 +33,7 @@ fn kind_of(text: &str) -> WordKind
 /// The word with this text, which an other name owns.
 #[tactic(auto, using(crate::proofs::WordReading::rows))]
 fn owned_word<'a>(text: String) -> Word<'a>
-    ensures { result ≡ grammar.owned_word (word_of (string_bytes text)) }
+    ensures { result ≡ words.owned_word (word_of (string_bytes text)) }
 {
     match kind_of(text.as_str()) {
         WordKind::Keyword(keyword) => Word::Keyword(keyword),
@@ -114,7 +114,7 @@ fn eat_short_kind(input: &mut StringInput) -> Option<WordKind>
 #[inline(never)]
 fn eat_long_kind(input: &mut StringInput) -> Option<WordKind>
     ensures kind { IfSome result (λ k. k ≡ word_kind (word_of (encode_utf8_all (take_while is_ident_part (rest input.old))))) }
-    ensures word { IfSome result (λ k. (context : Context) → grammar.word context (rest input.old) ≡
+    ensures word { IfSome result (λ k. (context : Context) → words.word context (rest input.old) ≡
         scanned (word_of (encode_utf8_all (take_while is_ident_part (rest input.old)))) (take_while is_ident_part (rest input.old))) }
     ensures none { IfNone result (opens_escape (rest input.new) ≡ true) }
     ensures moved { input.new ≡ passed (prefix_len is_ident_part (rest input.old)) input.old }
@@ -133,7 +133,7 @@ fn eat_long_kind(input: &mut StringInput) -> Option<WordKind>
 #[inline(always)]
 pub fn eat_plain_kind(input: &mut StringInput) -> Option<WordKind>
     ensures kind { IfSome result (λ k. k ≡ word_kind (word_of (encode_utf8_all (take_while is_ident_part (rest input.old))))) }
-    ensures word { IfSome result (λ k. (context : Context) → grammar.word context (rest input.old) ≡
+    ensures word { IfSome result (λ k. (context : Context) → words.word context (rest input.old) ≡
         scanned (word_of (encode_utf8_all (take_while is_ident_part (rest input.old)))) (take_while is_ident_part (rest input.old))) }
     ensures none { IfNone result (opens_escape (rest input.new) ≡ true) }
     ensures moved { input.new ≡ passed (prefix_len is_ident_part (rest input.old)) input.old }
@@ -151,7 +151,7 @@ pub fn eat_plain_kind(input: &mut StringInput) -> Option<WordKind>
 #[inline(always)]
 pub fn eat_plain_word<'a>(input: &mut StringInput<'a>) -> Option<Word<'a>>
     ensures word { IfSome result (λ w. (context : Context) →
-        grammar.word context (rest input.old) ≡ scanned w (take_while is_ident_part (rest input.old))) }
+        words.word context (rest input.old) ≡ scanned w (take_while is_ident_part (rest input.old))) }
     ensures none { IfNone result (opens_escape (rest input.new) ≡ true) }
     ensures moved { input.new ≡ passed (prefix_len is_ident_part (rest input.old)) input.old }
 {
@@ -166,12 +166,12 @@ fn word_at<'a>(
     input: &mut StringInput<'a>,
     context: &Context,
 ) -> Result<Found<'a, Word<'a>>, AllocError>
-    requires { grammar.opens_word (rest input.old) ≡ true }
+    requires { words.opens_word (rest input.old) ≡ true }
     ensures found { IfOk result (λ f. found_view (λ w. w) f ≡
-        found_at placeless (place input.old) (grammar.word context.now (rest input.old))) }
+        found_at placeless (place input.old) (words.word context.now (rest input.old))) }
     ensures moved { OnOk result
-        (input.new ≡ passed (length (grammar.word context.now (rest input.old)).spelling) input.old) }
-    ensures free { (text : AtomView) → (grammar.identifier_name (rest input.old)).value ≡ Ok text → text.is_borrowed ≡ true → IsOk result }
+        (input.new ≡ passed (length (words.word context.now (rest input.old)).spelling) input.old) }
+    ensures free { (text : AtomView) → (words.identifier_name (rest input.old)).value ≡ Ok text → text.is_borrowed ≡ true → IsOk result }
 {
     let Found {
         value,
@@ -205,12 +205,12 @@ pub fn scan_word<'a>(
     input: &mut StringInput<'a>,
     context: &Context,
 ) -> Result<Found<'a, Word<'a>>, AllocError>
-    requires { grammar.opens_word (rest input.old) ≡ true }
+    requires { words.opens_word (rest input.old) ≡ true }
     ensures found { IfOk result (λ f. found_view (λ w. w) f ≡
-        found_at placeless (place input.old) (grammar.word context.now (rest input.old))) }
+        found_at placeless (place input.old) (words.word context.now (rest input.old))) }
     ensures moved { OnOk result
-        (input.new ≡ passed (length (grammar.word context.now (rest input.old)).spelling) input.old) }
-    ensures free { (text : AtomView) → (grammar.identifier_name (rest input.old)).value ≡ Ok text → text.is_borrowed ≡ true → IsOk result }
+        (input.new ≡ passed (length (words.word context.now (rest input.old)).spelling) input.old) }
+    ensures free { (text : AtomView) → (words.identifier_name (rest input.old)).value ≡ Ok text → text.is_borrowed ≡ true → IsOk result }
     ensures same { OnErr result (input.new ≡ input.old) }
 {
     let before = input.clone()?;

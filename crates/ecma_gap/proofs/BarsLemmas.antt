@@ -22,10 +22,10 @@ use Rattle.ecma_grammar.specs.Fronts.{begins_with, behind_line, line}
 use Rattle.ecma_grammar.specs.Gaps.{Element, Blank, LineComment, BlockComment, OpenComment, HtmlOpening, HtmlClosing, Marker, element_text, end_of, faults_of, gap_cutter}
 use Rattle.ecma_grammar.specs.Pieces.{pieces, spelled}
 use Rattle.ecma_grammar.specs.GapViews.{GapView}
-use Rattle.ecma_gap.specs.Readings.{BarsView, ReadingView, bars_found_at, found_with, nothing_read, with_element}
+use Rattle.ecma_gap.specs.GapRecords.{BarsView, GapSoFarView, bars_found_at, found_with, nothing_read, with_element}
 use Rattle.ecma_gap.proofs.GapFaults.{bars_faults_move}
 use Rattle.ecma_grammar.proofs.GapForms.{spelled_line}
-use Rattle.ecma_gap.proofs.ReadingLemmas.{found-step}
+use Rattle.ecma_gap.proofs.GapSoFarLemmas.{found-step}
 use Rattle.ecma_gap.proofs.ElementLemmas.{line-place, two-moves}
 use Rattle.ecma_grammar.proofs.SignLemmas.{rest-behind, bars-seen}
 
@@ -78,7 +78,7 @@ error-shown n e span is there =
     let zero : n ≡ n + 0 = omega arith in
     rw (is.kind_is, is.span_is, there) (ap (λ low. shown (span_of low (n + 7))) zero)
 
-pub bars-said : (mode : GapMode) (old mid : Cursor) (r : ReadingView) (gap : GapView) (e : Error) (span : Span) → opens_bars (rest old) ≡ true
+pub bars-said : (mode : GapMode) (old mid : Cursor) (r : GapSoFarView) (gap : GapView) (e : Error) (span : Span) → opens_bars (rest old) ≡ true
     → mid ≡ passed (length (element_text (Marker 124 (line (drop 7 (rest old)))))) old
     → r ≡ with_element mode (place old) (rest old) (Marker 124 (line (drop 7 (rest old)))) (nothing_read true)
     → gap ≡ found_with mode (place mid) (rest mid) (pieces common_cutter tt (rest mid)) r
@@ -95,7 +95,7 @@ bars-said mode old mid r gap e span opens moved said found error there =
     let es = pieces common_cutter tt (behind_bars_line text) in
     let whole : gap ≡ found_with mode n text (bars_elements text) (nothing_read true) =
     found
-    ∙ ap (λ (v : ReadingView). found_with mode (place mid) (rest mid) (pieces common_cutter tt (rest mid)) v) said
+    ∙ ap (λ (v : GapSoFarView). found_with mode (place mid) (rest mid) (pieces common_cutter tt (rest mid)) v) said
     ∙ ap (λ t. found_with mode (place mid) (rest mid) (pieces common_cutter tt t) it) left
     ∙ ap (λ k. found_with mode k (rest mid) es it) ends
     ∙ ap (λ t. found_with mode (end_of n marker) t es it) (rest-behind old mid _ moved)

@@ -13,11 +13,11 @@ use Rattle.ecma_grammar.specs.Comments.{collected, comments_of}
 use Rattle.ecma_grammar.specs.Fronts.{begins_with, next_passes}
 use Rattle.ecma_grammar.specs.Gaps.{element, elements, faults_of, flagged_element, gap, gap_cutter, is_marker, marks, special_element}
 use Rattle.ecma_grammar.specs.Pieces.{spelled}
-use Rattle.ecma_gap.specs.Readings.{nothing_read, with_flag}
+use Rattle.ecma_gap.specs.GapRecords.{nothing_read, with_flag}
 use Rattle.ecma_grammar.specs.declared.gap_mode.GapMode.{GapMode}
 use Rattle.ecma_grammar.proofs.GapForms.{cond_false}
 use Rattle.ecma_gap.proofs.NextElements.{special-flagged}
-use Rattle.ecma_gap.proofs.ReadingLemmas.{ended-at, gap-reads, white-passed, white-stops, whole-ended, whole-is}
+use Rattle.ecma_gap.proofs.GapSoFarLemmas.{ended-at, gap-reads, white-passed, white-stops, whole-ended, whole-is}
 
 -- no white space stands first
 pub no-white : (text : Text) → next_passes is_white_space text ≡ false → (prefix_len is_white_space text ≡ 0) × (take_while is_white_space text ≡ [])

@@ -18,7 +18,7 @@ use Rattle.ecma_grammar.specs.Comments.{collected, paired, behind_element, can_t
 use Rattle.ecma_grammar.specs.Found.{Fault, span_of}
 use Rattle.ecma_grammar.specs.Fronts.{begins_with, front, line, behind_line, in_line, next_is}
 use Rattle.ecma_grammar.specs.Gaps.{Element, LineComment, BlockComment, OpenComment, HtmlOpening, HtmlClosing, Marker, element_text, end_of, flag_behind, block_of, body_before, comment_body, fault_between, legacy_comment, pending_fault}
-use Rattle.ecma_gap.specs.Readings.{ReadingView, with_element, with_comment, with_fault, with_flag, with_opening, element_comments, AddsNothing}
+use Rattle.ecma_gap.specs.GapRecords.{GapSoFarView, with_element, with_comment, with_fault, with_flag, with_opening, element_comments, AddsNothing}
 use Rattle.ecma_grammar.proofs.GapForms.{spelled_line, block_ruled}
 use Rattle.ecma_grammar.proofs.SignLemmas.{rest-behind, place-behind, place-within, signs-within, ascii}
 use Rattle.std.proofs.Math.Bool.{or-false}
@@ -71,7 +71,7 @@ abbrev pub line_comment : ℕ → ℕ → Text → Comment
 line_comment low high text = record { kind = Line; span = span_of low high; text = borrowed_atom (encode_utf8_all text) }
 
 -- what was read, with a line comment
-abbrev pub line_view : GapMode → ReadingView → ℕ → Bool → Option ℕ → List Fault → ℕ → Text → ReadingView
+abbrev pub line_view : GapMode → GapSoFarView → ℕ → Bool → Option ℕ → List Fault → ℕ → Text → GapSoFarView
 line_view mode r low flag pending faults high text =
     record {
       flag = flag;
@@ -80,7 +80,7 @@ line_view mode r low flag pending faults high text =
       faults = faults;
     }
 
-pub line-said : (mode : GapMode) (r now : ReadingView) (signs : Text) (old new : Cursor) (low low' : ℕ) (pending : Option ℕ) (faults faults' : List Fault) (text text' : Text)
+pub line-said : (mode : GapMode) (r now : GapSoFarView) (signs : Text) (old new : Cursor) (low low' : ℕ) (pending : Option ℕ) (faults faults' : List Fault) (text text' : Text)
     → begins_with signs (rest old) ≡ true → list_any is_line_terminator signs ≡ false → new ≡ passed (length (signs ++ line (drop (length signs) (rest old)))) old
     → low ≡ low' → faults ≡ faults' → text ≡ text'
     → now ≡ line_view mode r low r.flag pending faults (place new) text
@@ -100,7 +100,7 @@ slashes-plain : list_any is_line_terminator (codes "//") ≡ false
 unfolding is_line_terminator
 slashes-plain = refl
 
-pub slashes-said : (mode : GapMode) (r now : ReadingView) (old behind new : Cursor) (start : ℕ) → begins_with (codes "//") (rest old) ≡ true
+pub slashes-said : (mode : GapMode) (r now : GapSoFarView) (old behind new : Cursor) (start : ℕ) → begins_with (codes "//") (rest old) ≡ true
     → start ≡ place old → behind ≡ passed 2 old → new ≡ passed (length (line (rest behind))) behind
     → now ≡ with_comment mode (rest new) (line_comment start (place new) (line (rest behind))) r
     → now ≡ with_element mode (place old) (rest old) (LineComment (line (drop 2 (rest old)))) r
@@ -112,7 +112,7 @@ html-opening-plain : list_any is_line_terminator (codes "<!--") ≡ false
 unfolding is_line_terminator
 html-opening-plain = refl
 
-pub html-opening-said : (mode : GapMode) (r opened now : ReadingView) (old mid behind new : Cursor) (start low : ℕ) → begins_with (codes "<!--") (rest old) ≡ true
+pub html-opening-said : (mode : GapMode) (r opened now : GapSoFarView) (old mid behind new : Cursor) (start low : ℕ) → begins_with (codes "<!--") (rest old) ≡ true
     → start ≡ place old → mid ≡ passed 1 old → low ≡ place mid → behind ≡ passed 3 mid → new ≡ passed (length (line (rest behind))) behind
     → opened ≡ with_opening start (Some start) r → now ≡ with_comment mode (rest new) (line_comment low (place new) (line (rest behind))) opened
     → now ≡ with_element mode (place old) (rest old) (HtmlOpening (line (drop 4 (rest old)))) r
@@ -130,7 +130,7 @@ html-closing-plain : list_any is_line_terminator (codes "-->") ≡ false
 unfolding is_line_terminator
 html-closing-plain = refl
 
-pub html-closing-said : (mode : GapMode) (r opened said now : ReadingView) (old behind new : Cursor) (start low : ℕ) → begins_with (codes "-->") (rest old) ≡ true
+pub html-closing-said : (mode : GapMode) (r opened said now : GapSoFarView) (old behind new : Cursor) (start low : ℕ) → begins_with (codes "-->") (rest old) ≡ true
     → start ≡ place old → behind ≡ passed 3 old → low ≡ place behind → new ≡ passed (length (line (rest behind))) behind
     → opened ≡ with_opening start None r → said ≡ with_fault (fault_between Module LegacyCommentInModule start low) opened
     → now ≡ with_comment mode (rest new) (line_comment low (place new) (line (rest behind))) said
@@ -217,7 +217,7 @@ space-left c k text e space = go (c == 62) refl e
     go true h one = let there = some text (space (eqb-true c 62 h)) in omega (arith, there, one)
     go false h none = omega (arith, none)
 
-pub marker-said : (mode : GapMode) (r opened said now : ReadingView) (c k : ℕ) (old mid behind there new : Cursor) (start low high : ℕ) → begins_with (replicate 7 c) (rest old) ≡ true
+pub marker-said : (mode : GapMode) (r opened said now : GapSoFarView) (c k : ℕ) (old mid behind there new : Cursor) (start low high : ℕ) → begins_with (replicate 7 c) (rest old) ≡ true
     → c < 128 → is_line_terminator c ≡ false → (c ≡ 62 → next_is 32 (drop 7 (rest old)) ≡ true)
     → start ≡ place old → mid ≡ passed (marker_margin c) old → marker_margin c ≤ 7 → low ≡ place mid → behind ≡ passed 7 old → high ≡ place behind
     → k ≡ cond (c == 62) 1 0 → there ≡ passed k behind → new ≡ passed (length (line (rest there))) there
@@ -274,29 +274,29 @@ block-flag None text = opening-plain text
 abbrev pub block_comment : ℕ → ℕ → List ℕ → Comment
 block_comment low high bytes = record { kind = Block; span = span_of low high; text = borrowed_atom bytes }
 
-abbrev block_view : GapMode → ReadingView → Bool → Text → Comment → ReadingView
+abbrev block_view : GapMode → GapSoFarView → Bool → Text → Comment → GapSoFarView
 block_view mode r flag behind comment =
     record { flag = flag; pending = r.pending; comments = r.comments ++ collected mode.collect (paired mode.prev r.flag behind (comment ∷ [])); faults = r.faults }
 
-closed-view : (mode : GapMode) (r : ReadingView) (n : ℕ) (text : Text) (o : Option Text) (d : Text) → is_some o ≡ true
+closed-view : (mode : GapMode) (r : GapSoFarView) (n : ℕ) (text : Text) (o : Option Text) (d : Text) → is_some o ≡ true
     → with_element mode n text (block_of o d) r
     ≡ block_view mode r (flag_behind r.flag (block_of o d)) (behind_element (block_of o d) text) (block_comment n (end_of n (block_of o d)) (encode_utf8_all (unwrap_or o d)))
 closed-view mode r n text (Some body) d h =
     let e = BlockComment body in
-    ap (λ fs. let view : ReadingView = record { flag = flag_behind r.flag e; pending = r.pending; comments = r.comments ++ element_comments mode r.flag n text e; faults = fs } in view) (append-nil r.faults)
+    ap (λ fs. let view : GapSoFarView = record { flag = flag_behind r.flag e; pending = r.pending; comments = r.comments ++ element_comments mode r.flag n text e; faults = fs } in view) (append-nil r.faults)
 closed-view mode r n text None d h = cc
 
 pub none-collected : {A : Type 0} (b : Bool) → collected {A = A} b [] ≡ []
 none-collected true = refl
 none-collected false = refl
 
-open-view : (mode : GapMode) (r : ReadingView) (n : ℕ) (text : Text) (o : Option Text) (d : Text) → is_some o ≡ false
+open-view : (mode : GapMode) (r : GapSoFarView) (n : ℕ) (text : Text) (o : Option Text) (d : Text) → is_some o ≡ false
     → with_element mode n text (block_of o d) r
     ≡ with_flag (flag_behind r.flag (block_of o d)) (with_fault (fault_between Always UnterminatedBlockComment n (end_of n (block_of o d))) r)
 open-view mode r n text (Some body) d h = cc
 open-view mode r n text None d h =
     let e = OpenComment d in
-    ap (λ cs. let view : ReadingView = record { flag = flag_behind r.flag e; pending = r.pending; comments = cs; faults = r.faults ++ (fault_between Always UnterminatedBlockComment n (end_of n e) ∷ []) } in view)
+    ap (λ cs. let view : GapSoFarView = record { flag = flag_behind r.flag e; pending = r.pending; comments = cs; faults = r.faults ++ (fault_between Always UnterminatedBlockComment n (end_of n e) ∷ []) } in view)
     (ap (λ cs. r.comments ++ cs) (none-collected {A = Comment × Bool} mode.collect) ∙ append-nil r.comments)
 
 -- where the reader stands behind a block comment, and what it has read
@@ -329,7 +329,7 @@ block-open old behind there h b t none =
     let d = rest behind in
     blocks old there d h (rest-behind old behind 2 b) (two-moves old behind there 2 _ _ b t (sym (open-length (comment_body d) d none)))
 
-pub closed-said : (mode : GapMode) (r said now : ReadingView) (old behind new : Cursor) (start high : ℕ) (bytes : List ℕ) (terminator : Bool) → is_some (comment_body (rest behind)) ≡ true
+pub closed-said : (mode : GapMode) (r said now : GapSoFarView) (old behind new : Cursor) (start high : ℕ) (bytes : List ℕ) (terminator : Bool) → is_some (comment_body (rest behind)) ≡ true
     → Blocks old (block_of (comment_body (rest behind)) (rest behind)) new → start ≡ place old → high ≡ place new → bytes ≡ encode_utf8_all (body_before (rest behind))
     → terminator ≡ list_any is_line_terminator (body_before (rest behind))
     → said ≡ with_comment mode (rest new) (block_comment start high bytes) r → now ≡ with_flag (said.flag || terminator) said
@@ -341,13 +341,13 @@ closed-said mode r said now old behind new start high bytes terminator some is s
     let flag : (r.flag || terminator) ≡ flag_behind r.flag it = ap (λ b. r.flag || b) (te ∙ sym (block-flag o d)) in
     let comment : block_comment start high bytes ≡ block_comment (place old) (end_of (place old) it) (encode_utf8_all (body_before d)) =
     ap (λ n. block_comment n high bytes) s ∙ ap (λ n. block_comment (place old) n bytes) (hi ∙ is.ends) ∙ ap (λ (l : List ℕ). block_comment (place old) (end_of (place old) it) l) by in
-    f ∙ ap (λ (v : ReadingView). with_flag (v.flag || terminator) v) e
+    f ∙ ap (λ (v : GapSoFarView). with_flag (v.flag || terminator) v) e
     ∙ ap (λ b. block_view mode r b (rest new) (block_comment start high bytes)) flag
     ∙ ap (λ t. block_view mode r (flag_behind r.flag it) t (block_comment start high bytes)) is.behind
     ∙ ap (λ c. block_view mode r (flag_behind r.flag it) (behind_element it (rest old)) c) comment
     ∙ sym (closed-view mode r (place old) (rest old) o d some)
 
-pub open-said : (mode : GapMode) (r said now : ReadingView) (old behind new : Cursor) (start high : ℕ) (terminator : Bool) → is_some (comment_body (rest behind)) ≡ false
+pub open-said : (mode : GapMode) (r said now : GapSoFarView) (old behind new : Cursor) (start high : ℕ) (terminator : Bool) → is_some (comment_body (rest behind)) ≡ false
     → Blocks old (block_of (comment_body (rest behind)) (rest behind)) new → start ≡ place old → high ≡ place new
     → terminator ≡ list_any is_line_terminator (body_before (rest behind))
     → said ≡ with_fault (fault_between Always UnterminatedBlockComment start high) r → now ≡ with_flag (said.flag || terminator) said
@@ -357,13 +357,13 @@ open-said mode r said now old behind new start high terminator none is s hi te e
     let o = comment_body d in
     let it = block_of o d in
     let flag : (r.flag || terminator) ≡ flag_behind r.flag it = ap (λ b. r.flag || b) (te ∙ sym (block-flag o d)) in
-    f ∙ ap (λ (v : ReadingView). with_flag (v.flag || terminator) v) e
+    f ∙ ap (λ (v : GapSoFarView). with_flag (v.flag || terminator) v) e
     ∙ ap (λ b. with_flag b (with_fault (fault_between Always UnterminatedBlockComment start high) r)) flag
     ∙ ap (λ n. with_flag (flag_behind r.flag it) (with_fault (fault_between Always UnterminatedBlockComment n high) r)) s
     ∙ ap (λ n. with_flag (flag_behind r.flag it) (with_fault (fault_between Always UnterminatedBlockComment (place old) n) r)) (hi ∙ is.ends)
     ∙ sym (open-view mode r (place old) (rest old) o d none)
 
 -- what is added is nothing
-pub open-free : (mode : GapMode) (r : ReadingView) (n : ℕ) (text : Text) (o : Option Text) (d : Text) → is_some o ≡ false → AddsNothing mode n text r (block_of o d) → ⊥
+pub open-free : (mode : GapMode) (r : GapSoFarView) (n : ℕ) (text : Text) (o : Option Text) (d : Text) → is_some o ≡ false → AddsNothing mode n text r (block_of o d) → ⊥
 open-free mode r n text (Some body) d none h = cc
 open-free mode r n text None d none h = let no = h.1 in cc

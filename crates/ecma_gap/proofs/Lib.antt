@@ -8,5 +8,5 @@ pub mod MarkerLemmas
 pub mod NextElements
 pub mod PairLemmas
 pub mod PlainCommentLemmas
-pub mod ReadingLemmas
+pub mod GapSoFarLemmas
 pub mod WhiteLemmas

@@ -11,7 +11,7 @@ use Rattle.ecma_grammar.specs.declared.gap_mode.GapMode.{GapMode}
 use Rattle.ecma_grammar.specs.Bars.{common_element}
 use Rattle.ecma_grammar.specs.Fronts.{begins_with, line, next_is, next_passes}
 use Rattle.ecma_grammar.specs.Gaps.{Element, element_text, LineComment, HtmlClosing, Marker, block_of, comment_body, elements, elements_if, elements_under, gap, flagged_element, is_marker, marker, marks, special_element}
-use Rattle.ecma_gap.specs.Readings.{ReadingView, with_element, with_next, next_text, AddsNothing, NextAddsNothing}
+use Rattle.ecma_gap.specs.GapRecords.{GapSoFarView, with_element, with_next, next_text, AddsNothing, NextAddsNothing}
 use Rattle.ecma_grammar.proofs.GapForms.{cond_false, cond_true}
 use Rattle.ecma_grammar.proofs.SignLemmas.{html-opening-seen, html-closing-seen}
 
@@ -87,16 +87,16 @@ gap-kept mode text b t k e =
 
 -- What is read of the element, where it is known which
 
-pub next-said : (mode : GapMode) (n : ℕ) (text : Text) (r now : ReadingView) (o : Option Element) (e : Element) → o ≡ Some e → now ≡ with_element mode n text e r → now ≡ with_next mode n text o r
+pub next-said : (mode : GapMode) (n : ℕ) (text : Text) (r now : GapSoFarView) (o : Option Element) (e : Element) → o ≡ Some e → now ≡ with_element mode n text e r → now ≡ with_next mode n text o r
 next-said mode n text r now o e is h = rw is h
 
 pub next-moved : (old new : Cursor) (o : Option Element) (e : Element) → o ≡ Some e → new ≡ passed (length (element_text e)) old → new ≡ passed (length (next_text o)) old
 next-moved old new o e is h = rw is h
 
-pub next-free : (mode : GapMode) (n : ℕ) (text : Text) (r : ReadingView) (o : Option Element) (e : Element) → o ≡ Some e → NextAddsNothing mode n text r o → AddsNothing mode n text r e
+pub next-free : (mode : GapMode) (n : ℕ) (text : Text) (r : GapSoFarView) (o : Option Element) (e : Element) → o ≡ Some e → NextAddsNothing mode n text r o → AddsNothing mode n text r e
 next-free mode n text r o e is h = rw is at h
 
-pub none-said : (mode : GapMode) (n : ℕ) (text : Text) (r : ReadingView) (o : Option Element) → o ≡ None → r ≡ with_next mode n text o r
+pub none-said : (mode : GapMode) (n : ℕ) (text : Text) (r : GapSoFarView) (o : Option Element) → o ≡ None → r ≡ with_next mode n text o r
 none-said mode n text r o is = rw is
 
 pub none-moved : (old : Cursor) (o : Option Element) → o ≡ None → old ≡ passed (length (next_text o)) old

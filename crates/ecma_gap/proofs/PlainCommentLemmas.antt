@@ -15,7 +15,7 @@ use Rattle.ecma_grammar.specs.Pieces.{pieces, spelled}
 use Rattle.ecma_grammar.specs.declared.gap_mode.GapMode.{GapMode}
 use Rattle.ecma_gap.specs.BlankGaps.{ArePassed, IsBlankGap, IsTold, PassesComment, PassesNone, PassesOpenComment, blank_text, is_comment, may_begin, told_of}
 use Rattle.ecma_gap.specs.declared.blank_gap.BlankGap.{BlankGap}
-use Rattle.ecma_gap.specs.Readings.{ReadingView, next_text, nothing_read, with_element}
+use Rattle.ecma_gap.specs.GapRecords.{GapSoFarView, next_text, nothing_read, with_element}
 use Rattle.ecma_gap.proofs.BlankGapLemmas.{Tells, if-told, none-next, told-parts}
 use Rattle.ecma_gap.proofs.BodyLemmas.{body-ended}
 use Rattle.ecma_gap.proofs.ElementLemmas.{block-closed, block-flag, flag-stays, line-moved, open-length, two-moves}
@@ -23,7 +23,7 @@ use Rattle.ecma_gap.proofs.NextElements.{common-block, common-line, common-none}
 use Rattle.ecma_grammar.proofs.Fronts.{length-take_while}
 use Rattle.ecma_grammar.proofs.SignLemmas.{rest-behind, signs-within}
 use Rattle.ecma_gap.proofs.BarsLemmas.{spelled-same}
-use Rattle.ecma_gap.proofs.ReadingLemmas.{common-reads, ended-at, gap-reads, next-smaller, whole, whole-ended, whole-is, whole-step, white-passed, white-stops}
+use Rattle.ecma_gap.proofs.GapSoFarLemmas.{common-reads, ended-at, gap-reads, next-smaller, whole, whole-ended, whole-is, whole-step, white-passed, white-stops}
 
 -- One comment
 
@@ -46,11 +46,11 @@ comment-said : (mode : GapMode) (n : ℕ) (text : Text) (flag terminator : Bool)
     → terminator ≡ list_any is_line_terminator (element_text e) → nothing_read (flag || terminator) ≡ with_element mode n text e (nothing_read flag)
 comment-said mode n text flag terminator (LineComment line) off is holds =
     ap (λ b. nothing_read (flag || b)) holds
-    ∙ ap (λ cs. let view : ReadingView = record { flag = flag || list_any is_line_terminator (element_text (LineComment line)); pending = None; comments = cs; faults = [] } in view)
+    ∙ ap (λ cs. let view : GapSoFarView = record { flag = flag || list_any is_line_terminator (element_text (LineComment line)); pending = None; comments = cs; faults = [] } in view)
     (sym (not-collected mode.collect _ off))
 comment-said mode n text flag terminator (BlockComment body) off is holds =
     ap (λ b. nothing_read (flag || b)) holds
-    ∙ ap (λ cs. let view : ReadingView = record { flag = flag || list_any is_line_terminator (element_text (BlockComment body)); pending = None; comments = cs; faults = [] } in view)
+    ∙ ap (λ cs. let view : GapSoFarView = record { flag = flag || list_any is_line_terminator (element_text (BlockComment body)); pending = None; comments = cs; faults = [] } in view)
     (sym (not-collected mode.collect _ off))
 comment-said mode n text flag terminator (Blank c) off is holds = cc
 comment-said mode n text flag terminator (OpenComment body) off is holds = cc
@@ -173,7 +173,7 @@ record BlankEnds (flag : Bool) (old : Cursor) (told : Bool) (now : Cursor) : Typ
   pub line_break : told ≡ (flag || list_any is_line_terminator (blank_text false (rest old)))
   pub moved : now ≡ passed (length (blank_text false (rest old))) old
 
-blank-ends : (flag : Bool) (old now : Cursor) (r : ReadingView) → whole common_cutter (λ f. tt) any_mode now r ≡ whole common_cutter (λ f. tt) any_mode old (nothing_read flag)
+blank-ends : (flag : Bool) (old now : Cursor) (r : GapSoFarView) → whole common_cutter (λ f. tt) any_mode now r ≡ whole common_cutter (λ f. tt) any_mode old (nothing_read flag)
     → common_element (rest now) ≡ None → BlankEnds flag old r.flag now
 blank-ends flag old now r from none =
     let same = from ∙ whole-is common_cutter (λ f. tt) any_mode old (nothing_read flag) in

@@ -1,5 +1,5 @@
 pub mod BlankGaps
-pub mod Readings
+pub mod GapRecords
 pub use Rattle.ecma_grammar.specs.Bars
 pub use Rattle.ecma_grammar.specs.Comments
 pub use Rattle.ecma_grammar.specs.Cutters

@@ -1,14 +1,14 @@
 //! Markers of bars. They are our own choice; ECMA-262 knows none.
 ghost use Rattle.std.specs.Prelude.{◌≡◌, true, false, length, option_map, if◌then◌else◌, IfOk, IsOk, OnErr, OnOk};
 ghost use Rattle.ecma_place.specs.Cursor.{rest, place, passed};
-ghost use Rattle.ecma_grammar.specs.Bars as grammar;
+ghost use Rattle.ecma_grammar.specs.Bars as markers;
 ghost use Rattle.ecma_grammar.specs.Bars.{common_cutter};
 ghost use Rattle.ecma_grammar.specs.Pieces.{pieces, spelled};
-ghost use Rattle.ecma_gap.specs.Readings.{bars_view, bars_found_at, found_with, gap_view, reading_view};
+ghost use Rattle.ecma_gap.specs.GapRecords.{bars_view, bars_found_at, found_with, gap_view, gap_so_far};
 
 use crate::element::{read_comment, read_marker};
 use crate::gap::Gap;
-use crate::reading::Reading;
+use crate::so_far::GapSoFar;
 use crate::white_space::skip_white_space;
 use ecma_grammar::gap_mode::GapMode;
 use ecma_place::StringInput;
@@ -29,19 +29,19 @@ fn read_comments<'a>(
     alloc: Global,
     input: &mut StringInput<'a>,
     mode: &GapMode,
-    reading: Reading<'a>,
+    so_far: GapSoFar<'a>,
 ) -> Result<Gap<'a>, AllocError>
     ensures gap { IfOk result (λ gap. gap_view gap ≡
-        found_with mode.now (place input.old) (rest input.old) (pieces common_cutter tt (rest input.old)) (reading_view reading.entry)) }
+        found_with mode.now (place input.old) (rest input.old) (pieces common_cutter tt (rest input.old)) (gap_so_far so_far.entry)) }
     ensures moved { OnOk result (input.new ≡ passed (length (spelled common_cutter (pieces common_cutter tt (rest input.old)))) input.old) }
 {
-    let mut reading = reading;
+    let mut so_far = so_far;
     let mut more = true;
     'comments: while more {
-        reading.line_break |= skip_white_space(input);
-        more = read_comment(alloc, input, mode, &mut reading)?;
+        so_far.line_break |= skip_white_space(input);
+        more = read_comment(alloc, input, mode, &mut so_far)?;
     }
-    reading.into_gap(alloc, input.cur_pos())
+    so_far.into_gap(alloc, input.cur_pos())
 }
 
 /// Reads the marker of bars at the cursor.
@@ -50,14 +50,14 @@ fn read_bars<'a>(
     input: &mut StringInput<'a>,
     mode: &GapMode,
 ) -> Result<Bars<'a>, AllocError>
-    requires { grammar.opens_bars (rest input.old) ≡ true }
+    requires { markers.opens_bars (rest input.old) ≡ true }
     ensures bars { IfOk result (λ bars. bars_view bars ≡
-        bars_found_at (place input.old) (grammar.found_bars (place input.old) mode.now (rest input.old))) }
-    ensures moved { OnOk result (input.new ≡ passed (length (grammar.bars_spelling (rest input.old))) input.old) }
+        bars_found_at (place input.old) (markers.found_bars (place input.old) mode.now (rest input.old))) }
+    ensures moved { OnOk result (input.new ≡ passed (length (markers.bars_spelling (rest input.old))) input.old) }
 {
-    let mut reading = Reading::new(alloc, true);
-    let span = read_marker(alloc, input, mode, &mut reading, '|')?;
-    let gap = read_comments(alloc, input, mode, reading)?;
+    let mut so_far = GapSoFar::new(alloc, true);
+    let span = read_marker(alloc, input, mode, &mut so_far, '|')?;
+    let gap = read_comments(alloc, input, mode, so_far)?;
     let error = Error::new(alloc, span, SyntaxError::TS1185)?;
     Ok(Bars { gap, error })
 }
@@ -78,10 +78,10 @@ pub fn scan_bars<'a>(
     mode: &GapMode,
 ) -> Result<Option<Bars<'a>>, AllocError>
     ensures found { IfOk result (λ bars. option_map bars_view bars ≡
-        option_map (bars_found_at (place input.old)) (grammar.bars_at (place input.old) mode.now (rest input.old))) }
+        option_map (bars_found_at (place input.old)) (markers.bars_at (place input.old) mode.now (rest input.old))) }
     ensures moved { OnOk result (input.new ≡
-        (if grammar.opens_bars (rest input.old) then passed (length (grammar.bars_spelling (rest input.old))) input.old else input.old)) }
-    ensures free { grammar.opens_bars (rest input.old) ≡ false → IsOk result }
+        (if markers.opens_bars (rest input.old) then passed (length (markers.bars_spelling (rest input.old))) input.old else input.old)) }
+    ensures free { markers.opens_bars (rest input.old) ≡ false → IsOk result }
     ensures same { OnErr result (input.new ≡ input.old) }
 {
     if !input.is_str("||||||| ") {

@@ -3,13 +3,13 @@ ghost use Rattle.std.specs.Prelude.{◌≡◌, [], false, length, map, is_some, 
 ghost use Rattle.ecma_place.specs.Cursor.{rest, place, passed};
 ghost use Rattle.ecma_grammar.specs.Comments.{comments_at};
 ghost use Rattle.ecma_grammar.specs.Found.{fault_view};
-ghost use Rattle.ecma_grammar.specs.Gaps as grammar;
+ghost use Rattle.ecma_grammar.specs.Gaps as gaps;
 ghost use Rattle.ecma_grammar.specs.Pieces.{spelled};
-ghost use Rattle.ecma_gap.specs.Readings.{gap_view, found_with, nothing_read, IsEmpty};
+ghost use Rattle.ecma_gap.specs.GapRecords.{gap_view, found_with, nothing_read, IsEmpty};
 
 use crate::element::{read_element, stands_html_opening};
 use crate::marker::stands_conflict;
-use crate::reading::Reading;
+use crate::so_far::GapSoFar;
 use crate::white_space::skip_white_space;
 use ecma_grammar::found::Blame;
 use ecma_grammar::gap_mode::GapMode;
@@ -30,7 +30,7 @@ pub struct Gap<'a> {
 
 /// Whether an HTML-like comment or a conflict marker stands at the cursor. `flag` says whether `-->` and markers may.
 fn stands_special(input: &StringInput, type_mode: bool, flag: bool) -> bool
-    ensures { result ≡ is_some (grammar.special_element type_mode flag (rest input.now)) }
+    ensures { result ≡ is_some (gaps.special_element type_mode flag (rest input.now)) }
 {
     stands_html_opening(input, type_mode)
         || (flag && (input.is_str("-->") || stands_conflict(input, type_mode)))
@@ -39,7 +39,7 @@ fn stands_special(input: &StringInput, type_mode: bool, flag: bool) -> bool
 /// Whether there is a gap at all: none stands before the text of a template, nor, where space is kept, before what is
 /// neither an HTML-like comment nor a marker.
 fn may_stand(input: &StringInput, mode: &GapMode) -> bool
-    ensures { grammar.gap mode.now (rest input.now) ≡ (if result then grammar.elements mode.now (rest input.now) else []) }
+    ensures { gaps.gap mode.now (rest input.now) ≡ (if result then gaps.elements mode.now (rest input.now) else []) }
 {
     !mode.template && (!mode.keeps_space || stands_special(input, mode.type_mode, mode.first))
 }
@@ -51,19 +51,19 @@ fn read_elements<'a>(
     mode: &GapMode,
 ) -> Result<Gap<'a>, AllocError>
     ensures gap { IfOk result (λ gap. gap_view gap ≡
-        found_with mode.now (place input.old) (rest input.old) (grammar.elements mode.now (rest input.old)) (nothing_read mode.now.first)) }
+        found_with mode.now (place input.old) (rest input.old) (gaps.elements mode.now (rest input.old)) (nothing_read mode.now.first)) }
     ensures moved { OnOk result (input.new ≡
-        passed (length (spelled (grammar.gap_cutter mode.now) (grammar.elements mode.now (rest input.old)))) input.old) }
-    ensures free { IsEmpty (found_with mode.now (place input.old) (rest input.old) (grammar.elements mode.now (rest input.old))
+        passed (length (spelled (gaps.gap_cutter mode.now) (gaps.elements mode.now (rest input.old)))) input.old) }
+    ensures free { IsEmpty (found_with mode.now (place input.old) (rest input.old) (gaps.elements mode.now (rest input.old))
         (nothing_read mode.now.first)) → IsOk result }
 {
-    let mut reading = Reading::new(alloc, mode.first);
+    let mut so_far = GapSoFar::new(alloc, mode.first);
     let mut more = true;
     'elements: while more {
-        reading.line_break |= skip_white_space(input);
-        more = read_element(alloc, input, mode, &mut reading)?;
+        so_far.line_break |= skip_white_space(input);
+        more = read_element(alloc, input, mode, &mut so_far)?;
     }
-    reading.into_gap(alloc, input.cur_pos())
+    so_far.into_gap(alloc, input.cur_pos())
 }
 
 /// Reads what stands before the next token (ECMA-262 WhiteSpace, LineTerminator and Comment, 12.2 to 12.4, and the
@@ -79,14 +79,14 @@ pub fn scan_gap<'a>(
     input: &mut StringInput<'a>,
     mode: &GapMode,
 ) -> Result<Gap<'a>, AllocError>
-    ensures line_break { IfOk result (λ gap. gap.line_break ≡ grammar.has_line_break mode.now (rest input.old)) }
+    ensures line_break { IfOk result (λ gap. gap.line_break ≡ gaps.has_line_break mode.now (rest input.old)) }
     ensures comments { IfOk result (λ gap. gap.comments.items ≡ comments_at (place input.old) mode.now (rest input.old)) }
     ensures faults { IfOk result (λ gap. map fault_view gap.faults.items ≡
-        grammar.gap_faults_at (place input.old) mode.now (rest input.old)) }
+        gaps.gap_faults_at (place input.old) mode.now (rest input.old)) }
     ensures moved { OnOk result
-        (input.new ≡ passed (length (grammar.gap_spelling mode.now (rest input.old))) input.old) }
+        (input.new ≡ passed (length (gaps.gap_spelling mode.now (rest input.old))) input.old) }
     ensures free { comments_at (place input.old) mode.now (rest input.old) ≡ []
-        → grammar.gap_faults_at (place input.old) mode.now (rest input.old) ≡ [] → IsOk result }
+        → gaps.gap_faults_at (place input.old) mode.now (rest input.old) ≡ [] → IsOk result }
     ensures same { OnErr result (input.new ≡ input.old) }
 {
     if !may_stand(input, mode) {

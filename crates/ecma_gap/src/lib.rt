@@ -1,16 +1,16 @@
 //! Readers of what stands between tokens: white space, comments, conflict markers, and markers of bars.
 #![tactic(auto)]
 
-mod attachment;
 pub mod bars;
 pub mod blank_gap;
 mod comment;
 mod element;
+mod for_next;
 pub mod gap;
 mod marker;
 mod plain_comments;
-mod reading;
 pub mod skip_whitespace;
+mod so_far;
 pub mod white_space;
 
 pub use bars::{Bars, scan_bars};

@@ -7,7 +7,7 @@ use Rattle.std.specs.Str.Parse.{digits_value}
 use Rattle.ecma_place.specs.Text.{Text}
 use Rattle.ecma_place.specs.Character.{is_line_terminator}
 use Rattle.ecma_grammar.specs.Fronts.{front, after, next_passes, next_is, is, begins_with}
-use Rattle.ecma_grammar.specs.Escapes.{Use, InString, InTemplate, InWord, Escape, Accepted, Refused, escape_spelling, escape, is_hex_digit, is_surrogate, is_octal_digit, code_escape, four_escape, braced_escape, unicode_escape, hex_escape, octal_digits, octal_escape, legacy_escape, line_end, escape_of, opening, Opening, UnicodeLetter, HexLetter, OctalDigit, LineEnd, Single, escape_behind, EscapeIsFront, EscapeIsSettled}
+use Rattle.ecma_grammar.specs.Escapes.{Use, InString, InTemplate, InWord, Escape, Accepted, Refused, escape_spelling, escape, is_hex_digit, is_surrogate, is_octal_digit, code_escape, four_escape, braced_escape, unicode_escape, hex_escape, octal_digits, octal_escape, legacy_escape, line_end, escape_of, lead, Lead, UnicodeLetter, HexLetter, OctalDigit, LineEnd, Single, escape_behind, EscapeIsFront, EscapeIsSettled}
 use Rattle.ecma_grammar.proofs.Fronts.{front_after}
 use Rattle.ecma_grammar.proofs.Agreement.{Agree, agree_less, agree_behind, next_agree, drop_agree, take_front, front_agree, after_agree, take_front_agree}
 
@@ -216,7 +216,7 @@ line_again : (n c : ℕ) (cs ds : Text) → suc (length (line_end c cs)) ≤ suc
 line_again zero c cs ds h a = absurd (omega (arith, line_length c cs))
 line_again (suc n) c cs ds h a = rw (next_agree n (is 10) cs ds a)
 
-of_again : (within : Use) (o : Opening) (n c : ℕ) (cs ds : Text) → escape_size (escape_of within o c cs) ≤ suc n → Agree (suc n) (c ∷ cs) (c ∷ ds)
+of_again : (within : Use) (o : Lead) (n c : ℕ) (cs ds : Text) → escape_size (escape_of within o c cs) ≤ suc n → Agree (suc n) (c ∷ cs) (c ∷ ds)
     → escape_of within o c cs ≡ escape_of within o c ds
 of_again InString UnicodeLetter n c cs ds h a = unicode_found_again InString n cs ds h (agree_behind n c c cs ds a)
 of_again InString HexLetter n c cs ds h a =
@@ -244,7 +244,7 @@ escape_again within n (c ∷ cs) [] h a = let e = a.same in cc
 escape_again within n (c ∷ cs) (d ∷ ds) h a =
     let e = a.same in
     let same : d ≡ c = cc in
-    rw same (of_again within (opening c) n c cs ds h (rw same at a))
+    rw same (of_again within (lead c) n c cs ds h (rw same at a))
 
 -- what is written of an escape is a front of the text
 
@@ -338,13 +338,13 @@ hex_front digits text f = go (length digits == 2) refl
     go false e = rw e (behind_same (92 ∷ (120 ∷ [])) digits text f)
 
 -- the letter that an opening names
-abbrev pub Names : Opening → ℕ → Type 0
+abbrev pub Names : Lead → ℕ → Type 0
 Names UnicodeLetter c = 117 ≡ c
 Names HexLetter c = 120 ≡ c
 Names o c = ⊤
 
-pub opening_names : (c : ℕ) → Names (opening c) c
-opening_names c = go (c == 117) (c == 120) (is_octal_digit c) (is_line_terminator c) refl refl
+pub lead_names : (c : ℕ) → Names (lead c) c
+lead_names c = go (c == 117) (c == 120) (is_octal_digit c) (is_line_terminator c) refl refl
   where
     go : (x y z w : Bool) → (c == 117) ≡ x → (c == 120) ≡ y → Names (cond x UnicodeLetter (cond y HexLetter (cond z OctalDigit (cond w LineEnd Single)))) c
     go true y z w e f = sym (eqb-true c 117 e)
@@ -361,7 +361,7 @@ hex_letter_front c cs h =
     let f = hex_front (take 2 (front is_hex_digit cs)) cs (take_front_of 2 is_hex_digit cs) in
     (f.0, f.1 ∙ ap (λ x. 92 ∷ (x ∷ cs)) h)
 
-of_front : (within : Use) (o : Opening) (c : ℕ) (cs : Text) → Names o c → IsFrontOf (escape_spelling (escape_of within o c cs)) (92 ∷ (c ∷ cs))
+of_front : (within : Use) (o : Lead) (c : ℕ) (cs : Text) → Names o c → IsFrontOf (escape_spelling (escape_of within o c cs)) (92 ∷ (c ∷ cs))
 of_front InString UnicodeLetter c cs h = letter_front InString c cs h
 of_front InString HexLetter c cs h = hex_letter_front c cs h
 of_front InString OctalDigit c cs h = octal_escape_front InString c cs
@@ -383,7 +383,7 @@ pub escape_front : (within : Use) (t : Text) → IsFrontOf (escape_spelling (esc
 escape_front InString [] = ([], refl)
 escape_front InTemplate [] = ([], refl)
 escape_front InWord [] = ([], refl)
-escape_front within (c ∷ cs) = of_front within (opening c) c cs (opening_names c)
+escape_front within (c ∷ cs) = of_front within (lead c) c cs (lead_names c)
 
 legacy_some : (within : Use) (c : ℕ) (digits : Text) → 0 < escape_size (legacy_escape within c digits)
 legacy_some InTemplate c digits = omega arith
@@ -397,7 +397,7 @@ octal_some within c cs = go (c == 48 && not (next_passes is_octal_digit cs)) ref
     go true e = rw e (omega arith)
     go false e = rw e (legacy_some within c (octal_digits (c ∷ cs)))
 
-of_some : (within : Use) (o : Opening) (c : ℕ) (cs : Text) → 0 < escape_size (escape_of within o c cs)
+of_some : (within : Use) (o : Lead) (c : ℕ) (cs : Text) → 0 < escape_size (escape_of within o c cs)
 of_some InString UnicodeLetter c cs = omega (arith, unicode_size InString cs)
 of_some InString HexLetter c cs = omega (arith, hex_size (take 2 (front is_hex_digit cs)))
 of_some InString OctalDigit c cs = octal_some InString c cs
@@ -419,7 +419,7 @@ pub escape_some : (within : Use) (t : Text) → 0 < escape_size (escape_behind w
 escape_some InString [] = omega arith
 escape_some InTemplate [] = omega arith
 escape_some InWord [] = omega arith
-escape_some within (c ∷ cs) = of_some within (opening c) c cs
+escape_some within (c ∷ cs) = of_some within (lead c) c cs
 
 pub accepted_size : (within : Use) (t : Text) → is_accepted_escape (unicode_escape within t) ≡ true → 4 ≤ escape_size (unicode_escape within t)
 accepted_size within t h = go (next_is 123 t) refl

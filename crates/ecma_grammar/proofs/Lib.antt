@@ -1,5 +1,5 @@
 pub mod Agreement
-pub mod AttachmentLemmas
+pub mod ForNextLemmas
 pub mod EmptyLists
 pub mod EscapeLaws
 pub mod Fronts

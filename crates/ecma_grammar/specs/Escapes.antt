@@ -66,15 +66,15 @@ abbrev pub is_surrogate : ℕ → Bool
 is_surrogate c = nat_le 0xD800 c && nat_le c 0xDFFF
 
 -- what the character behind a backslash begins
-pub data Opening : Type 0 where
-  UnicodeLetter : Opening
-  HexLetter : Opening
-  OctalDigit : Opening
-  LineEnd : Opening
-  Single : Opening
+pub data Lead : Type 0 where
+  UnicodeLetter : Lead
+  HexLetter : Lead
+  OctalDigit : Lead
+  LineEnd : Lead
+  Single : Lead
 
-abbrev pub opening : ℕ → Opening
-opening c =
+abbrev pub lead : ℕ → Lead
+lead c =
     if c == 117 then UnicodeLetter
     else (if c == 120 then HexLetter
     else (if is_octal_digit c then OctalDigit
@@ -177,9 +177,9 @@ unicode_escape within text =
 -- Any escape
 
 -- a word has escapes of code points alone
-abbrev pub escape_of : Use → Opening → ℕ → Text → Escape
+abbrev pub escape_of : Use → Lead → ℕ → Text → Escape
 escape_of within UnicodeLetter c cs = unicode_escape within cs
-escape_of InWord opening c cs = Refused (92 ∷ []) (error_at (plain ExpectedUnicodeEscape) 0)
+escape_of InWord lead c cs = Refused (92 ∷ []) (error_at (plain ExpectedUnicodeEscape) 0)
 escape_of within HexLetter c cs = hex_escape (take 2 (hex_front cs))
 escape_of within OctalDigit c cs = octal_escape within c cs
 escape_of within LineEnd c cs = Accepted (92 ∷ line_end c cs) [] []
@@ -193,7 +193,7 @@ bare within = Refused (92 ∷ []) (error_at (plain InvalidStrEscape) 0)
 -- the escape whose backslash stands before the text
 abbrev pub escape_behind : Use → Text → Escape
 escape_behind within [] = bare within
-escape_behind within (c ∷ cs) = escape_of within (opening c) c cs
+escape_behind within (c ∷ cs) = escape_of within (lead c) c cs
 
 -- the escape with which a text begins
 abbrev pub escape : Use → Text → Escape

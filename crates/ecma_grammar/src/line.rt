@@ -2,7 +2,7 @@
 ghost use Rattle.std.specs.Prelude.{◌≡◌, length, encode_utf8_all};
 ghost use Rattle.ecma_place.specs.Cursor.{rest, passed};
 ghost use Rattle.ecma_place.specs.Text.{count_within};
-ghost use Rattle.ecma_grammar.specs.Fronts as grammar;
+ghost use Rattle.ecma_grammar.specs.Fronts as fronts;
 ghost use Rattle.std.specs.List.{prefix_len};
 ghost use Rattle.ecma_place.specs.Run.{is_in_class};
 
@@ -11,8 +11,8 @@ use ecma_place::{ByteClass, CharExt, StringInput};
 /// Moves behind the line at the cursor, before its line terminator or the end, and answers its text.
 #[tactic(auto, using(crate::proofs::LineLemmas::lines))]
 pub fn read_line<'a>(input: &mut StringInput<'a>) -> &'a str
-    ensures text { result.now ≡ encode_utf8_all (grammar.line (rest input.old)) }
-    ensures moved { input.new ≡ passed (length (grammar.line (rest input.old))) input.old }
+    ensures text { result.now ≡ encode_utf8_all (fronts.line (rest input.old)) }
+    ensures moved { input.new ≡ passed (length (fronts.line (rest input.old))) input.old }
 {
     let start = input.cur_pos();
     input.bump_bytes(input.run_bytes(ByteClass::Line) as usize);

@@ -9,7 +9,7 @@ use Rattle.ecma_classes.specs.declared.piece.Class.TheVariants as pieces
 use Rattle.ecma_classes.specs.declared.piece.Piece.{Piece}
 use Rattle.ecma_html.specs.declared.«class».Class.{Class}
 use Rattle.ecma_html.specs.declared.«class».Class.TheVariants.{Keyword, Literal, Name, Property, Text, Template, Number, Expression, Comment, Wrong}
-use Rattle.ecma_html.specs.Markup.{closing, escaped, escaped_byte, html_of, opening, piece_html, pieces_html, styled_html}
+use Rattle.ecma_html.specs.Markup.{close_tag, escaped, escaped_byte, html_of, open_tag, piece_html, pieces_html, styled_html}
 use Rattle.ecma_html.specs.Styles.{Styled, class_name, left_classes, piece_class, styled}
 use Rattle.ecma_html.specs.Unmark.{Inside, Outside, Reference, Tag, Unmarked, at, in_text, read_byte, shown, shown_byte, unmark}
 
@@ -154,9 +154,9 @@ pieces-back before source (s ∷ ss) =
 html-back : (source : List ℕ) (pieces : List Styled) → unmark (html_of source pieces) ≡ shown (bytes_of source pieces)
 html-back source pieces =
     ap (λ u. u.text)
-    (fold-append read_byte (at Outside []) opening (pieces_html source pieces ++ closing)
-    ∙ fold-append read_byte (at Inside []) (pieces_html source pieces) closing
-    ∙ ap (λ u. fold read_byte u closing) (pieces-back [] source pieces))
+    (fold-append read_byte (at Outside []) open_tag (pieces_html source pieces ++ close_tag)
+    ∙ fold-append read_byte (at Inside []) (pieces_html source pieces) close_tag
+    ∙ ap (λ u. fold read_byte u close_tag) (pieces-back [] source pieces))
 
 styled-bytes : (source : List ℕ) (classes : List (Option Class)) (pieces : List Piece) → bytes_of source (styled classes pieces) ≡ joined 0 source pieces
 styled-bytes source classes [] = refl

@@ -26,12 +26,12 @@ piece_html text s = styled_html s.style (slice_range text s.span.lo.0 s.span.hi.
 abbrev pub pieces_html : List ℕ → List Styled → List ℕ
 pieces_html text pieces = flat_map (piece_html text) pieces
 
-abbrev pub opening : List ℕ
-opening = codes "<pre class=\"ecma\">" ++ 10 ∷ []
+abbrev pub open_tag : List ℕ
+open_tag = codes "<pre class=\"ecma\">" ++ 10 ∷ []
 
-abbrev pub closing : List ℕ
-closing = codes "</pre>" ++ 10 ∷ []
+abbrev pub close_tag : List ℕ
+close_tag = codes "</pre>" ++ 10 ∷ []
 
 -- a text that starts at the place 0
 abbrev pub html_of : List ℕ → List Styled → List ℕ
-html_of text pieces = opening ++ (pieces_html text pieces ++ closing)
+html_of text pieces = open_tag ++ (pieces_html text pieces ++ close_tag)

@@ -40,8 +40,8 @@ part_of (kind.Word w) = word_part w
 part_of kind.Str = part.Text
 part_of kind.LParen = part.Paren
 part_of kind.LBrace = part.Brace
-part_of kind.LBracket = part.Opening
-part_of kind.DollarLBrace = part.Opening
+part_of kind.LBracket = part.Bracket
+part_of kind.DollarLBrace = part.Bracket
 part_of kind.RParen = part.Closing
 part_of kind.RBracket = part.Closing
 part_of kind.RBrace = part.EndBrace
@@ -137,7 +137,7 @@ next_stage stage.From depth p = behind_from (depth == 0) p
 abbrev pub next_depth : ℕ → Part → ℕ
 next_depth depth part.Paren = depth + 1
 next_depth depth part.Brace = depth + 1
-next_depth depth part.Opening = depth + 1
+next_depth depth part.Bracket = depth + 1
 next_depth depth part.Closing = depth - 1
 next_depth depth part.EndBrace = depth - 1
 next_depth depth _ = depth

@@ -1,7 +1,7 @@
 //! What is written of the specifiers of a text.
 ghost use Rattle.std.specs.Prelude.{◌≡◌, ◌≤◌, ◌<◌, ◌^◌, ◌++◌, length, string_bytes, IfOk, OnOk};
 ghost use Rattle.std.specs.List.{All};
-ghost use Rattle.ecma_imports.specs.Lines as grammar;
+ghost use Rattle.ecma_imports.specs.Lines as rows;
 ghost use Rattle.ecma_imports.specs.Lines.{LiesWithin, imports_of};
 
 use crate::imported::{Form, Specifier, specifiers};
@@ -11,7 +11,7 @@ use ecma_syntax::Context;
 use std::alloc::{AllocError, Global};
 
 fn form_name(form: Form) -> &'static str
-    ensures { result.now ≡ grammar.form_name form }
+    ensures { result.now ≡ rows.form_name form }
 {
     match form {
         Form::Static => "static",
@@ -21,7 +21,7 @@ fn form_name(form: Form) -> &'static str
 
 /// How it is imported, and where it begins and ends, each with a space behind it.
 fn head(alloc: Global, specifier: Specifier) -> Result<String, AllocError>
-    ensures { IfOk result (λ text. string_bytes text ≡ grammar.head specifier) }
+    ensures { IfOk result (λ text. string_bytes text ≡ rows.head specifier) }
 {
     let form = form_name(specifier.form);
     let lo = specifier.span.lo.0;
@@ -38,7 +38,7 @@ fn push_line(
 ) -> Result<(), AllocError>
     requires in_order { specifier.span.lo.0 ≤ specifier.span.hi.0 }
     requires within { specifier.span.hi.0 ≤ length bytes.now }
-    ensures { OnOk result (out.new.items ≡ out.old.items ++ grammar.line bytes.now specifier) }
+    ensures { OnOk result (out.new.items ≡ out.old.items ++ rows.line bytes.now specifier) }
 {
     let head = head(alloc, specifier)?;
     out.extend_from_slice(head.as_bytes())?;
@@ -59,7 +59,7 @@ pub fn specifier_lines(
     specifiers: &[Specifier],
 ) -> Result<Vec<u8>, AllocError>
     requires { All (LiesWithin (length bytes.now)) specifiers.now }
-    ensures { IfOk result (λ v. v.items ≡ grammar.lines bytes.now specifiers.now) }
+    ensures { IfOk result (λ v. v.items ≡ rows.lines bytes.now specifiers.now) }
 {
     let mut out = Vec::new(alloc);
     for specifier in specifiers {

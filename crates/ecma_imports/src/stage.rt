@@ -19,7 +19,7 @@ pub(crate) enum Part {
     Paren,
     Brace,
     /// `[` or `${`.
-    Opening,
+    Bracket,
     /// `)` or `]`.
     Closing,
     EndBrace,
@@ -52,7 +52,7 @@ impl Part {
             TokenKind::Str => Part::Text,
             TokenKind::LParen => Part::Paren,
             TokenKind::LBrace => Part::Brace,
-            TokenKind::LBracket | TokenKind::DollarLBrace => Part::Opening,
+            TokenKind::LBracket | TokenKind::DollarLBrace => Part::Bracket,
             TokenKind::RParen | TokenKind::RBracket => Part::Closing,
             TokenKind::RBrace => Part::EndBrace,
             TokenKind::Comma => Part::Comma,
@@ -68,7 +68,7 @@ impl Part {
         ensures { result ≡ table.next_depth depth self }
     {
         match self {
-            Part::Paren | Part::Brace | Part::Opening => depth + 1,
+            Part::Paren | Part::Brace | Part::Bracket => depth + 1,
             Part::Closing | Part::EndBrace => depth.saturating_sub(1),
             _ => depth,
         }

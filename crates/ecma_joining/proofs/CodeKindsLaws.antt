@@ -9,7 +9,7 @@ use Rattle.ecma_syntax.specs.declared.settings.NumberRule.{NumberRule}
 use Rattle.ecma_token.specs.Kinds.{kind_of}
 use Rattle.ecma_token.specs.View.{ErrorView, TokenView, plain_token}
 use Rattle.ecma_token.specs.declared.token.Token.{BinOp}
-use Rattle.ecma_joining.specs.Code.{Bars, CodeMode, CodeOpening, Number, Other, String, Word', code_opening, read_code}
+use Rattle.ecma_joining.specs.Code.{Bars, CodeMode, CodeLookahead, Number, Other, String, Word', code_lookahead, read_code}
 use Rattle.ecma_state.specs.TokenAt.{punctuator_or_stray, stray, word_value}
 use Rattle.ecma_joining.specs.CodeKinds.{CloserIsWritten, CodeHoldsNoBreak, CodeIsNeither, is_closer, is_closer_text, is_text_or_line}
 use Rattle.ecma_scan.specs.Numbers as numbers
@@ -125,7 +125,7 @@ other_tells type_mode text (Some p) t e h =
       written = λ k. from_or _ _ (row_passes is_written type_mode text p all_written refl refl e) (ap (λ x. is_closer (kind_of x)) same ∙ k);
     }
 
-tells : (opened : CodeOpening) (mode : CodeMode) (text : Text) (t : TokenView) → (read_code opened mode text).value ≡ Ok t → Tells (Ok t) (read_code opened mode text).spelling t
+tells : (opened : CodeLookahead) (mode : CodeMode) (text : Text) (t : TokenView) → (read_code opened mode text).value ≡ Ok t → Tells (Ok t) (read_code opened mode text).spelling t
 tells Number mode text t h = number_tells mode.ts1085 mode.numbers (numbers.number_parts text) (numbers.refusal mode.numbers (numbers.number_parts text) (numbers.behind_number (numbers.number_parts text) text)) t h
 tells String mode text t h = string_tells text t h
 tells Word' mode text t h = word_tells (words.word mode.context text).value _ t h
@@ -133,10 +133,10 @@ tells Bars mode text t h = cc
 tells Other mode text t h = other_tells mode.type_mode text (punctuator_in mode.type_mode text) t refl h
 
 pub code_is_neither : CodeIsNeither
-code_is_neither mode flag text t h = (tells (code_opening flag text) mode text t h).neither
+code_is_neither mode flag text t h = (tells (code_lookahead flag text) mode text t h).neither
 
 pub closer_is_written : CloserIsWritten
-closer_is_written mode flag text t h k = (tells (code_opening flag text) mode text t h).written k
+closer_is_written mode flag text t h k = (tells (code_lookahead flag text) mode text t h).written k
 
 -- line terminators
 
@@ -162,7 +162,7 @@ other_break : (found : Option Punctuator) (text : Text) → (punctuator_or_stray
 other_break (Some p) text = refl
 other_break None text = stray_break text
 
-breaks : (opened : CodeOpening) (mode : CodeMode) (text : Text) → (read_code opened mode text).line_break ≡ false
+breaks : (opened : CodeLookahead) (mode : CodeMode) (text : Text) → (read_code opened mode text).line_break ≡ false
 breaks Number mode text = number_break mode.ts1085 mode.numbers (numbers.number_parts text) (numbers.refusal mode.numbers (numbers.number_parts text) (numbers.behind_number (numbers.number_parts text) text))
 breaks String mode text = literal_break text
 breaks Word' mode text = refl
@@ -170,4 +170,4 @@ breaks Bars mode text = refl
 breaks Other mode text = other_break (punctuator_in mode.type_mode text) text
 
 pub code_holds_no_break : CodeHoldsNoBreak
-code_holds_no_break mode flag text = breaks (code_opening flag text) mode text
+code_holds_no_break mode flag text = breaks (code_lookahead flag text) mode text

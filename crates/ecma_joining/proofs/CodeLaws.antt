@@ -11,9 +11,9 @@ use Rattle.ecma_token.specs.declared.token.Radix.TheVariants.{Decimal}
 use Rattle.ecma_scan.specs.Bars.{opens_bars}
 use Rattle.ecma_scan.specs.Fronts.{begins_with, next_passes}
 use Rattle.ecma_scan.specs.Gaps.{element}
-use Rattle.ecma_joining.specs.Code.{CodeBeginsNoGap, CodeIsLocal, CodeIsToken, CodeMode, CodeOpensNoShebang, code_at, code_mode, opening_from, read_code}
+use Rattle.ecma_joining.specs.Code.{CodeBeginsNoGap, CodeIsLocal, CodeIsToken, CodeMode, CodeOpensNoShebang, code_at, code_mode, lookahead_from, read_code}
 use Rattle.ecma_state.specs.Mode.{is_template}
-use Rattle.ecma_state.specs.TokenAt as grammar
+use Rattle.ecma_state.specs.TokenAt as tokens
 use Rattle.ecma_state.specs.TokenAt.{as_token, punctuator_or_stray, stray}
 use Rattle.ecma_scan.specs.Locality.{is_clean, separates}
 use Rattle.ecma_scan.specs.Numbers.{digit, exponent, in_run, number, number_parts, number_text, opens_number, refusal, behind_number, exponent_text, after_fraction, run_of}
@@ -149,8 +149,8 @@ code mode flag c b behind r clean spells =
     other (Some p) e k s is n t w = APunctuator n t w p e s is
     other None e k s is n t w = cc
 
-    go : (n s w x : Bool) → opens_number text ≡ n → opens_string text ≡ s → opens_word text ≡ w → is_clean (read_code (opening_from n s w x) mode text) ≡ true
-        → (read_code (opening_from n s w x) mode text).spelling ≡ c ∷ b → code_at mode flag text ≡ read_code (opening_from n s w x) mode text → Code mode flag c b behind r
+    go : (n s w x : Bool) → opens_number text ≡ n → opens_string text ≡ s → opens_word text ≡ w → is_clean (read_code (lookahead_from n s w x) mode text) ≡ true
+        → (read_code (lookahead_from n s w x) mode text).spelling ≡ c ∷ b → code_at mode flag text ≡ read_code (lookahead_from n s w x) mode text → Code mode flag c b behind r
     go true s w x e f g k spells is = ANumber e k spells is
     go false true w x e f g k spells is = AString e f k spells is
     go false false true x e f g k spells is = AWord e f g k spells is
@@ -170,29 +170,29 @@ code_is_local mode flag c b behind r clean spells free = go (code mode flag c b 
     go : Code mode flag c b behind r → code_at mode flag to ≡ code_at mode flag (c ∷ (b ++ behind))
     go (ANumber opens k s is) =
         let again = number_again mode.ts1085 mode.numbers c b behind r opens s in
-        ap (λ x. read_code (opening_from x (opens_string to) (opens_word to) (flag && opens_bars to)) mode to) again
+        ap (λ x. read_code (lookahead_from x (opens_string to) (opens_word to) (flag && opens_bars to)) mode to) again
         ∙ number_local mode.ts1085 mode.numbers (c ∷ b) behind r opens k s free
         ∙ sym is
     go (AString n opens k s is) =
         let none = no_number_again c b behind r n free in
-        ap (λ x. read_code (opening_from x (opens_string to) (opens_word to) (flag && opens_bars to)) mode to) none
-        ∙ ap (λ x. read_code (opening_from false x (opens_word to) (flag && opens_bars to)) mode to) opens
+        ap (λ x. read_code (lookahead_from x (opens_string to) (opens_word to) (flag && opens_bars to)) mode to) none
+        ∙ ap (λ x. read_code (lookahead_from false x (opens_word to) (flag && opens_bars to)) mode to) opens
         ∙ string_is_local (c ∷ b) behind r opens k s refl
         ∙ sym is
     go (AWord n t opens k s is) =
         let none = no_number_again c b behind r n free in
-        ap (λ x. read_code (opening_from x (opens_string to) (opens_word to) (flag && opens_bars to)) mode to) none
-        ∙ ap (λ x. read_code (opening_from false x (opens_word to) (flag && opens_bars to)) mode to) t
-        ∙ ap (λ x. read_code (opening_from false false x (flag && opens_bars to)) mode to) opens
+        ap (λ x. read_code (lookahead_from x (opens_string to) (opens_word to) (flag && opens_bars to)) mode to) none
+        ∙ ap (λ x. read_code (lookahead_from false x (opens_word to) (flag && opens_bars to)) mode to) t
+        ∙ ap (λ x. read_code (lookahead_from false false x (flag && opens_bars to)) mode to) opens
         ∙ ap as_token (word_is_local mode.context (c ∷ b) behind r opens (word_clean mode (c ∷ (b ++ behind)) k) s free)
         ∙ sym is
     go (APunctuator n t w p e s is) =
         let none = no_number_again c b behind r n free in
         let bars : opens_bars to ≡ false = ap (λ x. opens_bars (x ++ r)) (sym s) ∙ punctuator_opens_none opens_bars mode.type_mode (c ∷ (b ++ behind)) r p (bars_none r free) e in
-        ap (λ x. read_code (opening_from x (opens_string to) (opens_word to) (flag && opens_bars to)) mode to) none
-        ∙ ap (λ x. read_code (opening_from false x (opens_word to) (flag && opens_bars to)) mode to) t
-        ∙ ap (λ x. read_code (opening_from false false x (flag && opens_bars to)) mode to) w
-        ∙ ap (λ x. read_code (opening_from false false false x) mode to) (and_false flag (opens_bars to) bars)
+        ap (λ x. read_code (lookahead_from x (opens_string to) (opens_word to) (flag && opens_bars to)) mode to) none
+        ∙ ap (λ x. read_code (lookahead_from false x (opens_word to) (flag && opens_bars to)) mode to) t
+        ∙ ap (λ x. read_code (lookahead_from false false x (flag && opens_bars to)) mode to) w
+        ∙ ap (λ x. read_code (lookahead_from false false false x) mode to) (and_false flag (opens_bars to) bars)
         ∙ ap (λ x. punctuator_or_stray x to) (found_local mode.type_mode (c ∷ b) behind r (Some p) e s free)
         ∙ sym is
 
@@ -240,7 +240,7 @@ code_is_token mode flag text outside =
     go (is_template mode.top) (opens_number text) (opens_string text) (opens_word text) (flag && opens_bars text) outside
   where
     go : (t n s w b : Bool) → t ≡ false
-        → grammar.read_opened (grammar.opening_from t n s w b) mode text ≡ read_code (opening_from n s w b) (code_mode mode) text
+        → tokens.read_opened (tokens.lookahead_from t n s w b) mode text ≡ read_code (lookahead_from n s w b) (code_mode mode) text
     go true n s w b outside = cc
     go false true s w b outside = refl
     go false false true w b outside = refl

@@ -6,7 +6,7 @@ use Rattle.std.proofs.lemmas.Bool.{and_parts}
 use Rattle.ecma_place.specs.Text.{Text, byte_len}
 use Rattle.ecma_place.specs.Character.{is_ident_start}
 use Rattle.ecma_scan.specs.Cutters.{ReadsInOrder}
-use Rattle.ecma_scan.specs.Escapes.{Accepted, Escape, HexLetter, InWord, LineEnd, OctalDigit, Opening, Refused, Single, UnicodeLetter, braced_escape, code_escape, escape_behind, escape_of, four_escape, hex_front, is_hex_digit, is_surrogate, opening, surrogate_faults, no_brace, out_of_range, unicode_escape}
+use Rattle.ecma_scan.specs.Escapes.{Accepted, Escape, HexLetter, InWord, LineEnd, OctalDigit, Lead, Refused, Single, UnicodeLetter, braced_escape, code_escape, escape_behind, escape_of, four_escape, hex_front, is_hex_digit, is_surrogate, lead, surrogate_faults, no_brace, out_of_range, unicode_escape}
 use Rattle.std.specs.Str.Parse.{digits_value}
 use Rattle.ecma_scan.specs.Expressions.{body_cutter, body_pieces, expression_behind, flags, regular_expression, slashed}
 use Rattle.ecma_scan.specs.Found.{Fault, fault_behind}
@@ -53,7 +53,7 @@ braced_always (d ∷ ds) rest =
 unicode_always : (text : Text) → all_always (escape_faults (unicode_escape InWord text)) ≡ true
 unicode_always text = choice (next_is 123 text) _ _ (braced_always (hex_front (drop 1 text)) (after is_hex_digit (drop 1 text))) (four_always (take 4 (hex_front text)))
 
-of_always : (o : Opening) (c : ℕ) (cs : Text) → all_always (escape_faults (escape_of InWord o c cs)) ≡ true
+of_always : (o : Lead) (c : ℕ) (cs : Text) → all_always (escape_faults (escape_of InWord o c cs)) ≡ true
 of_always UnicodeLetter c cs = unicode_always cs
 of_always HexLetter c cs = refl
 of_always OctalDigit c cs = refl
@@ -62,7 +62,7 @@ of_always Single c cs = refl
 
 behind_always : (text : Text) → all_always (escape_faults (escape_behind InWord text)) ≡ true
 behind_always [] = refl
-behind_always (c ∷ cs) = of_always (opening c) c cs
+behind_always (c ∷ cs) = of_always (lead c) c cs
 
 -- pieces of words
 

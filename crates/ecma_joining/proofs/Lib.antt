@@ -2,6 +2,6 @@ pub mod BoundariesLaws
 pub mod CodeKindsLaws
 pub mod CodeLaws
 pub mod FaultlessLaws
-pub mod PlainContextsLemmas
+pub mod OwnContextsLemmas
 pub mod SeparatorsLaws
 pub mod TextsLaws

@@ -9,7 +9,7 @@ use Rattle.ecma_token.specs.declared.token.Token.{BinOp, AssignOp}
 use Rattle.ecma_scan.specs.declared.gap_mode.GapMode.{GapMode}
 use Rattle.ecma_scan.specs.Fronts.{begins_with}
 use Rattle.ecma_scan.specs.Gaps.{Element, Blank, element, faults_of, gap, gap_cutter, has_line_break, is_inert}
-use Rattle.ecma_joining.specs.Code.{CodeMode, code_at, opening_from, read_code}
+use Rattle.ecma_joining.specs.Code.{CodeMode, code_at, lookahead_from, read_code}
 use Rattle.ecma_state.specs.TokenAt.{punctuator_or_stray}
 use Rattle.ecma_joining.specs.Separators.{CloserAgain, ClosersAreReadAgain, IsGap, SeparatorIsTheGap, SlashIsReadAgain, StartIsTheGap}
 use Rattle.ecma_scan.specs.Numbers.{opens_number}
@@ -77,8 +77,8 @@ same_slash false true h = let no : codes "/" ≡ codes "/=" = ap (λ s. s.spelli
 -- at a slash code reads a punctuator
 code_slash : (mode : CodeMode) (flag : Bool) (cs : Text) → code_at mode flag (47 ∷ cs) ≡ punctuator_or_stray (Some (slash_of (begins_with (61 ∷ []) cs))) []
 code_slash mode flag cs =
-    ap (λ x. read_code (opening_from false false (x || false) (flag && false)) mode (47 ∷ cs)) slash_no_start
-    ∙ ap (λ x. read_code (opening_from false false false x) mode (47 ∷ cs)) (never flag)
+    ap (λ x. read_code (lookahead_from false false (x || false) (flag && false)) mode (47 ∷ cs)) slash_no_start
+    ∙ ap (λ x. read_code (lookahead_from false false false x) mode (47 ∷ cs)) (never flag)
     ∙ ap (λ x. punctuator_or_stray x (47 ∷ cs)) (slash_in mode.type_mode cs)
   where
     never : (b : Bool) → (b && false) ≡ false
@@ -140,7 +140,7 @@ never false = refl
 
 -- a character that opens nothing but a punctuator of its own
 closer : (mode : CodeMode) (flag : Bool) (c : ℕ) (p : Punctuator) (behind r : Text) → is_ident_start c ≡ false → (c == 92) ≡ false → is_inert c ≡ true
-    → ((cs : Text) → opens_number (c ∷ cs) ≡ false) → ((cs : Text) → code_at mode flag (c ∷ cs) ≡ read_code (opening_from false false (opens_word (c ∷ cs)) (flag && false)) mode (c ∷ cs))
+    → ((cs : Text) → opens_number (c ∷ cs) ≡ false) → ((cs : Text) → code_at mode flag (c ∷ cs) ≡ read_code (lookahead_from false false (opens_word (c ∷ cs)) (flag && false)) mode (c ∷ cs))
     → ((x : Bool) (cs : Text) → punctuator_in x (c ∷ cs) ≡ Some p) → ((cs : Text) → opens_shebang (c ∷ cs) ≡ false) → CloserAgain mode flag c behind r
 closer mode flag c p behind r start slash inert number opens found shebang =
     record {
@@ -152,8 +152,8 @@ closer mode flag c p behind r start slash inert number opens found shebang =
     is : (cs : Text) → code_at mode flag (c ∷ cs) ≡ punctuator_or_stray (Some p) []
     is cs =
         opens cs
-        ∙ ap (λ x. read_code (opening_from false false x (flag && false)) mode (c ∷ cs)) (no_start c start slash cs)
-        ∙ ap (λ x. read_code (opening_from false false false x) mode (c ∷ cs)) (never flag)
+        ∙ ap (λ x. read_code (lookahead_from false false x (flag && false)) mode (c ∷ cs)) (no_start c start slash cs)
+        ∙ ap (λ x. read_code (lookahead_from false false false x) mode (c ∷ cs)) (never flag)
         ∙ ap (λ x. punctuator_or_stray x (c ∷ cs)) (found mode.type_mode cs)
 
 found_at : (c : ℕ) (p : Punctuator) → ((cs : Text) → punctuator_in true (c ∷ cs) ≡ Some p) → ((cs : Text) → punctuator_in false (c ∷ cs) ≡ Some p) → (x : Bool) (cs : Text) → punctuator_in x (c ∷ cs) ≡ Some p

@@ -25,24 +25,24 @@ pub record CodeMode : Type 0 where
   pub numbers : NumberRule
   pub context : Context
 
-pub data CodeOpening : Type 0 where
-  Number : CodeOpening
-  String : CodeOpening
-  Word' : CodeOpening
-  Bars : CodeOpening
-  Other : CodeOpening
+pub data CodeLookahead : Type 0 where
+  Number : CodeLookahead
+  String : CodeLookahead
+  Word' : CodeLookahead
+  Bars : CodeLookahead
+  Other : CodeLookahead
 
-abbrev pub opening_from : Bool → Bool → Bool → Bool → CodeOpening
-opening_from true string word bars = Number
-opening_from false true word bars = String
-opening_from false false true bars = Word'
-opening_from false false false true = Bars
-opening_from false false false false = Other
+abbrev pub lookahead_from : Bool → Bool → Bool → Bool → CodeLookahead
+lookahead_from true string word bars = Number
+lookahead_from false true word bars = String
+lookahead_from false false true bars = Word'
+lookahead_from false false false true = Bars
+lookahead_from false false false false = Other
 
-abbrev pub code_opening : Bool → Text → CodeOpening
-code_opening flag text = opening_from (numbers.opens_number text) (strings.opens_string text) (words.opens_word text) (flag && bars.opens_bars text)
+abbrev pub code_lookahead : Bool → Text → CodeLookahead
+code_lookahead flag text = lookahead_from (numbers.opens_number text) (strings.opens_string text) (words.opens_word text) (flag && bars.opens_bars text)
 
-abbrev pub read_code : CodeOpening → CodeMode → Text → Scanned TokenView
+abbrev pub read_code : CodeLookahead → CodeMode → Text → Scanned TokenView
 read_code Number mode text = numbers.number mode.ts1085 mode.numbers text
 read_code String mode text = strings.string_literal text
 read_code Word' mode text = as_token (words.word mode.context text)
@@ -50,7 +50,7 @@ read_code Bars mode text = bars.bars_token text
 read_code Other mode text = punctuator_or_stray (punctuators.punctuator_in mode.type_mode text) text
 
 abbrev pub code_at : CodeMode → Bool → Text → Scanned TokenView
-code_at mode flag text = read_code (code_opening flag text) mode text
+code_at mode flag text = read_code (code_lookahead flag text) mode text
 
 -- what a read goes by, where it reads code
 abbrev pub code_mode : Mode → CodeMode

@@ -2,6 +2,6 @@ pub mod Boundaries
 pub mod Code
 pub mod CodeKinds
 pub mod Faultless
-pub mod PlainContexts
+pub mod OwnContexts
 pub mod Separators
 pub mod Texts

@@ -5,7 +5,7 @@ ghost use Rattle.ecma_joining.specs.Separators.{ClosersAreReadAgain, SeparatorIs
 ghost use Rattle.ecma_joining.specs.CodeKinds.{CloserIsWritten, CodeHoldsNoBreak, CodeIsNeither};
 ghost use Rattle.ecma_joining.specs.Boundaries.{NothingBehindTheGap, ShebangStandsAlone};
 ghost use Rattle.ecma_joining.specs.Texts.{TextsStandAlone};
-ghost use Rattle.ecma_joining.specs.PlainContexts.{ContextsStayPlain, TemplatesAreOpened};
+ghost use Rattle.ecma_joining.specs.OwnContexts.{ContextsStayOwn, TemplatesAreOpened};
 
 /// What is read of code is the token at a place outside of templates.
 pub fn code_is_token()
@@ -83,8 +83,8 @@ pub fn expression_is_faultless()
 {}
 
 /// In plain contexts, without template text on top, every token leaves plain contexts.
-pub fn contexts_stay_plain()
-    ensures { ContextsStayPlain }
+pub fn contexts_stay_own()
+    ensures { ContextsStayOwn }
 {}
 
 /// Template text comes on top behind a back quote, `}` and `)` alone.

@@ -21,14 +21,14 @@ use Rattle.ecma_state.specs.Reading.{Reading, behind_gap, gap_in, reading, readi
 use Rattle.ecma_state.specs.Contexts.{Contexts}
 use Rattle.ecma_state.specs.Counting.{counting}
 use Rattle.ecma_state.specs.Run.{act_on, acted_on, mode_of, popped_from, reading_from, reading_of, reread_from, start_of}
-use Rattle.ecma_state.specs.Session.{Session, kept_in, kept_state, seen_of, state_of}
+use Rattle.ecma_state.specs.Session.{Session, kept_in, state_value, seen_of, state_of}
 use Rattle.ecma_state.specs.State.{around_of, last_slash}
-use Rattle.ecma_state.specs.TokenAt.{comments_in, opening, placed, read_opened, token_at, token_comments, token_found}
+use Rattle.ecma_state.specs.TokenAt.{comments_in, lookahead, placed, read_opened, token_at, token_comments, token_found}
 use Rattle.ecma_state.specs.declared.attachment.Around.{Around}
 use Rattle.ecma_state.specs.declared.comments_buffer.BufferedComment.{BufferedComment}
 use Rattle.ecma_state.specs.declared.mode.Mode.{Mode}
-use Rattle.ecma_state.specs.declared.opening.Opening.{Opening}
-use Rattle.ecma_state.specs.declared.opening.Opening.TheVariants as opens
+use Rattle.ecma_state.specs.declared.lookahead.Lookahead.{Lookahead}
+use Rattle.ecma_state.specs.declared.lookahead.Lookahead.TheVariants as opens
 use Rattle.ecma_state.specs.declared.step.Step.{Step}
 use Rattle.ecma_state.specs.declared.step.Step.TheVariants.{Read, SetCtx, SetExprAllowed, SetContexts, PopContext, Reread, Withdraw, Save, Back, TakeErrors}
 
@@ -97,7 +97,7 @@ kept passes s = count passes (map comment_in s.comments)
 read-keeps : (passes : Comment → Bool) (s : Session) → kept passes (act_on s Read) ≡ kept passes s + count passes (comments_in_order (reading_of (state_of s)).comments)
 read-keeps passes s =
     let r = reading_of (state_of s) in
-    let around = around_of (kept_state s) (kept_in r.found) in
+    let around = around_of (state_value s) (kept_in r.found) in
     ap (count passes) (map-append comment_in s.comments (attachment around r.comments))
     ∙ count-append passes (map comment_in s.comments) (map comment_in (attachment around r.comments))
     ∙ ap (λ n. kept passes s + n) (attachment-keeps around passes r.comments)
@@ -157,7 +157,7 @@ record SameButComments (a b : Reading) : Type 0 where
   input : a.input ≡ b.input
   comments : b.comments ≡ []
 
-no-comments-in : (opening : Opening) (mode : Mode) (n : ℕ) (text : Text) → comments_in opening (mode_without mode) n text ≡ []
+no-comments-in : (lookahead : Lookahead) (mode : Mode) (n : ℕ) (text : Text) → comments_in lookahead (mode_without mode) n text ≡ []
 no-comments-in opens.Template mode n text = refl
 no-comments-in opens.Number mode n text = refl
 no-comments-in opens.String mode n text = refl
@@ -165,7 +165,7 @@ no-comments-in opens.Word mode n text = refl
 no-comments-in opens.Bars mode n text = refl
 no-comments-in opens.Other mode n text = refl
 
-placed-without : (opening : Opening) (mode : Mode) (n : ℕ) (text : Text) → placed opening mode n (read_opened opening mode text) ≡ placed opening (mode_without mode) n (read_opened opening (mode_without mode) text)
+placed-without : (lookahead : Lookahead) (mode : Mode) (n : ℕ) (text : Text) → placed lookahead mode n (read_opened lookahead mode text) ≡ placed lookahead (mode_without mode) n (read_opened lookahead (mode_without mode) text)
 placed-without opens.Template mode n text = refl
 placed-without opens.Number mode n text = refl
 placed-without opens.String mode n text = refl
@@ -173,7 +173,7 @@ placed-without opens.Word mode n text = refl
 placed-without opens.Bars mode n text = refl
 placed-without opens.Other mode n text = refl
 
-read-without : (opening : Opening) (mode : Mode) (text : Text) → read_opened opening mode text ≡ read_opened opening (mode_without mode) text
+read-without : (lookahead : Lookahead) (mode : Mode) (text : Text) → read_opened lookahead mode text ≡ read_opened lookahead (mode_without mode) text
 read-without opens.Template mode text = refl
 read-without opens.Number mode text = refl
 read-without opens.String mode text = refl
@@ -226,7 +226,7 @@ behind-without mode a b here [] flag faults none =
     record { found = refl; end_flag = flag; faults = faults; input = refl; comments = none }
 behind-without mode a b here (c ∷ cs) flag faults none =
     let text = c ∷ cs in
-    let o : Bool → Opening = λ flag. opening mode flag text in
+    let o : Bool → Lookahead = λ flag. lookahead mode flag text in
     let found = placed-without (o a.line_break) mode (place here) text in
     record {
       found = ap (λ f. Some (spanned a.line_break f)) found ∙ ap (λ x. Some (spanned x (token_found (mode_without mode) x (place here) text))) flag;

@@ -20,7 +20,7 @@ use Rattle.ecma_laws.specs.EmptyTokens.{EmptyTokensStandAlone, NeverTwoEmpty, is
 use Rattle.ecma_state.specs.Mode.{is_tpl_element}
 use Rattle.ecma_state.specs.Reading.{Reading, behind_gap, gap_in, reading, reading_again, reading_behind, reading_code, reading_if, shebang_token, stands_shebang}
 use Rattle.ecma_state.specs.Run.{act_on, acted_on, at_place, given_in, mode_of, reading_from, start_of}
-use Rattle.ecma_state.specs.Session.{Again, Past, Plain, Session, kept_back, last_flag, seen_of, state_of}
+use Rattle.ecma_state.specs.Session.{Again, Past, Next, Session, kept_back, last_flag, seen_of, state_of}
 use Rattle.ecma_state.specs.State.{previous}
 use Rattle.ecma_state.specs.TokenAt.{token_at}
 use Rattle.ecma_state.specs.declared.mode.Mode.{Mode}
@@ -89,7 +89,7 @@ one-holds true true h = absurd (h refl refl)
 one-holds true false h = refl
 one-holds false b h = refl
 
-more-alone : (past : Past) (t : SpannedView) → Alone past → (is_empty_token t ≡ true → IsEmptyText (previous (seen_of past)) t) → Alone (Plain t ∷ past)
+more-alone : (past : Past) (t : SpannedView) → Alone past → (is_empty_token t ≡ true → IsEmptyText (previous (seen_of past)) t) → Alone (Next t ∷ past)
 more-alone past t alone empty =
     record {
       neighbours = go (kept_back past) refl;

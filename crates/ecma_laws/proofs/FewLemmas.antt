@@ -60,7 +60,7 @@ reading-begins mode input t found = go (stands_shebang mode (rest input)) refl f
     go : (b : Bool) → stands_shebang mode (rest input) ≡ b → (reading_if b mode input).found ≡ Some t → t.span.lo.0 < end_place input
     go true e found =
         let lo : place input ≡ t.span.lo.0 = ap begin_in found in
-        omega (arith, lo, before-end input (opens-some (rest input) (stands-opens mode.none_given (rest input) e)))
+        omega (arith, lo, before-end input (opens-some (rest input) (stands-opens mode.shebang_allowed (rest input) e)))
     go false e found = code-begins mode input t found
 
 -- where the last token that is kept holds no characters, something is left of the text behind it

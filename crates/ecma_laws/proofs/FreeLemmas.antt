@@ -38,10 +38,10 @@ use Rattle.ecma_state.specs.Mode.{gap_mode, is_tpl_element}
 use Rattle.ecma_state.specs.Reading.{behind_gap, gap_in, is_free, is_free_again, is_free_behind, is_free_code, reading, reading_again, reading_behind, reading_code, reading_if, stands_shebang}
 use Rattle.ecma_state.specs.Run.{at_place, is_free_from, mode_of, reading_from}
 use Rattle.ecma_state.specs.State.{is_error}
-use Rattle.ecma_state.specs.TokenAt.{asks_for_none, is_borrowed, is_borrowed_name, is_empty, is_free_at, opening, placed, read_opened, token_at, token_found, token_of, ts1085, word_token, word_value}
+use Rattle.ecma_state.specs.TokenAt.{asks_for_none, is_borrowed, is_borrowed_name, is_empty, is_free_at, lookahead, placed, read_opened, token_at, token_found, token_of, ts1085, word_token, word_value}
 use Rattle.ecma_state.specs.declared.mode.Mode.{Mode}
-use Rattle.ecma_state.specs.declared.opening.Opening.{Opening}
-use Rattle.ecma_state.specs.declared.opening.Opening.TheVariants as opens
+use Rattle.ecma_state.specs.declared.lookahead.Lookahead.{Lookahead}
+use Rattle.ecma_state.specs.declared.lookahead.Lookahead.TheVariants as opens
 use Rattle.ecma_dispatch.proofs.ReadingLemmas.{placed-faults}
 use Rattle.ecma_laws.specs.FreeReads.{MeansItself, ReadsAreFree, spelling_at, spelling_from, turns_meaning}
 
@@ -267,7 +267,7 @@ expression-free text ok h = go (next_is 47 behind) ok h
 
 -- Tokens
 
-asks-none : (o : Opening) (mode : Mode) (text : Text) → is_ok (read_opened o mode text).value ≡ true → is_turned_in (read_opened o mode text) ≡ false
+asks-none : (o : Lookahead) (mode : Mode) (text : Text) → is_ok (read_opened o mode text).value ≡ true → is_turned_in (read_opened o mode text) ≡ false
     → asks_for_none o text (read_opened o mode text) ≡ true
 asks-none opens.Template mode text ok h = template-free (is_tpl_element mode.previous) text ok h
 asks-none opens.Number mode text ok h = number-free (ts1085 mode) mode.settings.numbers text ok h
@@ -279,7 +279,7 @@ asks-none opens.Other mode text ok h = refl
 is-free-at : (mode : Mode) (flag : Bool) (text : Text) → is_ok (token_at mode flag text).value ≡ true → (token_at mode flag text).faults ≡ []
     → is_turned_in (token_at mode flag text) ≡ false → is_free_at mode flag text ≡ true
 is-free-at mode flag text ok none h =
-    let o = opening mode flag text in
+    let o = lookahead mode flag text in
     let s = token_at mode flag text in
     ap (λ b. b && (is_empty s.faults && asks_for_none o text s)) ok
     ∙ ap (λ faults. is_empty faults && asks_for_none o text s) none
@@ -300,7 +300,7 @@ template-kind : (opened n : ℕ) (value : Result TokenView ErrorView) → kind_o
 template-kind opened n (Ok token) = behind-kind n token
 template-kind opened n (Err error) = refl
 
-placed-kind : (o : Opening) (mode : Mode) (n : ℕ) (s : Scanned TokenView) → kind_of (token_of (placed o mode n s).value) ≡ kind_of (token_of s.value)
+placed-kind : (o : Lookahead) (mode : Mode) (n : ℕ) (s : Scanned TokenView) → kind_of (token_of (placed o mode n s).value) ≡ kind_of (token_of s.value)
 placed-kind opens.Template mode n s = template-kind mode.opened.0 n s.value
 placed-kind opens.Number mode n s = value-kind n s.value
 placed-kind opens.String mode n s = value-kind n s.value
@@ -339,10 +339,10 @@ code-free mode input = go (rest here)
         → list_any (turns_meaning (kind_of (token_of (token_found mode flag (place here) text).value))) (token_at mode flag text).spelling ≡ false → is_free_at mode flag text ≡ true
     token text faults ok turned =
         let s = token_at mode flag text in
-        let kind = placed-kind (opening mode flag text) mode (place here) s in
+        let kind = placed-kind (lookahead mode flag text) mode (place here) s in
         is-free-at mode flag text
         (no-error s.value (ap is_error (sym kind) ∙ ok))
-        (map-none (fault_behind (place here)) s.faults (sym (placed-faults (opening mode flag text) mode (place here) s) ∙ faults))
+        (map-none (fault_behind (place here)) s.faults (sym (placed-faults (lookahead mode flag text) mode (place here) s) ∙ faults))
         (not-turned s.value s.spelling (ap (λ k. list_any (turns_meaning k) s.spelling) (sym kind) ∙ turned))
 
     go : (text : Text) → (reading_behind mode gap here text).faults ≡ [] → (reading_behind mode gap here text).comments ≡ []

@@ -15,7 +15,7 @@ use Rattle.ecma_state.specs.declared.settings.Settings.{Settings}
 use Rattle.ecma_state.specs.declared.step.Step.{Step}
 use Rattle.ecma_state.specs.declared.step.Step.TheVariants.{Read, SetCtx, SetExprAllowed, SetContexts, PopContext, Reread, Withdraw, Save, Back, TakeErrors}
 use Rattle.ecma_state.specs.Reading.{Reading, reading, reading_again, spanned}
-use Rattle.ecma_state.specs.Session.{Again, AtEnd, Past, Plain, Session, has_ended, kept_back, kept_of, last_flag, seen_of, state_of}
+use Rattle.ecma_state.specs.Session.{Again, AtEnd, Past, Next, Session, has_ended, kept_back, kept_of, last_flag, seen_of, state_of}
 use Rattle.ecma_state.specs.State.{is_slash, last_slash, slash_in}
 use Rattle.ecma_state.specs.Run.{act_on, acted_on, at_place, given_in, mode_of, popped_from, reading_from, reread_from, session, start_of}
 use Rattle.ecma_laws.specs.Order.{InOrder, TokensAreInOrder}
@@ -74,7 +74,7 @@ read_standing input s plain k = go r.found refl (is_some s.reread) (ap is_some p
     on : ReadsOn s.input r
     on = reading-on (mode_of (state_of s)) s.input
 
-    slash : (t : SpannedView) → r.found ≡ Some t → (p : BytePos) → slash_in (Some (kept_of t)) ≡ Some p → LastBegins r.input (Plain t ∷ s.past) p
+    slash : (t : SpannedView) → r.found ≡ Some t → (p : BytePos) → slash_in (Some (kept_of t)) ≡ Some p → LastBegins r.input (Next t ∷ s.past) p
     slash t e p h =
         let (is, lo) = slash-is t p h in
         let begins = begins-reading (mode_of (state_of s)) s.input t e in
@@ -102,7 +102,7 @@ read_standing input s plain k = go r.found refl (is_some s.reread) (ap is_some p
           order = (at.1, omega (arith, hi), later (place input) (place s.input) t.span.lo.0 (kept_back s.past) at.0 k.order);
           ended = λ h. cc;
           answered = slash t e;
-          reread = never (Plain t ∷ s.past);
+          reread = never (Next t ∷ s.past);
         }
     go (Some t) e true same = cc
     go None e again same = record {

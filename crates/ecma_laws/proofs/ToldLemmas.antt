@@ -19,10 +19,10 @@ use Rattle.ecma_state.specs.Reading.{behind_gap, gap_in, reading, reading_behind
 use Rattle.ecma_state.specs.Run.{act_on, mode_of, popped_from, reading_from, reread_from, start_of}
 use Rattle.ecma_state.specs.Session.{Session, seen_of, state_of}
 use Rattle.ecma_state.specs.State.{last_slash}
-use Rattle.ecma_state.specs.TokenAt.{comments_in, opening}
+use Rattle.ecma_state.specs.TokenAt.{comments_in, lookahead}
 use Rattle.ecma_state.specs.declared.mode.Mode.{Mode}
-use Rattle.ecma_state.specs.declared.opening.Opening.{Opening}
-use Rattle.ecma_state.specs.declared.opening.Opening.TheVariants as opens
+use Rattle.ecma_state.specs.declared.lookahead.Lookahead.{Lookahead}
+use Rattle.ecma_state.specs.declared.lookahead.Lookahead.TheVariants as opens
 use Rattle.ecma_state.specs.declared.step.Step.{Step}
 use Rattle.ecma_state.specs.declared.step.Step.TheVariants.{Read, SetCtx, SetExprAllowed, SetContexts, PopContext, Reread, Withdraw, Save, Back, TakeErrors}
 use Rattle.ecma_laws.specs.Collecting.{comments_found, found_by}
@@ -45,7 +45,7 @@ collected-of : (collect : Bool) → collect ≡ true → (prev : Option TokenKin
 collected-of true e prev flag n es text = elements_tell prev flag n es text
 collected-of false e prev flag n es text = cc
 
-token-of : (opened : Opening) (mode : Mode) (n : ℕ) (text : Text) → mode.settings.comments ≡ true → AreOf (elements_in opened n text) (alone (comments_in opened mode n text))
+token-of : (opened : Lookahead) (mode : Mode) (n : ℕ) (text : Text) → mode.settings.comments ≡ true → AreOf (elements_in opened n text) (alone (comments_in opened mode n text))
 token-of opens.Template mode n text e = refl
 token-of opens.Number mode n text e = refl
 token-of opens.String mode n text e = refl
@@ -59,7 +59,7 @@ behind-of : (mode : Mode) (before : GapView) (here : Cursor) (text : Text) (es :
 behind-of mode before here [] es e of =
     subst (λ l. AreOf l (alone before.comments)) (sym (append-nil es)) of
 behind-of mode before here (c ∷ cs) es e of =
-    let opened = opening mode before.line_break (c ∷ cs) in
+    let opened = lookahead mode before.line_break (c ∷ cs) in
     let found = comments_in opened mode (place here) (c ∷ cs) in
     subst (AreOf (es ++ elements_in opened (place here) (c ∷ cs))) (sym (map-append (λ c. c.0) before.comments found))
     (append-of es (elements_in opened (place here) (c ∷ cs)) (alone before.comments) (alone found) of (token-of opened mode (place here) (c ∷ cs) e))

@@ -2,7 +2,7 @@
 use Rattle.std.specs.Prelude.{◌≡◌, ⊤, List, [], ◌∷◌, Option, None, Result}
 use Rattle.std.specs.declared.alloc.AllocError.{AllocError}
 use Rattle.ecma_token.specs.declared.token.TokenAndSpan.{TokenAndSpan}
-use Rattle.ecma_state.specs.Session.{LexerKept}
+use Rattle.ecma_state.specs.Session.{LexerValue}
 use Rattle.ecma_stream.specs.Items.{GivesItem}
 
 -- what one call of the iterator gives
@@ -10,9 +10,9 @@ abbrev pub Item : Type 0
 Item = Option (Result TokenAndSpan AllocError)
 
 -- what as many calls give, one after another
-abbrev pub GivesItems : LexerKept → List Item → LexerKept → Type 0
+abbrev pub GivesItems : LexerValue → List Item → LexerValue → Type 0
 GivesItems old [] new = old ≡ new
-GivesItems old (item ∷ items) new = (between : LexerKept) × GivesItem old item between × GivesItems between items new
+GivesItems old (item ∷ items) new = (between : LexerValue) × GivesItem old item between × GivesItems between items new
 
 abbrev pub AllNothing : List Item → Type 0
 AllNothing [] = ⊤
@@ -22,4 +22,4 @@ AllNothing (item ∷ items) = (item ≡ None) × AllNothing items
 
 -- Once nothing was given, nothing follows, where no slash is read again.
 abbrev pub NothingBehindTheEnd : Type 0
-NothingBehindTheEnd = (old new : LexerKept) (items : List Item) → old.reread ≡ None → GivesItems old (None ∷ items) new → AllNothing items
+NothingBehindTheEnd = (old new : LexerValue) (items : List Item) → old.reread ≡ None → GivesItems old (None ∷ items) new → AllNothing items

@@ -12,10 +12,10 @@ use Rattle.ecma_state.specs.Mode.{gap_mode}
 use Rattle.ecma_state.specs.Reading.{behind_gap, stands_shebang}
 use Rattle.ecma_state.specs.Run.{act_on, mode_of, session, start_of}
 use Rattle.ecma_state.specs.Session.{Session, state_of}
-use Rattle.ecma_state.specs.TokenAt.{opening}
+use Rattle.ecma_state.specs.TokenAt.{lookahead}
 use Rattle.ecma_state.specs.declared.mode.Mode.{Mode}
-use Rattle.ecma_state.specs.declared.opening.Opening.{Opening}
-use Rattle.ecma_state.specs.declared.opening.Opening.TheVariants as opens
+use Rattle.ecma_state.specs.declared.lookahead.Lookahead.{Lookahead}
+use Rattle.ecma_state.specs.declared.lookahead.Lookahead.TheVariants as opens
 use Rattle.ecma_state.specs.declared.settings.Settings.{Settings}
 use Rattle.ecma_state.specs.declared.step.Step.{Step}
 use Rattle.ecma_state.specs.declared.step.Step.TheVariants.{Read, SetCtx, SetExprAllowed, SetContexts, PopContext, Reread, Withdraw, Save, Back, TakeErrors}
@@ -24,7 +24,7 @@ use Rattle.ecma_laws.specs.Collecting.{count}
 -- The elements that each read passes, with the places where they stand
 
 -- those inside a token: a marker of bars holds some
-abbrev pub elements_in : Opening → ℕ → Text → List (ℕ × Element)
+abbrev pub elements_in : Lookahead → ℕ → Text → List (ℕ × Element)
 elements_in opens.Bars n text = placed n (bars_elements text)
 elements_in opens.Template n text = []
 elements_in opens.Number n text = []
@@ -35,7 +35,7 @@ elements_in opens.Other n text = []
 -- those behind the gap, where its flag stands or not and this text is left
 abbrev pub elements_behind : Mode → Bool → ℕ → Text → List (ℕ × Element)
 elements_behind mode flag n [] = []
-elements_behind mode flag n (c ∷ cs) = elements_in (opening mode flag (c ∷ cs)) n (c ∷ cs)
+elements_behind mode flag n (c ∷ cs) = elements_in (lookahead mode flag (c ∷ cs)) n (c ∷ cs)
 
 -- those of the gap, and those inside the token behind it; a shebang stands alone
 abbrev pub elements_if : Bool → Mode → Cursor → List (ℕ × Element)

@@ -14,7 +14,7 @@ pub use Rattle.ecma_stream.proofs.ItemLemmas
 pub use Rattle.ecma_canonical.proofs.KeptPlaces
 pub use Rattle.ecma_laws.proofs.NestedLemmas
 pub use Rattle.ecma_laws.proofs.NothingLemmas
-pub use Rattle.ecma_state.proofs.OpeningLemmas
+pub use Rattle.ecma_state.proofs.LookaheadLemmas
 pub use Rattle.ecma_laws.proofs.OrderLemmas
 pub use Rattle.ecma_stream.proofs.PlainLemmas
 pub use Rattle.ecma_stream.proofs.ProgressLemmas

@@ -5,7 +5,7 @@ use Rattle.std.specs.List.{join_by}
 use Rattle.std.proofs.lemmas.List.{drop-map, length-map, take-map}
 use Rattle.ecma_token.specs.Messages.{alternatives, fixed_text, made_text, message, token_text}
 use Rattle.ecma_token.specs.View.{kind_view, token_view}
-use Rattle.ecma_token.specs.declared.error.SyntaxError.{SyntaxError, LegacyDecimal, LegacyOctal, InvalidIdentChar, UnterminatedBlockComment, UnterminatedStrLit, ExpectedUnicodeEscape, UnterminatedRegExp, UnterminatedTpl, IdentAfterNum, InvalidStrEscape, InvalidUnicodeEscape, NumLitTerminatedWithExp, LegacyCommentInModule, NumericSeparatorIsAllowedOnlyBetweenTwoDigits, TS1085, TS1185, Plain, ExpectedDigit, EscapeInReservedWord, UnexpectedChar, BadCharacterEscapeSequence, InvalidIdentInStrict, UnaryInExp, Unexpected, UnexpectedTokenWithSuggestions, ExpectedSemiForExprStmt, MultipleDefault, DuplicateLabel, JSXExpectedClosingTag, PrivateNameModifier, ExportExpectFrom, ImportBindingIsString, DuplicatedRegExpFlags, TS1029, TS1030, TS1089, TS1243, TS1273, TS1274, TS1277, TsNonNullAssertionNotAllowed, Expected', WithLabel'}
+use Rattle.ecma_token.specs.declared.error.SyntaxError.{SyntaxError, LegacyDecimal, LegacyOctal, InvalidIdentChar, UnterminatedBlockComment, UnterminatedStrLit, ExpectedUnicodeEscape, UnterminatedRegExp, UnterminatedTpl, IdentAfterNum, InvalidStrEscape, InvalidUnicodeEscape, NumLitTerminatedWithExp, LegacyCommentInModule, NumericSeparatorIsAllowedOnlyBetweenTwoDigits, TS1085, TS1185, Fixed, ExpectedDigit, EscapeInReservedWord, UnexpectedChar, BadCharacterEscapeSequence, InvalidIdentInStrict, UnaryInExp, Unexpected, UnexpectedTokenWithSuggestions, ExpectedSemiForExprStmt, MultipleDefault, DuplicateLabel, JSXExpectedClosingTag, PrivateNameModifier, ExportExpectFrom, ImportBindingIsString, DuplicatedRegExpFlags, TS1029, TS1030, TS1089, TS1243, TS1273, TS1274, TS1277, TsNonNullAssertionNotAllowed, Expected', WithLabel'}
 use Rattle.ecma_token.specs.declared.token.Token.{Token, Word, Arrow, Hash, At, Dot, DotDotDot, Bang, LParen, RParen, LBracket, RBracket, LBrace, RBrace, Semi, Comma, BackQuote, Template', Colon, BinOp, AssignOp, DollarLBrace, QuestionMark, PlusPlus, MinusMinus, Tilde, Str, Regex, Num, BigInt, JSXName, JSXText, JSXTagStart, JSXTagEnd, Shebang, Error', Ok', Err'}
 use Rattle.ecma_lines.specs.MessageView.{view_message, view_text}
 
@@ -61,7 +61,7 @@ mutual
   message_of_view NumericSeparatorIsAllowedOnlyBetweenTwoDigits = refl
   message_of_view TS1085 = refl
   message_of_view TS1185 = refl
-  message_of_view (Plain error) = refl
+  message_of_view (Fixed error) = refl
   message_of_view (ExpectedDigit radix) = refl
   message_of_view (EscapeInReservedWord word) = refl
   message_of_view (UnexpectedChar c) = refl

@@ -130,7 +130,7 @@ pub fn next_kept(lexer: &mut Lexer) -> Result<Option<Kept>, AllocError>
     ensures after { OnOk result (lexer_state lexer.new ≡ state_behind (lexer_state lexer.old) (reading_of (lexer_state lexer.old))) }
 {
     match lexer.read()? {
-        Some(token) => Ok(Some(Kept::from(token))),
+        Some(token) => Ok(Some(Kept::of(&token))),
         None => Ok(None),
     }
 }

@@ -22,7 +22,7 @@ use Rattle.ecma_grammar.specs.Found.{FoundView, found_at, span_of, token_behind}
 use Rattle.ecma_grammar.specs.Fronts.{next_is}
 use Rattle.ecma_grammar.specs.Strings.{opens_string, string_literal}
 use Rattle.ecma_literal.proofs.PlainRuns.{plain-run}
-use Rattle.ecma_escape.specs.EscapeAnswers.{opens_escape}
+use Rattle.ecma_escape.specs.EscapeMeanings.{opens_escape}
 use Rattle.ecma_escape.proofs.StringReading.{not-borrowed, plain-value}
 use Rattle.ecma_escape.proofs.StringFound.{IsScanned, free-close, free-value, literal-accepted, literal-found}
 

@@ -18,7 +18,7 @@ use Rattle.ecma_grammar.specs.Fronts.{front, after, next_passes, next_is, is}
 use Rattle.ecma_grammar.specs.Locality.{is_clean, ends_template}
 use Rattle.ecma_grammar.specs.Pieces.{pieces, spelled, remainder}
 use Rattle.ecma_grammar.specs.Cutters.{IsCutter, ReadsInOrder}
-use Rattle.ecma_grammar.specs.Escapes.{Accepted, InTemplate, Opening, UnicodeLetter, HexLetter, OctalDigit, LineEnd, Single, opening, escape_of, escape_behind, unicode_escape, four_escape, braced_escape, hex_escape, octal_escape, line_end, is_hex_digit, is_octal_digit}
+use Rattle.ecma_grammar.specs.Escapes.{Accepted, InTemplate, Lead, UnicodeLetter, HexLetter, OctalDigit, LineEnd, Single, lead, escape_of, escape_behind, unicode_escape, four_escape, braced_escape, hex_escape, octal_escape, line_end, is_hex_digit, is_octal_digit}
 use Rattle.ecma_grammar.specs.Templates as spec
 use Rattle.ecma_grammar.specs.Templates.{TemplatePiece, Break, Escaped, piece_text, TemplateEnd, AtEnd, AtBackQuote, AtDollarBrace, template_end, found_text, text_of, mark_of, template_of, template_text, template_token, token_of_refusal, is_verbatim, last_refusal, cooked_text, cooked_break, cooked_atom, raw_text, raw_atom, TemplateRole, Stop, Backslash, Itself, template_role, template_piece_of, template_piece, template_cutter, TemplateTiles, TemplateIsPieces, TemplateIsFront, TemplateIsLocal, TemplateIsEnded, TemplateMarksAreLocal, TemplateGoesOn, CookedIsRaw}
 use Rattle.ecma_grammar.proofs.Fronts.{front_before, begins_before, begins_after_before}
@@ -102,9 +102,9 @@ line_before : (c : ℕ) (cs r : Text) → Quiet r → line_end c (cs ++ r) ≡ l
 line_before c cs r q = rw (begins_before (is 10) cs r q.feed)
 
 escape_before : (c : ℕ) (cs r : Text) → Quiet r → escape_behind InTemplate ((c ∷ cs) ++ r) ≡ escape_behind InTemplate (c ∷ cs)
-escape_before c cs r q = go (opening c)
+escape_before c cs r q = go (lead c)
   where
-    go : (o : Opening) → escape_of InTemplate o c (cs ++ r) ≡ escape_of InTemplate o c cs
+    go : (o : Lead) → escape_of InTemplate o c (cs ++ r) ≡ escape_of InTemplate o c cs
     go UnicodeLetter = unicode_before cs r q
     go HexLetter = ap (λ l. hex_escape (take 2 l)) (front_before is_hex_digit cs r q.hex)
     go OctalDigit = octal_before c cs r q

@@ -12,15 +12,15 @@ use Rattle.ecma_grammar.specs.Found.{error_behind, span_of}
 use Rattle.ecma_grammar.specs.Fronts.{next_is}
 use Rattle.ecma_grammar.specs.Pieces.{pieces, spelled}
 use Rattle.ecma_grammar.specs.Escapes.{Refused, InTemplate, escape_behind, line_end}
-use Rattle.ecma_escape.specs.EscapeAnswers.{refusal_error}
+use Rattle.ecma_escape.specs.EscapeMeanings.{refusal_error}
 use Rattle.ecma_escape.specs.EscapeParts.{answer_value}
-use Rattle.ecma_grammar.specs.Templates as grammar
+use Rattle.ecma_grammar.specs.Templates as templates
 use Rattle.ecma_grammar.specs.Templates.{TemplatePiece, Break, Escaped, TemplateRole, Stop, Backslash, Itself, template_role, template_piece_of, piece_text, is_verbatim, is_break, cooked_piece, cooked_text, piece_refusal, newer, last_refusal, template_piece, template_cutter}
 use Rattle.ecma_literal.specs.declared.template.pieces.Piece.{Piece}
 use Rattle.ecma_literal.specs.declared.template.pieces.Piece.TheVariants as written
 use Rattle.ecma_escape.specs.declared.escape.Refusal.{Refusal}
-use Rattle.ecma_escape.specs.declared.escape.Answer.{Answer}
-use Rattle.ecma_escape.specs.declared.escape.Answer.TheVariants as answer
+use Rattle.ecma_escape.specs.declared.escape.Meaning.{Answer}
+use Rattle.ecma_escape.specs.declared.escape.Meaning.TheVariants as answer
 use Rattle.ecma_literal.specs.WrittenTemplates.{piece_of, first_text}
 use Rattle.ecma_escape.proofs.EscapeBytes.{IsAsciiIfRefused, refused_ascii}
 use Rattle.ecma_grammar.proofs.SignLemmas.{rest-behind}
@@ -154,7 +154,7 @@ refused-size (c ∷ cs) spelling error e = go (template_role c cs) e
     go : (r : TemplateRole) → template_piece_of r c cs ≡ Some (Escaped (Refused spelling error)) → byte_len spelling ≡ length spelling
     go Stop e = cc
     go Itself e = cc
-    go grammar.LineEnd e = cc
+    go templates.LineEnd e = cc
     go Backslash e =
         let same : escape_behind InTemplate cs ≡ Refused spelling error = cc in
         subst IsAsciiIfRefused same (refused_ascii InTemplate cs)

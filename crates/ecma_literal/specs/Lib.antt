@@ -17,7 +17,7 @@ pub use Rattle.ecma_grammar.specs.Shebangs
 pub use Rattle.ecma_grammar.specs.Strings
 pub use Rattle.ecma_grammar.specs.Templates
 pub use Rattle.ecma_grammar.specs.Words
-pub use Rattle.ecma_escape.specs.EscapeAnswers
+pub use Rattle.ecma_escape.specs.EscapeMeanings
 pub use Rattle.ecma_escape.specs.EscapeParts
 pub use Rattle.ecma_escape.specs.NameParts
 pub use Rattle.ecma_escape.specs.PieceParts

@@ -6,7 +6,7 @@ use Rattle.ecma_token.specs.View.{ErrorView}
 use Rattle.ecma_escape.specs.declared.escape.Refusal.{Refusal}
 use Rattle.ecma_literal.specs.declared.template.pieces.Piece.{Piece}
 use Rattle.ecma_literal.specs.declared.template.pieces.Piece.TheVariants as written
-use Rattle.ecma_escape.specs.EscapeAnswers.{answered, refusal_kind}
+use Rattle.ecma_escape.specs.EscapeMeanings.{answered, refusal_kind}
 use Rattle.ecma_grammar.specs.Escapes.{InTemplate}
 use Rattle.ecma_grammar.specs.Templates.{TemplatePiece, Plain, Break, Escaped, piece_text, template_piece}
 

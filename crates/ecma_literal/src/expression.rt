@@ -6,7 +6,7 @@ ghost use Rattle.ecma_place.specs.Text.{Text, byte_len};
 ghost use Rattle.ecma_token.specs.View.{TokenView, owns_nothing, token_view};
 ghost use Rattle.ecma_grammar.specs.Found.{found_view, found_at, placeless, token_behind, value_view};
 ghost use Rattle.ecma_escape.specs.NameParts.{cow_atom};
-ghost use Rattle.ecma_grammar.specs.Expressions as grammar;
+ghost use Rattle.ecma_grammar.specs.Expressions as expressions;
 ghost use Rattle.ecma_grammar.specs.Fronts.{next_is};
 ghost use Rattle.ecma_grammar.specs.Pieces.{remainder};
 ghost use Rattle.ecma_literal.specs.WrittenExpressions.{letter_if, body_if, behind_all, at_line_end, regex_of};
@@ -24,8 +24,8 @@ use std::borrow::CowStr;
 /// whether it is none.
 fn skip_quoted(input: &mut StringInput) -> bool
     requires { slice_get (rest input.old) 0 ≡ Some 92 }
-    ensures value { result ≡ is_some (grammar.quoted (drop 1 (rest input.old))) }
-    ensures moved { input.new ≡ passed (length (letter_if (grammar.quoted (drop 1 (rest input.old))))) input.old }
+    ensures value { result ≡ is_some (expressions.quoted (drop 1 (rest input.old))) }
+    ensures moved { input.new ≡ passed (length (letter_if (expressions.quoted (drop 1 (rest input.old))))) input.old }
 {
     match input.peek() {
         None => false,
@@ -42,8 +42,8 @@ fn skip_quoted(input: &mut StringInput) -> bool
 
 /// Moves behind the letter of a class at the cursor, and answers whether there is one.
 fn skip_class_letter(input: &mut StringInput) -> bool
-    ensures value { result ≡ is_some (grammar.class_letter (rest input.old)) }
-    ensures moved { input.new ≡ passed (length (letter_if (grammar.class_letter (rest input.old)))) input.old }
+    ensures value { result ≡ is_some (expressions.class_letter (rest input.old)) }
+    ensures moved { input.new ≡ passed (length (letter_if (expressions.class_letter (rest input.old)))) input.old }
 {
     match input.cur() {
         None => false,
@@ -62,7 +62,7 @@ fn skip_class_letter(input: &mut StringInput) -> bool
 
 /// Moves behind the letters of a class.
 fn skip_class(input: &mut StringInput)
-    ensures { input.new ≡ behind_all grammar.class_cutter input.old }
+    ensures { input.new ≡ behind_all expressions.class_cutter input.old }
 {
     'letters: while skip_class_letter(input) {}
 }
@@ -71,8 +71,8 @@ fn skip_class(input: &mut StringInput)
 /// the cursor stays in its line.
 fn skip_bracketed(input: &mut StringInput) -> bool
     requires { slice_get (rest input.old) 0 ≡ Some 91 }
-    ensures value { result ≡ is_some (grammar.class_behind (drop 1 (rest input.old))) }
-    ensures moved { result ≡ true → input.new ≡ passed (length (body_if (grammar.class_behind (drop 1 (rest input.old))))) input.old }
+    ensures value { result ≡ is_some (expressions.class_behind (drop 1 (rest input.old))) }
+    ensures moved { result ≡ true → input.new ≡ passed (length (body_if (expressions.class_behind (drop 1 (rest input.old))))) input.old }
     ensures open { result ≡ false → next_is 47 (rest input.new) ≡ false }
     ensures line { result ≡ false → at_line_end input.new ≡ at_line_end input.old }
 {
@@ -84,8 +84,8 @@ fn skip_bracketed(input: &mut StringInput) -> bool
 /// Moves behind the piece of a body at the cursor, and answers whether there is one. Where there is none, the cursor
 /// stays in its line, and at a slash where one stands.
 fn skip_piece(input: &mut StringInput) -> bool
-    ensures value { result ≡ is_some (grammar.body_piece (rest input.old)) }
-    ensures moved { result ≡ true → input.new ≡ passed (length (body_if (grammar.body_piece (rest input.old)))) input.old }
+    ensures value { result ≡ is_some (expressions.body_piece (rest input.old)) }
+    ensures moved { result ≡ true → input.new ≡ passed (length (body_if (expressions.body_piece (rest input.old)))) input.old }
     ensures slash { result ≡ false → next_is 47 (rest input.new) ≡ next_is 47 (rest input.old) }
     ensures stays { result ≡ false → next_is 47 (rest input.old) ≡ true → input.new ≡ input.old }
     ensures line { result ≡ false → at_line_end input.new ≡ at_line_end input.old }
@@ -111,8 +111,8 @@ fn skip_piece(input: &mut StringInput) -> bool
 /// Moves to the slash that closes the body at the cursor, or, where none does, to the end of the line, and answers
 /// whether one does. No memory is taken.
 fn skip_body(input: &mut StringInput) -> bool
-    ensures closed { result ≡ next_is 47 (remainder grammar.body_cutter tt (rest input.old)) }
-    ensures body { result ≡ true → input.new ≡ behind_all grammar.body_cutter input.old }
+    ensures closed { result ≡ next_is 47 (remainder expressions.body_cutter tt (rest input.old)) }
+    ensures body { result ≡ true → input.new ≡ behind_all expressions.body_cutter input.old }
     ensures line { result ≡ false → input.new ≡ at_line_end input.old }
 {
     'pieces: while skip_piece(input) {}
@@ -129,9 +129,9 @@ fn read_flags<'a>(
     input: &mut StringInput<'a>,
 ) -> Result<Found<'a, CowStr<'a>>, AllocError>
     ensures found { IfOk result (λ f. found_view cow_atom f ≡
-        found_at placeless (place input.old) (grammar.flags (rest input.old))) }
-    ensures moved { OnOk result (input.new ≡ passed (length (grammar.flags (rest input.old)).spelling) input.old) }
-    ensures free { (text : AtomView) → (grammar.flags (rest input.old)).value ≡ Ok text → text.is_borrowed ≡ true → IsOk result }
+        found_at placeless (place input.old) (expressions.flags (rest input.old))) }
+    ensures moved { OnOk result (input.new ≡ passed (length (expressions.flags (rest input.old)).spelling) input.old) }
+    ensures free { (text : AtomView) → (expressions.flags (rest input.old)).value ≡ Ok text → text.is_borrowed ≡ true → IsOk result }
 {
     if begins_name(input) {
         return read_name(alloc, input);
@@ -180,9 +180,9 @@ fn scan_closed<'a>(
     requires order { start.0 ≤ place input.old }
     ensures found { (text : Text) → body.now ≡ encode_utf8_all text → start.0 + byte_len (47 ∷ text) ≡ place input.old →
         IfOk result (λ f. found_view token_view f ≡
-        found_at token_behind start.0 (grammar.closed_expression text (grammar.flags (drop 1 (rest input.old))))) }
-    ensures moved { OnOk result (input.new ≡ passed (1 + length (grammar.flags (drop 1 (rest input.old))).spelling) input.old) }
-    ensures free { (text : AtomView) → (grammar.flags (drop 1 (rest input.old))).value ≡ Ok text → text.is_borrowed ≡ true → IsOk result }
+        found_at token_behind start.0 (expressions.closed_expression text (expressions.flags (drop 1 (rest input.old))))) }
+    ensures moved { OnOk result (input.new ≡ passed (1 + length (expressions.flags (drop 1 (rest input.old))).spelling) input.old) }
+    ensures free { (text : AtomView) → (expressions.flags (drop 1 (rest input.old))).value ≡ Ok text → text.is_borrowed ≡ true → IsOk result }
 {
     input.bump();
     let flags = read_flags(alloc, input)?;
@@ -199,11 +199,11 @@ fn expression_at<'a>(
     alloc: Global,
     input: &mut StringInput<'a>,
 ) -> Result<Found<'a, Token<'a>>, AllocError>
-    requires { grammar.opens_expression (rest input.old) ≡ true }
+    requires { expressions.opens_expression (rest input.old) ≡ true }
     ensures found { IfOk result (λ f. found_view token_view f ≡
-        found_at token_behind (place input.old) (grammar.regular_expression (rest input.old))) }
-    ensures moved { OnOk result (input.new ≡ passed (length (grammar.regular_expression (rest input.old)).spelling) input.old) }
-    ensures free { (token : TokenView) → (grammar.regular_expression (rest input.old)).value ≡ Ok token
+        found_at token_behind (place input.old) (expressions.regular_expression (rest input.old))) }
+    ensures moved { OnOk result (input.new ≡ passed (length (expressions.regular_expression (rest input.old)).spelling) input.old) }
+    ensures free { (token : TokenView) → (expressions.regular_expression (rest input.old)).value ≡ Ok token
         → owns_nothing token ≡ true → IsOk result }
 {
     let start = input.cur_pos();
@@ -243,11 +243,11 @@ pub fn scan_regexp<'a>(
     alloc: Global,
     input: &mut StringInput<'a>,
 ) -> Result<Found<'a, Token<'a>>, AllocError>
-    requires { grammar.opens_expression (rest input.old) ≡ true }
+    requires { expressions.opens_expression (rest input.old) ≡ true }
     ensures found { IfOk result (λ f. found_view token_view f ≡
-        found_at token_behind (place input.old) (grammar.regular_expression (rest input.old))) }
-    ensures moved { OnOk result (input.new ≡ passed (length (grammar.regular_expression (rest input.old)).spelling) input.old) }
-    ensures free { (token : TokenView) → (grammar.regular_expression (rest input.old)).value ≡ Ok token
+        found_at token_behind (place input.old) (expressions.regular_expression (rest input.old))) }
+    ensures moved { OnOk result (input.new ≡ passed (length (expressions.regular_expression (rest input.old)).spelling) input.old) }
+    ensures free { (token : TokenView) → (expressions.regular_expression (rest input.old)).value ≡ Ok token
         → owns_nothing token ≡ true → IsOk result }
     ensures same { OnErr result (input.new ≡ input.old) }
 {

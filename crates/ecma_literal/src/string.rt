@@ -9,7 +9,7 @@ ghost use Rattle.ecma_token.specs.View.{TokenView, token_view, owns_nothing};
 ghost use Rattle.ecma_grammar.specs.Found.{found_view, found_at, fault_view, fault_behind, value_view, value_behind, token_behind, span_of};
 ghost use Rattle.ecma_grammar.specs.Fronts.{next_is};
 ghost use Rattle.ecma_escape.specs.PieceParts.{quoted, faults_from, text_from, atom_from, behind_pieces, closing_faults};
-ghost use Rattle.ecma_grammar.specs.Strings as grammar;
+ghost use Rattle.ecma_grammar.specs.Strings as strings;
 
 use ecma_escape::escape::{Use, at_escape, push_escape};
 use ecma_grammar::found::{Blame, Found, push_fault};
@@ -21,7 +21,7 @@ use std::simd::prelude::*;
 /// Moves behind the quote at the cursor, and answers which it is.
 #[inline(always)]
 fn opening_quote(input: &mut StringInput) -> Quote
-    requires { grammar.opens_string (rest input.old) ≡ true }
+    requires { strings.opens_string (rest input.old) ≡ true }
     ensures quote { slice_get (rest input.old) 0 ≡ Some (quote_byte result) }
     ensures moved { input.new ≡ passed 1 input.old }
 {
@@ -163,14 +163,14 @@ fn string_token<'a>(
     input: &mut StringInput<'a>,
     faults: &mut Vec<(Blame, Error<'a>)>,
 ) -> Result<Result<Token<'a>, Error<'a>>, AllocError>
-    requires { grammar.opens_string (rest input.old) ≡ true }
+    requires { strings.opens_string (rest input.old) ≡ true }
     ensures value { IfOk result (λ r. value_view token_view r
-        ≡ value_behind token_behind (place input.old) (grammar.string_literal (rest input.old)).value) }
+        ≡ value_behind token_behind (place input.old) (strings.string_literal (rest input.old)).value) }
     ensures faults { OnOk result (map fault_view faults.new.items ≡ map fault_view faults.old.items
-        ++ map (fault_behind (place input.old)) (grammar.string_literal (rest input.old)).faults) }
-    ensures moved { OnOk result (input.new ≡ passed (length (grammar.string_literal (rest input.old)).spelling) input.old) }
-    ensures free { (token : TokenView) → (grammar.string_literal (rest input.old)).value ≡ Ok token → owns_nothing token ≡ true
-        → (grammar.string_literal (rest input.old)).faults ≡ [] → IsOk result }
+        ++ map (fault_behind (place input.old)) (strings.string_literal (rest input.old)).faults) }
+    ensures moved { OnOk result (input.new ≡ passed (length (strings.string_literal (rest input.old)).spelling) input.old) }
+    ensures free { (token : TokenView) → (strings.string_literal (rest input.old)).value ≡ Ok token → owns_nothing token ≡ true
+        → (strings.string_literal (rest input.old)).faults ≡ [] → IsOk result }
 {
     let start = input.cur_pos();
     let quote = opening_quote(input);
@@ -198,12 +198,12 @@ pub fn scan_string<'a>(
     alloc: Global,
     input: &mut StringInput<'a>,
 ) -> Result<Found<'a, Token<'a>>, AllocError>
-    requires { grammar.opens_string (rest input.old) ≡ true }
+    requires { strings.opens_string (rest input.old) ≡ true }
     ensures found { IfOk result (λ f. found_view token_view f ≡
-        found_at token_behind (place input.old) (grammar.string_literal (rest input.old))) }
-    ensures moved { OnOk result (input.new ≡ passed (length (grammar.string_literal (rest input.old)).spelling) input.old) }
-    ensures free { (token : TokenView) → (grammar.string_literal (rest input.old)).value ≡ Ok token → owns_nothing token ≡ true
-        → (grammar.string_literal (rest input.old)).faults ≡ [] → IsOk result }
+        found_at token_behind (place input.old) (strings.string_literal (rest input.old))) }
+    ensures moved { OnOk result (input.new ≡ passed (length (strings.string_literal (rest input.old)).spelling) input.old) }
+    ensures free { (token : TokenView) → (strings.string_literal (rest input.old)).value ≡ Ok token → owns_nothing token ≡ true
+        → (strings.string_literal (rest input.old)).faults ≡ [] → IsOk result }
     ensures same { OnErr result (input.new ≡ input.old) }
 {
     let before = input.clone()?;
@@ -228,12 +228,12 @@ pub fn scan_string<'a>(
 /// stays. No memory is taken: value and raw text borrow from the source. Our own, for speed.
 #[inline(always)]
 pub fn eat_plain_string<'a>(input: &mut StringInput<'a>) -> Option<Token<'a>>
-    requires { grammar.opens_string (rest input.old) ≡ true }
-    ensures found { IfSome result (λ t. found_at token_behind (place input.old) (grammar.string_literal (rest input.old))
+    requires { strings.opens_string (rest input.old) ≡ true }
+    ensures found { IfSome result (λ t. found_at token_behind (place input.old) (strings.string_literal (rest input.old))
         ≡ record { value = Ok (token_view t); faults = []; extent = span_of (place input.old) (place input.new); line_break = false }) }
-    ensures moved { IfSome result (λ t. input.new ≡ passed (length (grammar.string_literal (rest input.old)).spelling) input.old) }
-    ensures plain { (token : TokenView) → (grammar.string_literal (rest input.old)).value ≡ Ok token → owns_nothing token ≡ true
-        → (grammar.string_literal (rest input.old)).faults ≡ [] → IsSome result }
+    ensures moved { IfSome result (λ t. input.new ≡ passed (length (strings.string_literal (rest input.old)).spelling) input.old) }
+    ensures plain { (token : TokenView) → (strings.string_literal (rest input.old)).value ≡ Ok token → owns_nothing token ≡ true
+        → (strings.string_literal (rest input.old)).faults ≡ [] → IsSome result }
     ensures same { IfNone result (input.new ≡ input.old) }
 {
     let start = input.cur_pos();

@@ -6,7 +6,7 @@ ghost use Rattle.ecma_token.specs.View.{token_view};
 ghost use Rattle.ecma_grammar.specs.Found.{found_view, found_at, token_behind};
 ghost use Rattle.ecma_grammar.specs.Locality.{ends_template, is_accepted};
 ghost use Rattle.ecma_grammar.specs.Pieces.{pieces};
-ghost use Rattle.ecma_grammar.specs.Templates as grammar;
+ghost use Rattle.ecma_grammar.specs.Templates as templates;
 
 mod cooked;
 mod pieces;
@@ -30,8 +30,8 @@ fn is_at_mark(input: &StringInput) -> bool
 /// Moves behind the back quote or `${` at the cursor, and answers it.
 fn read_mark<'a>(input: &mut StringInput) -> Token<'a>
     requires { ends_template (rest input.old) ≡ true }
-    ensures value { (grammar.mark_of (grammar.template_end (rest input.old))).value ≡ Ok (token_view result) }
-    ensures moved { input.new ≡ passed (length (grammar.mark_of (grammar.template_end (rest input.old))).spelling) input.old }
+    ensures value { (templates.mark_of (templates.template_end (rest input.old))).value ≡ Ok (token_view result) }
+    ensures moved { input.new ≡ passed (length (templates.mark_of (templates.template_end (rest input.old))).spelling) input.old }
 {
     if input.eat_byte(b'`') {
         return Token::BackQuote;
@@ -45,8 +45,8 @@ fn read_mark<'a>(input: &mut StringInput) -> Token<'a>
 fn scan_mark<'a>(alloc: Global, input: &mut StringInput<'a>) -> Found<'a, Token<'a>>
     requires { ends_template (rest input.old) ≡ true }
     ensures found { found_view token_view result
-        ≡ found_at token_behind (place input.old) (grammar.mark_of (grammar.template_end (rest input.old))) }
-    ensures moved { input.new ≡ passed (length (grammar.mark_of (grammar.template_end (rest input.old))).spelling) input.old }
+        ≡ found_at token_behind (place input.old) (templates.mark_of (templates.template_end (rest input.old))) }
+    ensures moved { input.new ≡ passed (length (templates.mark_of (templates.template_end (rest input.old))).spelling) input.old }
 {
     let start = input.cur_pos();
     let token = read_mark(input);
@@ -66,10 +66,10 @@ fn scan_text<'a>(
 ) -> Result<Found<'a, Token<'a>>, AllocError>
     requires { opened.0 ≤ place input.old }
     ensures found { IfOk result (λ f. found_view token_view f
-        ≡ grammar.template_found opened.0 (place input.old) (grammar.template_text false (rest input.old))) }
-    ensures moved { OnOk result (input.new ≡ passed (length (grammar.template_text false (rest input.old)).spelling) input.old) }
-    ensures free { list_all grammar.is_verbatim (pieces grammar.template_cutter tt (rest input.old)) ≡ true
-        → is_accepted (grammar.template_text false (rest input.old)).value ≡ true → IsOk result }
+        ≡ templates.template_found opened.0 (place input.old) (templates.template_text false (rest input.old))) }
+    ensures moved { OnOk result (input.new ≡ passed (length (templates.template_text false (rest input.old)).spelling) input.old) }
+    ensures free { list_all templates.is_verbatim (pieces templates.template_cutter tt (rest input.old)) ≡ true
+        → is_accepted (templates.template_text false (rest input.old)).value ≡ true → IsOk result }
 {
     let mut text = input.clone()?;
     let start = input.cur_pos();
@@ -117,10 +117,10 @@ pub fn scan_template<'a>(
     requires more { 0 < length (rest input.old) }
     requires opened { opened.0 ≤ place input.old }
     ensures found { IfOk result (λ f. found_view token_view f
-        ≡ grammar.template_found opened.0 (place input.old) (grammar.template_text after_template (rest input.old))) }
-    ensures moved { OnOk result (input.new ≡ passed (length (grammar.template_text after_template (rest input.old)).spelling) input.old) }
-    ensures free { list_all grammar.is_verbatim (pieces grammar.template_cutter tt (rest input.old)) ≡ true
-        → is_accepted (grammar.template_text after_template (rest input.old)).value ≡ true → IsOk result }
+        ≡ templates.template_found opened.0 (place input.old) (templates.template_text after_template (rest input.old))) }
+    ensures moved { OnOk result (input.new ≡ passed (length (templates.template_text after_template (rest input.old)).spelling) input.old) }
+    ensures free { list_all templates.is_verbatim (pieces templates.template_cutter tt (rest input.old)) ≡ true
+        → is_accepted (templates.template_text after_template (rest input.old)).value ≡ true → IsOk result }
     ensures same { OnErr result (input.new ≡ input.old) }
 {
     if after_template && is_at_mark(input) {

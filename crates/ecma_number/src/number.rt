@@ -6,7 +6,7 @@ ghost use Rattle.ecma_place.specs.Text.{byte_len};
 ghost use Rattle.ecma_token.specs.View.{token_view};
 ghost use Rattle.ecma_grammar.specs.Found.{found_view, found_at, span_of, token_behind};
 ghost use Rattle.ecma_grammar.specs.Locality.{is_accepted};
-ghost use Rattle.ecma_grammar.specs.Numbers as grammar;
+ghost use Rattle.ecma_grammar.specs.Numbers as numbers;
 ghost use Rattle.ecma_number.specs.WrittenNumbers.{number_of};
 
 mod digits;
@@ -38,17 +38,17 @@ fn found_number<'a>(
     ts1085: bool,
     rule: NumberRule,
 ) -> Result<Found<'a, Token<'a>>, AllocError>
-    requires form { grammar.IsNumber (number_of number) }
-    requires raw { raw.now ≡ grammar.number_text (number_of number) }
-    requires extent { extent ≡ span_of extent.lo.0 (extent.lo.0 + byte_len (grammar.number_text (number_of number))) }
+    requires form { numbers.IsNumber (number_of number) }
+    requires raw { raw.now ≡ numbers.number_text (number_of number) }
+    requires extent { extent ≡ span_of extent.lo.0 (extent.lo.0 + byte_len (numbers.number_text (number_of number))) }
     requires behind { extent.hi.0 ≡ place input.now }
-    requires some { grammar.part_refusal (number_of number) (rest input.now) ≡ None
-        → 0 < length (grammar.without_separators (grammar.written_digits (number_of number))) }
+    requires some { numbers.part_refusal (number_of number) (rest input.now) ≡ None
+        → 0 < length (numbers.without_separators (numbers.written_digits (number_of number))) }
     ensures found { IfOk result (λ f. found_view token_view f ≡ found_at token_behind extent.lo.0
-        (grammar.found_number ts1085 rule (number_of number.entry) (grammar.refusal rule (number_of number.entry) (rest input.now)))) }
-    ensures free { list_any grammar.is_separator (grammar.number_text (number_of number.entry)) ≡ false
-        → grammar.refusal rule (number_of number.entry) (rest input.now) ≡ None
-        → (grammar.found_number ts1085 rule (number_of number.entry) None).faults ≡ [] → IsOk result }
+        (numbers.found_number ts1085 rule (number_of number.entry) (numbers.refusal rule (number_of number.entry) (rest input.now)))) }
+    ensures free { list_any numbers.is_separator (numbers.number_text (number_of number.entry)) ≡ false
+        → numbers.refusal rule (number_of number.entry) (rest input.now) ≡ None
+        → (numbers.found_number ts1085 rule (number_of number.entry) None).faults ≡ [] → IsOk result }
 {
     let mut faults = Vec::new(alloc);
     push_part_faults(alloc, &mut faults, number, extent.lo, rule)?;
@@ -93,14 +93,14 @@ pub fn scan_number<'a>(
     ts1085: bool,
     rule: NumberRule,
 ) -> Result<Found<'a, Token<'a>>, AllocError>
-    requires { grammar.opens_number (rest input.old) ≡ true }
+    requires { numbers.opens_number (rest input.old) ≡ true }
     ensures found { IfOk result (λ f. found_view token_view f ≡
-        found_at token_behind (place input.old) (grammar.number ts1085 rule (rest input.old))) }
+        found_at token_behind (place input.old) (numbers.number ts1085 rule (rest input.old))) }
     ensures moved { OnOk result
-        (input.new ≡ passed (length (grammar.number ts1085 rule (rest input.old)).spelling) input.old) }
-    ensures free { list_any grammar.is_separator (grammar.number ts1085 rule (rest input.old)).spelling ≡ false
-        → is_accepted (grammar.number ts1085 rule (rest input.old)).value ≡ true
-        → (grammar.number ts1085 rule (rest input.old)).faults ≡ [] → IsOk result }
+        (input.new ≡ passed (length (numbers.number ts1085 rule (rest input.old)).spelling) input.old) }
+    ensures free { list_any numbers.is_separator (numbers.number ts1085 rule (rest input.old)).spelling ≡ false
+        → is_accepted (numbers.number ts1085 rule (rest input.old)).value ≡ true
+        → (numbers.number ts1085 rule (rest input.old)).faults ≡ [] → IsOk result }
     ensures same { OnErr result (input.new ≡ input.old) }
 {
     let before = input.clone()?;

@@ -3,7 +3,7 @@ use Rattle.std.proofs.Common.{◌≡◌, Bool, true, false, cond, ◌||◌, [], 
 use Rattle.std.proofs.lemmas.Bool.{or_parts}
 use Rattle.clean_runs.specs.Parts.{StartsGap, may_open}
 use Rattle.ecma_dispatch.proofs.FrontLemmas.{expression-front}
-use Rattle.ecma_joining.specs.PlainContexts.{are_plain}
+use Rattle.ecma_joining.specs.OwnContexts.{are_own}
 use Rattle.ecma_place.specs.Atom.{AtomView}
 use Rattle.ecma_place.specs.Text.{Text}
 use Rattle.ecma_scan.proofs.ExpressionLaws.{expression_is_local}
@@ -100,7 +100,7 @@ regex_inside b t here u h = ap (λ k. (turned_in b k u.flag).contexts) (again_ki
 pub regex_plain : (b : Bearing) (t : Bare) (here : Text) (u : Bare) → bare_again b t here ≡ Some u → IsPlain b → IsPlain (behind_kind b (kind_of u.kind) u.flag)
 regex_plain b t here u h plain =
     let none : is_shebang (kind_of u.kind) ≡ false = ap is_shebang (again_kind b t here u h) in
-    plain_behind b (kind_of u.kind) u.flag (ap are_plain (regex_inside b t here u h) ∙ plain.contexts) (λ line. cc)
+    plain_behind b (kind_of u.kind) u.flag (ap are_own (regex_inside b t here u h) ∙ plain.contexts) (λ line. cc)
 
 starts_apart : (tail : Text) → StartsGap tail → separates tail ≡ true
 starts_apart [] h = refl

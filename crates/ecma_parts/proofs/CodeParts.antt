@@ -7,11 +7,11 @@ use Rattle.ecma_dispatch.proofs.FrontLemmas.{expression-front}
 use Rattle.ecma_joining.proofs.BoundariesLaws.{nothing_behind_the_gap}
 use Rattle.ecma_joining.proofs.CodeKindsLaws.{closer_is_written, code_holds_no_break, code_is_neither}
 use Rattle.ecma_joining.proofs.CodeLaws.{code_begins_no_gap, code_is_local, code_is_token, code_opens_no_shebang}
-use Rattle.ecma_joining.proofs.PlainContextsLemmas.{contexts_stay_plain, templates_are_opened}
+use Rattle.ecma_joining.proofs.OwnContextsLemmas.{contexts_stay_own, templates_are_opened}
 use Rattle.ecma_joining.proofs.SeparatorsLaws.{closers_are_read_again, separator_is_the_gap, slash_is_read_again, start_is_the_gap}
 use Rattle.ecma_joining.specs.Code.{CodeMode, code_mode}
 use Rattle.ecma_joining.specs.CodeKinds.{is_closer, is_closer_text, is_text_or_line}
-use Rattle.ecma_joining.specs.PlainContexts.{opens_text}
+use Rattle.ecma_joining.specs.OwnContexts.{opens_text}
 use Rattle.ecma_joining.specs.Separators.{CloserAgain, IsGap, SlashAgain, separator}
 use Rattle.ecma_place.specs.Text.{Text}
 use Rattle.ecma_scan.specs.Expressions.{opens_expression, regular_expression}
@@ -24,11 +24,11 @@ use Rattle.ecma_scan.specs.Templates.{template_value}
 use Rattle.ecma_state.specs.Contexts.{innermost}
 use Rattle.ecma_state.specs.Mode.{is_template}
 use Rattle.ecma_state.specs.State.{is_shebang, is_slash}
-use Rattle.ecma_state.specs.TokenAt.{opening, placed, token_at, token_of}
+use Rattle.ecma_state.specs.TokenAt.{lookahead, placed, token_at, token_of}
 use Rattle.ecma_state.specs.Transition.{tpl_on_top}
 use Rattle.ecma_state.specs.declared.mode.Mode.{Mode}
-use Rattle.ecma_state.specs.declared.opening.Opening.{Opening}
-use Rattle.ecma_state.specs.declared.opening.Opening.TheVariants as opens
+use Rattle.ecma_state.specs.declared.lookahead.Lookahead.{Lookahead}
+use Rattle.ecma_state.specs.declared.lookahead.Lookahead.TheVariants as opens
 use Rattle.ecma_stream.proofs.SlashLemmas.{token-slash}
 use Rattle.ecma_token.specs.Kinds.{kind_of}
 use Rattle.ecma_token.specs.View.{ErrorView, TokenView, error_token, plain_token, refused_template}
@@ -152,7 +152,7 @@ text_slash opened (Ok (refused_template raw kind span)) = refl
 text_slash opened (Ok (error_token kind span)) = refl
 text_slash opened (Err error) = refl
 
-placed_slash : (o : Opening) (mode : Mode) (s : Scanned TokenView) → is_slash (kind_of (token_of (placed o mode 0 s).value)) ≡ is_slash (kind_of (token_of s.value))
+placed_slash : (o : Lookahead) (mode : Mode) (s : Scanned TokenView) → is_slash (kind_of (token_of (placed o mode 0 s).value)) ≡ is_slash (kind_of (token_of s.value))
 placed_slash opens.Template mode s = text_slash mode.opened.0 s.value
 placed_slash opens.Number mode s = moved_slash s.value
 placed_slash opens.String mode s = moved_slash s.value
@@ -169,7 +169,7 @@ slash_opens b flag here t template it slash =
     flag
     0
     here
-    (placed_slash (opening (bare_mode b) flag here) (bare_mode b) s
+    (placed_slash (lookahead (bare_mode b) flag here) (bare_mode b) s
     ∙ ap (λ x. is_slash (kind_of (token_of x.value))) (code_is_token (bare_mode b) flag here template)
     ∙ ap (λ x. is_slash (kind_of (token_of x))) it.value
     ∙ slash)
@@ -227,7 +227,7 @@ code_next b text t here v u tail plain inside h final follows =
     whole
     (subst (λ x. Again (code b (separator r.flag ++ (j.head ∷ j.own))) t x v) (sym j.written) (read_again b r.flag here t v template r.found (separator r.flag ++ (j.head ∷ j.own)) j.head j.own gap j.alike))
 
-pub code_first : (b : Bearing) (text : Text) (t : Bare) (here : Text) (v : Bool) (u : Bare) (tail : Text) → IsPlain b → tpl_on_top b.contexts ≡ false → b.none_given ≡ true → code b text ≡ token t here v
+pub code_first : (b : Bearing) (text : Text) (t : Bare) (here : Text) (v : Bool) (u : Bare) (tail : Text) → IsPlain b → tpl_on_top b.contexts ≡ false → b.shebang_allowed ≡ true → code b text ≡ token t here v
     → Final lexer_grammar t here u → Follows ends_template (role_of (kind_of u.kind)) tail → Again (code b (u.bytes ++ tail)) t (u.bytes ++ tail) v
 code_first b text t here v u tail plain inside start h final follows =
     let template = no_template b.contexts inside in
@@ -291,7 +291,7 @@ code_line b text t here v plain inside line h =
 pub code_plain : (b : Bearing) (text : Text) (t : Bare) (here : Text) (v : Bool) → IsPlain b → tpl_on_top b.contexts ≡ false → code b text ≡ token t here v → IsPlain (behind_kind b (kind_of t.kind) t.flag)
 code_plain b text t here v plain inside h =
     let none = no_line (kind_of t.kind) (neither_by b text t here v inside h) in
-    plain_behind b (kind_of t.kind) t.flag (contexts_stay_plain.0 (before_in b) b.contexts (kind_of t.kind) t.flag plain.contexts inside) (λ line. cc)
+    plain_behind b (kind_of t.kind) t.flag (contexts_stay_own.0 (before_in b) b.contexts (kind_of t.kind) t.flag plain.contexts inside) (λ line. cc)
 
 opener : (kind : TokenKind) → opens_text kind ≡ true → may_open (role_of kind) ≡ true
 opener BackQuote h = refl

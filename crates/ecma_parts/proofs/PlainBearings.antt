@@ -1,7 +1,7 @@
 -- What plain steps keep of what a read goes by.
 use Rattle.std.proofs.Common.{◌≡◌, Bool, true, false, ◌||◌, [], ◌∷◌, refl}
 use Rattle.std.proofs.lemmas.Bool.{and_from}
-use Rattle.ecma_joining.specs.PlainContexts.{are_plain}
+use Rattle.ecma_joining.specs.OwnContexts.{are_own}
 use Rattle.ecma_state.specs.Contexts.{Contexts, innermost}
 use Rattle.ecma_state.specs.Mode.{is_template, keeps_space}
 use Rattle.ecma_state.specs.State.{is_shebang}
@@ -14,8 +14,8 @@ use Rattle.ecma_parts.specs.Instance.{was_shebang}
 
 -- what plain steps keep: plain contexts, and that no token but a shebang was given at the start and behind a shebang
 pub record IsPlain (b : Bearing) : Type 0 where
-  pub contexts : are_plain b.contexts ≡ true
-  pub start : b.none_given ≡ true → b.first ≡ true
+  pub contexts : are_own b.contexts ≡ true
+  pub start : b.shebang_allowed ≡ true → b.first ≡ true
   pub line : was_shebang b.previous ≡ true → b.first ≡ true
 
 -- Where no template's text is read
@@ -25,14 +25,14 @@ no_template [] h = refl
 no_template (Tpl ∷ below) h = cc
 no_template (top ∷ below) h = refl
 
-pub keeps_none : (contexts : Contexts) → are_plain contexts ≡ true → keeps_space (innermost contexts) ≡ false
+pub keeps_none : (contexts : Contexts) → are_own contexts ≡ true → keeps_space (innermost contexts) ≡ false
 keeps_none [] h = refl
 keeps_none (JSXExpr ∷ around) h = cc
 keeps_none (top ∷ around) h = refl
 
 -- Tokens
 
-pub plain_behind : (b : Bearing) (kind : TokenKind) (flag : Bool) → are_plain (turned_in b kind flag).contexts ≡ true → (is_shebang kind ≡ true → b.first ≡ true) → IsPlain (behind_kind b kind flag)
+pub plain_behind : (b : Bearing) (kind : TokenKind) (flag : Bool) → are_own (turned_in b kind flag).contexts ≡ true → (is_shebang kind ≡ true → b.first ≡ true) → IsPlain (behind_kind b kind flag)
 plain_behind b kind flag contexts first =
     record {
       contexts = contexts;

@@ -19,7 +19,7 @@ use Rattle.ecma_scan.specs.Words.{opens_word}
 use Rattle.ecma_state.specs.Contexts.{Contexts, innermost}
 use Rattle.ecma_state.specs.Mode.{is_template, is_tpl_element}
 use Rattle.ecma_state.specs.State.{is_error}
-use Rattle.ecma_state.specs.TokenAt.{opening_from, read_opened, token_at}
+use Rattle.ecma_state.specs.TokenAt.{lookahead_from, read_opened, token_at}
 use Rattle.ecma_state.specs.Transition.{tpl_on_top}
 use Rattle.ecma_state.specs.declared.token_context.TokenContext.TheVariants.{Tpl}
 use Rattle.ecma_token.specs.Kinds.{kind_of}
@@ -110,7 +110,7 @@ inside_is b c cs inside =
     (ap (λ x. elements_under x (gap_of b).keeps_space (gap_of b) text) template)
     ∙ ap (λ flag. token_behind_gap b.context flag [] (token_at (bare_mode b) flag text) text) (or_none b.first)
     ∙ ap
-    (λ x. found_as b text (read_opened (opening_from x (opens_number text) (opens_string text) (opens_word text) (b.first && opens_bars text)) (bare_mode b) text))
+    (λ x. found_as b text (read_opened (lookahead_from x (opens_number text) (opens_string text) (opens_word text) (b.first && opens_bars text)) (bare_mode b) text))
     template
 
 pub template_is_code : (b : Bearing) (text : Text) → tpl_on_top b.contexts ≡ true → scan_tpl lexer_parts b text ≡ code b text

@@ -2,8 +2,8 @@
 use Rattle.std.proofs.Common.{◌≡◌, Bool, true, false, [], ◌∷◌, ◌++◌, Option, Some, None, refl, ap, ◌∙◌}
 use Rattle.clean_runs.specs.Parts.{StartsLine, is_text, may_open}
 use Rattle.ecma_joining.proofs.BoundariesLaws.{shebang_stands_alone}
-use Rattle.ecma_joining.proofs.PlainContextsLemmas.{contexts_stay_plain}
-use Rattle.ecma_joining.specs.PlainContexts.{are_plain}
+use Rattle.ecma_joining.proofs.OwnContextsLemmas.{contexts_stay_own}
+use Rattle.ecma_joining.specs.OwnContexts.{are_own}
 use Rattle.ecma_place.specs.Text.{Text}
 use Rattle.ecma_scan.specs.Found.{scanned}
 use Rattle.ecma_scan.specs.Fronts.{next_is}
@@ -35,7 +35,7 @@ text_inside b x = ap (λ k. (turned_in b k (bare_text b x).flag).contexts) (text
 pub text_plain : (b : Bearing) (x : Text) → IsPlain b → IsPlain (behind_kind b (kind_of (bare_text b x).kind) (bare_text b x).flag)
 text_plain b x plain =
     let none : is_shebang (kind_of (bare_text b x).kind) ≡ false = ap is_shebang (text_kind b x) in
-    plain_behind b (kind_of (bare_text b x).kind) (bare_text b x).flag (ap are_plain (text_inside b x) ∙ plain.contexts) (λ line. cc)
+    plain_behind b (kind_of (bare_text b x).kind) (bare_text b x).flag (ap are_own (text_inside b x) ∙ plain.contexts) (λ line. cc)
 
 -- A back quote, or `${`
 
@@ -56,8 +56,8 @@ mark_opens b true h = refl
 mark_opens b false h = cc
 
 mark_plain : (b : Bearing) (quote : Bool) → IsPlain b → IsPlain (behind_kind b (kind_of (mark b quote).kind) (mark b quote).flag)
-mark_plain b true plain = plain_behind b BackQuote (mark b true).flag (contexts_stay_plain.1 (before_in b) b.contexts (mark b true).flag plain.contexts) (λ line. cc)
-mark_plain b false plain = plain_behind b DollarLBrace (mark b false).flag (contexts_stay_plain.2 (before_in b) b.contexts (mark b false).flag plain.contexts) (λ line. cc)
+mark_plain b true plain = plain_behind b BackQuote (mark b true).flag (contexts_stay_own.1 (before_in b) b.contexts (mark b true).flag plain.contexts) (λ line. cc)
+mark_plain b false plain = plain_behind b DollarLBrace (mark b false).flag (contexts_stay_own.2 (before_in b) b.contexts (mark b false).flag plain.contexts) (λ line. cc)
 
 mark_closes : (b : Bearing) (quote : Bool) (tail : Text) → ends_template ((mark b quote).bytes ++ tail) ≡ true
 mark_closes b true tail = refl
@@ -87,9 +87,9 @@ closing_again b r tail = mark_again b (next_is 96 r) tail
 
 -- The shebang
 
-pub shebang_plain : (b : Bearing) (r : Text) → b.none_given ≡ true → IsPlain b → IsPlain (behind_kind b Shebang (bare_shebang r).flag)
+pub shebang_plain : (b : Bearing) (r : Text) → b.shebang_allowed ≡ true → IsPlain b → IsPlain (behind_kind b Shebang (bare_shebang r).flag)
 shebang_plain b r start plain =
-    plain_behind b Shebang (bare_shebang r).flag (ap are_plain (shebang_keeps b (bare_shebang r).flag) ∙ plain.contexts) (λ line. plain.start start)
+    plain_behind b Shebang (bare_shebang r).flag (ap are_own (shebang_keeps b (bare_shebang r).flag) ∙ plain.contexts) (λ line. plain.start start)
 
 ends_before : (tail : Text) → StartsLine tail → ends_line tail ≡ true
 ends_before [] h = refl

@@ -20,7 +20,7 @@ pub record Bearing : Type 0 where
   pub expr_allowed : Bool
   -- no token but a shebang was given
   pub first : Bool
-  pub none_given : Bool
+  pub shebang_allowed : Bool
   -- the kind of the token before, and its flag, which is false where there is none
   pub previous : Option TokenKind
   pub previous_flag : Bool
@@ -34,7 +34,7 @@ bearing_of s =
       contexts = s.contexts;
       expr_allowed = s.expr_allowed;
       first = (seen_of s.past).first;
-      none_given = is_none (seen_of s.past).last;
+      shebang_allowed = is_none (seen_of s.past).last;
       previous = previous (seen_of s.past);
       previous_flag = flag_of (seen_of s.past).last;
     }
@@ -47,7 +47,7 @@ mode_at opened b =
       context = b.context;
       top = innermost b.contexts;
       first = b.first;
-      none_given = b.none_given;
+      shebang_allowed = b.shebang_allowed;
       previous = b.previous;
       opened = opened;
     }
@@ -71,7 +71,7 @@ behind_kind b kind flag =
       contexts = (turned_in b kind flag).contexts;
       expr_allowed = (turned_in b kind flag).expr_allowed;
       first = is_shebang kind && b.first;
-      none_given = false;
+      shebang_allowed = false;
       previous = Some kind;
       previous_flag = flag;
     }

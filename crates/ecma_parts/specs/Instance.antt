@@ -75,7 +75,7 @@ lexer_parts =
     record {
       role = λ token. role_of (kind_of token);
       is_slash = λ token. is_slash (kind_of token);
-      is_start = λ b. b.none_given;
+      is_start = λ b. b.shebang_allowed;
       in_text = λ b. tpl_on_top b.contexts;
       was_text = λ b. is_tpl_element b.previous;
       was_line = λ b. was_shebang b.previous;

@@ -13,7 +13,7 @@ use Rattle.ecma_scan.specs.Found.{found_at, token_behind}
 use Rattle.ecma_state.specs.Contexts.{Contexts}
 use Rattle.ecma_state.specs.Reading.{Reading, reading, reading_again, spanned}
 use Rattle.ecma_state.specs.Run.{act_all, act_on, acted_on, at_place, given_in, mode_of, popped_from, reading_from, reread_from, start_of}
-use Rattle.ecma_state.specs.Session.{Again, Past, Session, kept_back, kept_in, kept_of, kept_state, last_flag, seen_of, state_of}
+use Rattle.ecma_state.specs.Session.{Again, Past, Session, kept_back, kept_in, kept_of, state_value, last_flag, seen_of, state_of}
 use Rattle.ecma_state.specs.State.{around_of, is_slash, last_slash, slash_in}
 use Rattle.ecma_state.specs.declared.settings.Settings.{Settings}
 use Rattle.ecma_state.specs.declared.step.Step.{Step}
@@ -69,7 +69,7 @@ read_collected : (input : Cursor) (s : Session) → s.reread ≡ None → Standi
 read_collected input s plain k c =
     subst
     (λ spans. Collected input spans (given_in (is_some s.reread) r.end_flag r.found ∷ s.past) s.reread (place r.input))
-    (sym (spans_more s.comments (around_of (kept_state s) (kept_in r.found)) r.comments))
+    (sym (spans_more s.comments (around_of (state_value s) (kept_in r.found)) r.comments))
     (go r.found refl (is_some s.reread) (ap is_some plain))
   where
     r : Reading
@@ -182,7 +182,7 @@ again_collected input s p rereads k c =
     old = spans_of_comments s.comments
 
     same : spans_of_comments (acted_on s r).after.comments ≡ old
-    same = spans_more s.comments (around_of (kept_state s) (kept_in r.found)) [] ∙ append-nil old
+    same = spans_more s.comments (around_of (state_value s) (kept_in r.found)) [] ∙ append-nil old
 
     slash : LastBegins s.input s.past p
     slash = k.reread p rereads

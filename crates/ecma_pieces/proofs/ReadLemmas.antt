@@ -22,10 +22,10 @@ use Rattle.ecma_scan.proofs.GapLaws.{gap_is_front}
 use Rattle.ecma_state.specs.Mode.{gap_mode}
 use Rattle.ecma_state.specs.Reading.{Reading, behind_gap, gap_in, reading, reading_behind, reading_code, reading_if, shebang_reading, shebang_token, spanned, stands_shebang}
 use Rattle.ecma_state.specs.State.{is_slash}
-use Rattle.ecma_state.specs.TokenAt.{comments_in, opening, placed, read_opened, token_at, token_comments, token_found, token_of}
+use Rattle.ecma_state.specs.TokenAt.{comments_in, lookahead, placed, read_opened, token_at, token_comments, token_found, token_of}
 use Rattle.ecma_state.specs.declared.mode.Mode.{Mode}
-use Rattle.ecma_state.specs.declared.opening.Opening.{Opening}
-use Rattle.ecma_state.specs.declared.opening.Opening.TheVariants as opens
+use Rattle.ecma_state.specs.declared.lookahead.Lookahead.{Lookahead}
+use Rattle.ecma_state.specs.declared.lookahead.Lookahead.TheVariants as opens
 use Rattle.ecma_dispatch.proofs.FrontLemmas.{token_at-front}
 use Rattle.ecma_stream.proofs.EndLemmas.{hi_in, lo_in, token-extent}
 use Rattle.ecma_classes.proofs.MemberLemmas.{IsIn, in_either}
@@ -69,7 +69,7 @@ bars_lie true m n text =
     subst (λ l. LieBetween n (n + byte_len l) (comments_of None true n es text)) (written_gap m es ∙ sym (written_common es)) (comments_lie m None true n es text)
 bars_lie false m n text = omega arith
 
-token_lies : (o : Opening) (mode : Mode) (n : ℕ) (text : Text) → LieBetween n (n + byte_len (read_opened o mode text).spelling) (comments_in o mode n text)
+token_lies : (o : Lookahead) (mode : Mode) (n : ℕ) (text : Text) → LieBetween n (n + byte_len (read_opened o mode text).spelling) (comments_in o mode n text)
 token_lies opens.Template mode n text = omega arith
 token_lies opens.Number mode n text = omega arith
 token_lies opens.String mode n text = omega arith
@@ -83,7 +83,7 @@ bars_stand true n text z i =
     subst (λ l. SpanStands n l z) (sym (written_common es)) (elements_stand None true n es text (bars_signed text) z i)
 bars_stand false n text z i = absurd i
 
-token_stands : (o : Opening) (mode : Mode) (n : ℕ) (text : Text) (z : Span) → IsIn z (own_spans (comments_in o mode n text)) → SpanStands n (read_opened o mode text).spelling z
+token_stands : (o : Lookahead) (mode : Mode) (n : ℕ) (text : Text) (z : Span) → IsIn z (own_spans (comments_in o mode n text)) → SpanStands n (read_opened o mode text).spelling z
 token_stands opens.Template mode n text z i = absurd i
 token_stands opens.Number mode n text z i = absurd i
 token_stands opens.String mode n text z i = absurd i
@@ -92,7 +92,7 @@ token_stands opens.Bars mode n text z i = bars_stand mode.settings.comments n te
 token_stands opens.Other mode n text z i = absurd i
 
 -- such a marker is no slash
-no_slash : (o : Opening) (mode : Mode) (n : ℕ) (text : Text) → is_slash (kind_of (token_of (placed o mode n (read_opened o mode text)).value)) ≡ true
+no_slash : (o : Lookahead) (mode : Mode) (n : ℕ) (text : Text) → is_slash (kind_of (token_of (placed o mode n (read_opened o mode text)).value)) ≡ true
     → (z : Span) → IsIn z (own_spans (comments_in o mode n text)) → ⊥
 no_slash opens.Template mode n text is z i = i
 no_slash opens.Number mode n text is z i = i
@@ -143,8 +143,8 @@ behind_lies mode before input here n (c ∷ cs) moved e lies =
           (either z i);
     }
   where
-    o : Opening
-    o = opening mode before.line_break (c ∷ cs)
+    o : Lookahead
+    o = lookahead mode before.line_break (c ∷ cs)
 
     s : Scanned TokenView
     s = token_at mode before.line_break (c ∷ cs)

@@ -6,7 +6,7 @@ use Rattle.std.proofs.lemmas.List.Sums.{fold-append}
 use Rattle.ecma_syntax.specs.declared.context.Context.{Context}
 use Rattle.ecma_state.specs.Contexts.{Contexts}
 use Rattle.ecma_state.specs.Counting.{Counted, count_all, count_step, counted, gone_back, none_yet}
-use Rattle.ecma_replay.specs.Replay.{Acts, AllAt, Follows, IsAt, PlayerKept, RunnerKept, answer_view, with_answer}
+use Rattle.ecma_replay.specs.Replay.{Acts, AllAt, Follows, IsAt, PlayerValue, RunnerValue, answer_view, with_answer}
 use Rattle.ecma_state.specs.Run.{act, act_all, act_on, answer_behind, answers_behind, back_answer}
 use Rattle.ecma_state.specs.Session.{Session}
 use Rattle.ecma_replay.specs.declared.answer.Answer.{Answer}
@@ -21,7 +21,7 @@ answers-more begin c [] x = refl
 answers-more begin c (y ∷ ys) x = ap (λ more. answer_behind begin c y ∷ more) (answers-more begin (count_step c y) ys x)
 
 -- what stands behind one more step, by what it counts and answers
-more : (begin : Session) (xs : List Step) (x : Step) (old new : RunnerKept) (answer : Answer) → Follows begin xs old
+more : (begin : Session) (xs : List Step) (x : Step) (old new : RunnerValue) (answer : Answer) → Follows begin xs old
     → (c : Counted) → count_step (count_all none_yet xs) x ≡ c
     → IsAt (act_all begin c.steps) new.player → AllAt begin c.saves new.saves → new.answers ≡ old.answers
     → answer_view answer ≡ answer_behind begin (count_all none_yet xs) x → Follows begin (xs ++ x ∷ []) (with_answer new answer)
@@ -38,7 +38,7 @@ more begin xs x old new answer follows c counts player saves answers answered =
     }
 
 -- a step that counts
-counts-one : (begin : Session) (xs : List Step) (x : Step) (old new : RunnerKept) (answer : Answer) → Follows begin xs old
+counts-one : (begin : Session) (xs : List Step) (x : Step) (old new : RunnerValue) (answer : Answer) → Follows begin xs old
     → count_step (count_all none_yet xs) x ≡ counted (count_all none_yet xs) x
     → answer_behind begin (count_all none_yet xs) x ≡ (act (act_all begin (count_all none_yet xs).steps) x).answer
     → ((s : Session) → IsAt s old.player → Acts (act s x) answer new.player) → new.saves ≡ old.saves → new.answers ≡ old.answers → Follows begin (xs ++ x ∷ []) (with_answer new answer)
@@ -87,13 +87,13 @@ unfolding count_step
 counts_take_errors = record { steps = λ c. refl; answers = λ begin c. refl }
 
 -- so does such a step where the runner is seen whole
-pub step_follows : (x step : Step) → step ≡ x → Counts x → (old shown new : RunnerKept) (answer : Answer) → shown ≡ old → new.saves ≡ shown.saves → new.answers ≡ shown.answers
+pub step_follows : (x step : Step) → step ≡ x → Counts x → (old shown new : RunnerValue) (answer : Answer) → shown ≡ old → new.saves ≡ shown.saves → new.answers ≡ shown.answers
     → ((s : Session) → IsAt s shown.player → Acts (act s x) answer new.player) → (begin : Session) (xs : List Step) → Follows begin xs old → Follows begin (xs ++ step ∷ []) (with_answer new answer)
 step_follows x step is counts old shown new answer shows saves kept acts begin xs follows =
     subst (λ y. Follows begin (xs ++ y ∷ []) (with_answer new answer)) (sym is)
     (counts-one begin xs x shown new answer (subst (Follows begin xs) (sym shows) follows) (counts.steps (count_all none_yet xs)) (counts.answers begin (count_all none_yet xs)) acts saves kept)
 
-pub step_follows_ok : {E : Type 0} → (x step : Step) → step ≡ x → Counts x → (old shown new : RunnerKept) (result : Result Answer E) → shown ≡ old → new.saves ≡ shown.saves → new.answers ≡ shown.answers
+pub step_follows_ok : {E : Type 0} → (x step : Step) → step ≡ x → Counts x → (old shown new : RunnerValue) (result : Result Answer E) → shown ≡ old → new.saves ≡ shown.saves → new.answers ≡ shown.answers
     → ((s : Session) → IsAt s shown.player → IfOk result (λ answer. Acts (act s x) answer new.player)) → (begin : Session) (xs : List Step) → Follows begin xs old
     → IfOk result (λ answer. Follows begin (xs ++ step ∷ []) (with_answer new answer))
 step_follows_ok x step is counts old shown new (Ok answer) shows saves kept acts begin xs follows =
@@ -102,13 +102,13 @@ step_follows_ok x step is counts old shown new (Err error) shows saves kept acts
 
 -- a save
 
-all-more : (begin : Session) (steps : List (List Step)) (ps : List PlayerKept) (more : List Step) (p : PlayerKept) → AllAt begin steps ps → IsAt (act_all begin more) p → AllAt begin (steps ++ more ∷ []) (ps ++ p ∷ [])
+all-more : (begin : Session) (steps : List (List Step)) (ps : List PlayerValue) (more : List Step) (p : PlayerValue) → AllAt begin steps ps → IsAt (act_all begin more) p → AllAt begin (steps ++ more ∷ []) (ps ++ p ∷ [])
 all-more begin [] [] more p all at = (at, tt)
 all-more begin [] (q ∷ qs) more p all at = absurd all
 all-more begin (xs ∷ xss) [] more p all at = absurd all
 all-more begin (xs ∷ xss) (q ∷ qs) more p all at = (all.0, all-more begin xss qs more p all.1 at)
 
-pub save_follows : (begin : Session) (xs : List Step) (old new : RunnerKept) (saved : PlayerKept) → Follows begin xs old → ((s : Session) → IsAt s old.player → IsAt s saved)
+pub save_follows : (begin : Session) (xs : List Step) (old new : RunnerValue) (saved : PlayerValue) → Follows begin xs old → ((s : Session) → IsAt s old.player → IsAt s saved)
     → new.player ≡ old.player → new.saves ≡ old.saves ++ saved ∷ [] → new.answers ≡ old.answers → Follows begin (xs ++ Save ∷ []) (with_answer new answers.Done)
 unfolding count_step
 save_follows begin xs old new saved follows same player saves kept =
@@ -120,19 +120,19 @@ save_follows begin xs old new saved follows same player saves kept =
 
 -- a way back
 
-pub get-some : (ps : List PlayerKept) (n : ℕ) (p : PlayerKept) → n < length ps → ((d : PlayerKept) → p ≡ slice_index_or ps n d) → slice_get ps n ≡ Some p
+pub get-some : (ps : List PlayerValue) (n : ℕ) (p : PlayerValue) → n < length ps → ((d : PlayerValue) → p ≡ slice_index_or ps n d) → slice_get ps n ≡ Some p
 get-some [] n p less is = absurd (omega (arith, less))
 get-some (q ∷ qs) zero p less is = ap (λ x. Some x) (sym (is p))
 get-some (q ∷ qs) (suc n) p less is = get-some qs n p (omega (arith, less)) is
 
-pub get-none : (ps : List PlayerKept) (n : ℕ) → length ps ≤ n → slice_get ps n ≡ None
+pub get-none : (ps : List PlayerValue) (n : ℕ) → length ps ≤ n → slice_get ps n ≡ None
 get-none [] zero past = refl
 get-none [] (suc n) past = refl
 get-none (q ∷ qs) zero past = absurd (omega (arith, past))
 get-none (q ∷ qs) (suc n) past = get-none qs n (omega (arith, past))
 
 -- the save of a number has come to where the steps of that number lead
-all-get : (begin : Session) (steps : List (List Step)) (ps : List PlayerKept) (n : ℕ) (p : PlayerKept) → AllAt begin steps ps → slice_get ps n ≡ Some p
+all-get : (begin : Session) (steps : List (List Step)) (ps : List PlayerValue) (n : ℕ) (p : PlayerValue) → AllAt begin steps ps → slice_get ps n ≡ Some p
     → (xs : List Step) × (slice_get steps n ≡ Some xs) × IsAt (act_all begin xs) p
 all-get begin [] [] n p all e = cc
 all-get begin [] (q ∷ qs) n p all e = absurd all
@@ -140,7 +140,7 @@ all-get begin (xs ∷ xss) [] n p all e = absurd all
 all-get begin (xs ∷ xss) (q ∷ qs) zero p all e = let same : q ≡ p = cc in (xs, refl, subst (IsAt (act_all begin xs)) same all.0)
 all-get begin (xs ∷ xss) (q ∷ qs) (suc n) p all e = all-get begin xss qs n p all.1 e
 
-all-none : (begin : Session) (steps : List (List Step)) (ps : List PlayerKept) (n : ℕ) → AllAt begin steps ps → slice_get ps n ≡ None → slice_get steps n ≡ None
+all-none : (begin : Session) (steps : List (List Step)) (ps : List PlayerValue) (n : ℕ) → AllAt begin steps ps → slice_get ps n ≡ None → slice_get steps n ≡ None
 all-none begin [] [] zero all e = refl
 all-none begin [] [] (suc n) all e = refl
 all-none begin [] (q ∷ qs) n all e = absurd all
@@ -148,7 +148,7 @@ all-none begin (xs ∷ xss) [] n all e = absurd all
 all-none begin (xs ∷ xss) (q ∷ qs) zero all e = cc
 all-none begin (xs ∷ xss) (q ∷ qs) (suc n) all e = all-none begin xss qs n all.1 e
 
-pub back_follows : (begin : Session) (xs : List Step) (n : ℕ) (old new : RunnerKept) (saved : PlayerKept) → Follows begin xs old → slice_get old.saves n ≡ Some saved
+pub back_follows : (begin : Session) (xs : List Step) (n : ℕ) (old new : RunnerValue) (saved : PlayerValue) → Follows begin xs old → slice_get old.saves n ≡ Some saved
     → ((s : Session) → IsAt s saved → IsAt s new.player) → new.saves ≡ old.saves → new.answers ≡ old.answers → Follows begin (xs ++ Back n ∷ []) (with_answer new answers.Done)
 unfolding count_step
 back_follows begin xs n old new saved follows found same saves kept =
@@ -157,7 +157,7 @@ back_follows begin xs n old new saved follows found same saves kept =
     more begin xs (Back n) old new answers.Done follows (record c { steps = there.0 }) (ap (gone_back c) there.1) (same (act_all begin there.0) there.2)
     (subst (AllAt begin c.saves) (sym saves) follows.saves) kept (sym (ap back_answer there.1))
 
-pub no_save_follows : (begin : Session) (xs : List Step) (n : ℕ) (old new : RunnerKept) → Follows begin xs old → slice_get old.saves n ≡ None
+pub no_save_follows : (begin : Session) (xs : List Step) (n : ℕ) (old new : RunnerValue) → Follows begin xs old → slice_get old.saves n ≡ None
     → new ≡ old → Follows begin (xs ++ Back n ∷ []) (with_answer new answers.NoSave)
 unfolding count_step
 no_save_follows begin xs n old new follows none same =
@@ -167,6 +167,6 @@ no_save_follows begin xs n old new follows none same =
     (subst (λ r. AllAt begin c.saves r.saves) (sym same) follows.saves) (ap (λ r. r.answers) same) (sym (ap back_answer no_steps))
 
 -- before any step
-pub start_follows : (begin : Session) (r : RunnerKept) → IsAt begin r.player → r.saves ≡ [] → r.answers ≡ [] → Follows begin [] r
+pub start_follows : (begin : Session) (r : RunnerValue) → IsAt begin r.player → r.saves ≡ [] → r.answers ≡ [] → Follows begin [] r
 start_follows begin r player saves none =
     record { player = player; saves = subst (AllAt begin []) (sym saves) tt; answers = ap (map answer_view) none }

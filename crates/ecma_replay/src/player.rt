@@ -79,9 +79,9 @@ impl<'a> Model for Player<'a> {
     ghost use Rattle.std.specs.Coded.{codes};
     ghost use denote.Signature.{static_lft};
     ghost use Rattle.ecma_token.specs.contracts.error.Error as e;
-    ghost use Rattle.ecma_replay.specs.Replay.{PlayerKept};
+    ghost use Rattle.ecma_replay.specs.Replay.{PlayerValue};
 
-    ghost Value = { PlayerKept };
+    ghost Value = { PlayerValue };
 
     ghost coded = { Prim.hlevel (codes, (e.the_row static_lft).coded) };
 

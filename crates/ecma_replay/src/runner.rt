@@ -29,9 +29,9 @@ impl<'a> Model for Runner<'a> {
     ghost use denote.Signature.{static_lft};
     ghost use Rattle.ecma_token.specs.contracts.error.Error as e;
     ghost use Rattle.ecma_token.specs.contracts.token.Token as t;
-    ghost use Rattle.ecma_replay.specs.Replay.{RunnerKept};
+    ghost use Rattle.ecma_replay.specs.Replay.{RunnerValue};
 
-    ghost Value = { RunnerKept };
+    ghost Value = { RunnerValue };
 
     ghost coded = { Prim.hlevel (codes, (e.the_row static_lft).coded, (t.the_row static_lft).coded) };
 

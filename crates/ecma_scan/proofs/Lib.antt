@@ -15,7 +15,7 @@ mod StringRows
 mod TemplateRows
 mod WordRows
 pub use Rattle.ecma_grammar.proofs.Agreement
-pub use Rattle.ecma_grammar.proofs.AttachmentLemmas
+pub use Rattle.ecma_grammar.proofs.ForNextLemmas
 pub use Rattle.ecma_gap.proofs.BarsLaws
 pub use Rattle.ecma_gap.proofs.BarsLemmas
 pub use Rattle.ecma_gap.proofs.BlankGapLemmas
@@ -55,7 +55,7 @@ pub use Rattle.ecma_grammar.proofs.PieceLemmas
 pub use Rattle.ecma_escape.proofs.PieceReading
 pub use Rattle.ecma_literal.proofs.PlainRuns
 pub use Rattle.ecma_grammar.proofs.PunctuatorLemmas
-pub use Rattle.ecma_gap.proofs.ReadingLemmas
+pub use Rattle.ecma_gap.proofs.GapSoFarLemmas
 pub use Rattle.ecma_number.proofs.RunFaults
 pub use Rattle.ecma_grammar.proofs.RunReading
 pub use Rattle.ecma_grammar.proofs.SignLemmas

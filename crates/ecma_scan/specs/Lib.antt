@@ -18,8 +18,8 @@ pub use Rattle.ecma_grammar.specs.Telling
 pub use Rattle.ecma_grammar.specs.Templates
 pub use Rattle.ecma_grammar.specs.Words
 pub use Rattle.ecma_gap.specs.BlankGaps
-pub use Rattle.ecma_gap.specs.Readings
-pub use Rattle.ecma_escape.specs.EscapeAnswers
+pub use Rattle.ecma_gap.specs.GapRecords
+pub use Rattle.ecma_escape.specs.EscapeMeanings
 pub use Rattle.ecma_escape.specs.EscapeParts
 pub use Rattle.ecma_escape.specs.NameParts
 pub use Rattle.ecma_escape.specs.PieceParts

@@ -2,7 +2,7 @@
 ghost use Rattle.std.specs.Prelude.{◌≡◌, ◌∷◌, ◌<◌, [], Bool, true, false, Some, length, option_map, slice_get, IfSome, IfNone, if◌then◌else◌, IfOk, IsOk, OnOk};
 ghost use Rattle.ecma_place.specs.Cursor.{rest, place, passed};
 ghost use Rattle.ecma_grammar.specs.Found.{found_view, found_at, token_behind};
-ghost use Rattle.ecma_grammar.specs.Punctuators as grammar;
+ghost use Rattle.ecma_grammar.specs.Punctuators as table;
 ghost use Rattle.ecma_grammar.specs.Numbers.{opens_fraction};
 ghost use Rattle.ecma_scan.specs.PunctuatorKinds.{kind_token};
 ghost use Rattle.ecma_grammar.specs.Fronts.{begins_with};
@@ -455,9 +455,9 @@ pub fn scan_punct<'a>(
     type_mode: bool,
 ) -> Result<Found<'a, Option<Token<'a>>>, AllocError>
     ensures found { IfOk result (λ f. found_view (option_map token_view) f ≡
-        found_at (λ n. option_map (token_behind n)) (place input.old) (grammar.punctuator type_mode (rest input.old))) }
+        found_at (λ n. option_map (token_behind n)) (place input.old) (table.punctuator type_mode (rest input.old))) }
     ensures moved { OnOk result
-        (input.new ≡ passed (length (grammar.punctuator type_mode (rest input.old)).spelling) input.old) }
+        (input.new ≡ passed (length (table.punctuator type_mode (rest input.old)).spelling) input.old) }
     ensures free { IsOk result }
 {
     let start = input.cur_pos();

@@ -5,7 +5,7 @@ ghost use Rattle.ecma_place.specs.Cursor.{rest, place, passed};
 ghost use Rattle.ecma_token.specs.View.{token_view};
 ghost use Rattle.ecma_grammar.specs.Found.{found_view, found_at, token_behind};
 ghost use Rattle.ecma_grammar.specs.Fronts.{line};
-ghost use Rattle.ecma_grammar.specs.Shebangs as grammar;
+ghost use Rattle.ecma_grammar.specs.Shebangs as shebangs;
 
 use crate::punctuator::eat_two;
 use ecma_grammar::found::Found;
@@ -16,9 +16,9 @@ use std::alloc::{AllocError, Global};
 
 /// Moves behind the shebang at the cursor, if there is one.
 fn shebang<'a>(input: &mut StringInput<'a>) -> Option<Token<'a>>
-    ensures token { result ≡ (if grammar.opens_shebang (rest input.old)
+    ensures token { result ≡ (if shebangs.opens_shebang (rest input.old)
         then Some (Token.Shebang (borrowed_atom (encode_utf8_all (line (drop 2 (rest input.old)))))) else None) }
-    ensures moved { input.new ≡ passed (length (grammar.shebang (rest input.old)).spelling) input.old }
+    ensures moved { input.new ≡ passed (length (shebangs.shebang (rest input.old)).spelling) input.old }
 {
     if eat_two(input, b'#', b'!') {
         Some(Token::Shebang(Atom::from(read_line(input))))
@@ -36,9 +36,9 @@ pub fn scan_shebang<'a>(
     input: &mut StringInput<'a>,
 ) -> Result<Found<'a, Option<Token<'a>>>, AllocError>
     ensures found { IfOk result (λ f. found_view (option_map token_view) f ≡
-        found_at (λ n. option_map (token_behind n)) (place input.old) (grammar.shebang (rest input.old))) }
+        found_at (λ n. option_map (token_behind n)) (place input.old) (shebangs.shebang (rest input.old))) }
     ensures moved { OnOk result
-        (input.new ≡ passed (length (grammar.shebang (rest input.old)).spelling) input.old) }
+        (input.new ≡ passed (length (shebangs.shebang (rest input.old)).spelling) input.old) }
     ensures free { IsOk result }
 {
     let start = input.cur_pos();

@@ -10,7 +10,7 @@ use Rattle.ecma_grammar.specs.declared.found.Blame.{Blame}
 use Rattle.ecma_grammar.specs.Found.{fault_view}
 use Rattle.ecma_grammar.proofs.EmptyLists.{append-none, map-none}
 use Rattle.ecma_state.specs.Disposition.{disposed, disposition, with_faults}
-use Rattle.ecma_state.specs.Errors.{Begins, ErrorsKept, errors_view}
+use Rattle.ecma_state.specs.Errors.{Begins, ErrorsValue, errors_view}
 
 -- an error at the end of a list is seen at its end
 pub view-push : (errors : List Error) (e : Error) → map error_view (errors ++ e ∷ []) ≡ map error_view errors ++ error_view e ∷ []
@@ -32,26 +32,26 @@ pub ruleset views = (view-push, view-append, view-none, faults-none)
 
 -- More errors behind those that stand
 
-pub begins-same : (first : ErrorsKept) → Begins first first
+pub begins-same : (first : ErrorsValue) → Begins first first
 begins-same first =
     record { more_recorded = []; more_waiting = []; recorded = sym (append-nil first.recorded); waiting = sym (append-nil first.waiting) }
 
 -- behind a push, which may have been refused
-pub begins-recorded : {A B : Type 0} → (first : ErrorsKept) (recorded : List Error) (e : Error) (pushed : Result A B)
+pub begins-recorded : {A B : Type 0} → (first : ErrorsValue) (recorded : List Error) (e : Error) (pushed : Result A B)
     → OnOk pushed (recorded ≡ first.recorded ++ e ∷ []) → OnErr pushed (recorded ≡ first.recorded) → Begins first record { recorded = recorded; waiting = first.waiting }
 begins-recorded first recorded e (Ok done) ok err =
     record { more_recorded = e ∷ []; more_waiting = []; recorded = ok; waiting = sym (append-nil first.waiting) }
 begins-recorded first recorded e (Err back) ok err =
     record { more_recorded = []; more_waiting = []; recorded = err ∙ sym (append-nil first.recorded); waiting = sym (append-nil first.waiting) }
 
-pub begins-waiting : {A B : Type 0} → (first : ErrorsKept) (waiting : List Error) (e : Error) (pushed : Result A B)
+pub begins-waiting : {A B : Type 0} → (first : ErrorsValue) (waiting : List Error) (e : Error) (pushed : Result A B)
     → OnOk pushed (waiting ≡ first.waiting ++ e ∷ []) → OnErr pushed (waiting ≡ first.waiting) → Begins first record { recorded = first.recorded; waiting = waiting }
 begins-waiting first waiting e (Ok done) ok err =
     record { more_recorded = []; more_waiting = e ∷ []; recorded = sym (append-nil first.recorded); waiting = ok }
 begins-waiting first waiting e (Err back) ok err =
     record { more_recorded = []; more_waiting = []; recorded = sym (append-nil first.recorded); waiting = err ∙ sym (append-nil first.waiting) }
 
-pub begins-further : (first second third : ErrorsKept) → Begins first second → Begins second third → Begins first third
+pub begins-further : (first second third : ErrorsValue) → Begins first second → Begins second third → Begins first third
 begins-further first second third one two =
     record {
       more_recorded = one.more_recorded ++ two.more_recorded;
@@ -61,10 +61,10 @@ begins-further first second third one two =
     }
 
 -- the errors that stood are left where those behind them are cut off
-pub cut-recorded : (first second : ErrorsKept) → Begins first second → take (length first.recorded) second.recorded ≡ first.recorded
+pub cut-recorded : (first second : ErrorsValue) → Begins first second → take (length first.recorded) second.recorded ≡ first.recorded
 cut-recorded first second b = ap (take (length first.recorded)) b.recorded ∙ take-append_seam first.recorded b.more_recorded
 
-pub cut-waiting : (first second : ErrorsKept) → Begins first second → take (length first.waiting) second.waiting ≡ first.waiting
+pub cut-waiting : (first second : ErrorsValue) → Begins first second → take (length first.waiting) second.waiting ≡ first.waiting
 cut-waiting first second b = ap (take (length first.waiting)) b.waiting ∙ take-append_seam first.waiting b.more_waiting
 
 -- what holds where a call succeeded, where it did
@@ -75,16 +75,16 @@ on-ok (Err error) is_refused is ok holds = cc
 -- Taking in faults one after another
 
 -- what was taken in so far, with what is left, is what is to be taken in
-pub record IsTaking (context : Context) (old now : ErrorsKept) (all left : List (Blame × Error)) : Type 0 where
+pub record IsTaking (context : Context) (old now : ErrorsValue) (all left : List (Blame × Error)) : Type 0 where
   pub errors : with_faults context (errors_view now) (map fault_view left) ≡ with_faults context (errors_view old) (map fault_view all)
   pub begins : Begins old now
   pub none : all ≡ [] → left ≡ []
 
-pub taking-start : (context : Context) (old : ErrorsKept) (all left : List (Blame × Error)) → left ≡ all → IsTaking context old old all left
+pub taking-start : (context : Context) (old : ErrorsValue) (all left : List (Blame × Error)) → left ≡ all → IsTaking context old old all left
 taking-start context old all left same =
     record { errors = ap (λ l. with_faults context (errors_view old) (map fault_view l)) same; begins = begins-same old; none = λ h. same ∙ h }
 
-pub taking-next : (context : Context) (old now next : ErrorsKept) (all left more : List (Blame × Error)) (blame : Blame) (error : Error)
+pub taking-next : (context : Context) (old now next : ErrorsValue) (all left more : List (Blame × Error)) (blame : Blame) (error : Error)
     → IsTaking context old now all left → left ≡ (blame, error) ∷ more
     → errors_view next ≡ disposed (errors_view now) (error_view error) (disposition context blame) → Begins now next → IsTaking context old next all more
 taking-next context old now next all left more blame error taking one view begins =
@@ -97,7 +97,7 @@ taking-next context old now next all left more blame error taking one view begin
       none = λ h. let some : (blame, error) ∷ more ≡ [] = sym one ∙ taking.none h in cc;
     }
 
-pub taking-end : (context : Context) (old now : ErrorsKept) (all left : List (Blame × Error)) → IsTaking context old now all left → left ≡ []
+pub taking-end : (context : Context) (old now : ErrorsValue) (all left : List (Blame × Error)) → IsTaking context old now all left → left ≡ []
     → errors_view now ≡ with_faults context (errors_view old) (map fault_view all)
 taking-end context old now all left taking none =
     ap (λ l. with_faults context (errors_view now) (map fault_view l)) (sym none) ∙ taking.errors

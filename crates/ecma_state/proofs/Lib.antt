@@ -1,4 +1,4 @@
 pub mod AttachmentRows
 pub mod ErrorLemmas
-pub mod OpeningLemmas
+pub mod LookaheadLemmas
 pub mod TransitionRows

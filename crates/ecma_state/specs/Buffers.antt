@@ -2,7 +2,7 @@
 use Rattle.std.specs.Prelude.{List}
 use Rattle.ecma_state.specs.declared.comments_buffer.BufferedComment.{BufferedComment}
 
-pub record CommentsKept : Type 0 where
+pub record CommentsValue : Type 0 where
   -- those that have their token, in order
   pub comments : List BufferedComment
   -- those that wait for the next token, in order

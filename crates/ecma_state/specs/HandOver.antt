@@ -2,7 +2,7 @@
 use Rattle.std.specs.Prelude.{◌≡◌, ◌<◌, Bool, not, ◌&&◌, List, [], ◌++◌, map, length}
 use Rattle.ecma_place.specs.Comment.{Added, Side}
 use Rattle.ecma_place.specs.Comment as place
-use Rattle.ecma_state.specs.Buffers.{CommentsKept}
+use Rattle.ecma_state.specs.Buffers.{CommentsValue}
 use Rattle.ecma_state.specs.Run.{state_with_comments}
 use Rattle.ecma_state.specs.Session.{LexerState}
 use Rattle.ecma_state.specs.declared.comments_buffer.BufferedComment.{BufferedComment}
@@ -24,7 +24,7 @@ pub record HandsFirst (given_old given_new : List Added) (comments kept : List B
   pub given : given_new ≡ given_old ++ map added_of handed
 
 -- a store refused a comment: those before it were handed over, and it and those behind it are kept
-pub record StopsEarly (given_old given_new : List Added) (old new : CommentsKept) : Type 0 where
+pub record StopsEarly (given_old given_new : List Added) (old new : CommentsValue) : Type 0 where
   pub first : HandsFirst given_old given_new old.comments new.comments
   pub refused : 0 < length new.comments
   pub waiting : new.pending_leading ≡ old.pending_leading

@@ -72,7 +72,7 @@ abbrev pub no_gap : GapView
 no_gap = record { line_break = false; faults = []; comments = [] }
 
 abbrev pub stands_shebang : Mode → Text → Bool
-stands_shebang mode text = mode.none_given && opens_shebang text
+stands_shebang mode text = mode.shebang_allowed && opens_shebang text
 
 abbrev pub shebang_token : Text → Scanned TokenView
 shebang_token text =

@@ -17,8 +17,8 @@ use Rattle.ecma_state.specs.declared.step.Step.{Step}
 use Rattle.ecma_state.specs.declared.step.Step.TheVariants.{Read, SetCtx, SetExprAllowed, SetContexts, PopContext, Reread, Withdraw, Save, Back, TakeErrors}
 use Rattle.ecma_state.specs.declared.token_context.TokenContext.TheVariants.{BraceStmt}
 use Rattle.ecma_state.specs.Reading.{Reading, is_free, is_free_again, reading, reading_again}
-use Rattle.ecma_state.specs.Session.{Given, Plain, Again, AtEnd, LexerState, Session, kept_in, kept_state, seen_of, state_of}
-use Rattle.ecma_state.specs.State.{StateKept, around_of, behind_answer, last_slash, opened_by, previous, turned_by}
+use Rattle.ecma_state.specs.Session.{Given, Next, Again, AtEnd, LexerState, Session, kept_in, state_value, seen_of, state_of}
+use Rattle.ecma_state.specs.State.{StateValue, around_of, behind_answer, last_slash, opened_by, previous, turned_by}
 
 -- what the next read goes by besides the text
 abbrev pub mode_of : LexerState → Mode
@@ -28,7 +28,7 @@ mode_of l =
       context = l.context;
       top = innermost l.state.contexts;
       first = l.state.seen.first;
-      none_given = is_none l.state.seen.last;
+      shebang_allowed = is_none l.state.seen.last;
       previous = previous l.state.seen;
       opened = l.state.opened;
     }
@@ -55,7 +55,7 @@ is_free_read l = is_free_from l.reread l
 
 abbrev token_given : Bool → SpannedView → Given
 token_given true t = Again t
-token_given false t = Plain t
+token_given false t = Next t
 
 -- an answer of a read, by whether it read again
 abbrev pub given_in : Bool → Bool → Option SpannedView → Given
@@ -66,7 +66,7 @@ abbrev pub given_of : Bool → Reading → Given
 given_of again r = given_in again r.end_flag r.found
 
 -- the comments behind a read that answers this: those that it found are attached
-abbrev pub comments_behind : List BufferedComment → StateKept → Option Kept → List (Comment × Bool) → List BufferedComment
+abbrev pub comments_behind : List BufferedComment → StateValue → Option Kept → List (Comment × Bool) → List BufferedComment
 comments_behind comments state answer found = comments ++ attachment (around_of state answer) found
 
 -- the lexer behind a read
@@ -137,11 +137,11 @@ acted_on s r =
       after =
           record s {
             input = r.input;
-            contexts = (turned_by (kept_state s) (kept_in r.found)).contexts;
-            expr_allowed = (turned_by (kept_state s) (kept_in r.found)).expr_allowed;
-            opened = opened_by (kept_state s) (kept_in r.found);
+            contexts = (turned_by (state_value s) (kept_in r.found)).contexts;
+            expr_allowed = (turned_by (state_value s) (kept_in r.found)).expr_allowed;
+            opened = opened_by (state_value s) (kept_in r.found);
             errors = with_faults s.context s.errors r.faults;
-            comments = comments_behind s.comments (kept_state s) (kept_in r.found) r.comments;
+            comments = comments_behind s.comments (state_value s) (kept_in r.found) r.comments;
             past = given_of (is_some s.reread) r ∷ s.past;
           };
       answer = answer_in r.found;

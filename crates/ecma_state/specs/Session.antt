@@ -7,8 +7,8 @@ use Rattle.ecma_place.specs.declared.place.BytePos.{BytePos}
 use Rattle.ecma_syntax.specs.declared.context.Context.{Context}
 use Rattle.ecma_state.specs.Disposition.{Errors}
 use Rattle.ecma_state.specs.Contexts.{Contexts}
-use Rattle.ecma_state.specs.Errors.{ErrorsKept, errors_view}
-use Rattle.ecma_state.specs.State.{StateKept, is_shebang}
+use Rattle.ecma_state.specs.Errors.{ErrorsValue, errors_view}
+use Rattle.ecma_state.specs.State.{StateValue, is_shebang}
 use Rattle.ecma_state.specs.declared.comments_buffer.BufferedComment.{BufferedComment}
 use Rattle.ecma_state.specs.declared.kept.Kept.{Kept}
 use Rattle.ecma_state.specs.declared.kept.Seen.{Seen}
@@ -16,7 +16,7 @@ use Rattle.ecma_state.specs.declared.settings.Settings.{Settings}
 
 -- what a read answered: a token, a token that was read again from a slash, or the end with the flag before it
 pub data Given : Type 0 where
-  Plain : SpannedView → Given
+  Next : SpannedView → Given
   Again : SpannedView → Given
   AtEnd : Bool → Given
 
@@ -35,21 +35,21 @@ kept_in found = option_map kept_of found
 -- no token but a shebang was given
 abbrev pub is_first : Past → Bool
 is_first [] = true
-is_first (Plain t ∷ past) = is_shebang (kind_of t.token) && is_first past
+is_first (Next t ∷ past) = is_shebang (kind_of t.token) && is_first past
 is_first (Again t ∷ past) = is_shebang (kind_of t.token) && is_first past
 is_first (AtEnd flag ∷ past) = is_first past
 
 -- the token that was given last
 abbrev pub last_kept : Past → Option Kept
 last_kept [] = None
-last_kept (Plain t ∷ past) = Some (kept_of t)
+last_kept (Next t ∷ past) = Some (kept_of t)
 last_kept (Again t ∷ past) = Some (kept_of t)
 last_kept (AtEnd flag ∷ past) = last_kept past
 
 -- the flag of the last answer
 abbrev pub last_flag : Past → Bool
 last_flag [] = false
-last_flag (Plain t ∷ past) = t.had_line_break
+last_flag (Next t ∷ past) = t.had_line_break
 last_flag (Again t ∷ past) = t.had_line_break
 last_flag (AtEnd flag ∷ past) = flag
 
@@ -60,7 +60,7 @@ has_ended _ = false
 -- the tokens that are kept, the newest first: one that was read again stands in the place of the last
 abbrev pub kept_back : Past → List SpannedView
 kept_back [] = []
-kept_back (Plain t ∷ past) = t ∷ kept_back past
+kept_back (Next t ∷ past) = t ∷ kept_back past
 kept_back (Again t ∷ past) = t ∷ drop 1 (kept_back past)
 kept_back (AtEnd flag ∷ past) = kept_back past
 
@@ -98,7 +98,7 @@ pub record LexerState : Type 0 where
   pub settings : Settings
   pub input : Cursor
   pub context : Context
-  pub state : StateKept
+  pub state : StateValue
   -- the slash that the next read begins at, where it reads again
   pub reread : Option BytePos
   pub errors : Errors
@@ -107,8 +107,8 @@ pub record LexerState : Type 0 where
   pub refused : Bool
 
 -- what the next read of a session goes by
-abbrev pub kept_state : Session → StateKept
-kept_state s =
+abbrev pub state_value : Session → StateValue
+state_value s =
     record { contexts = s.contexts; expr_allowed = s.expr_allowed; start = s.start; opened = s.opened; seen = seen_of s.past }
 
 -- a lexer that has come to a session
@@ -118,7 +118,7 @@ state_of s =
       settings = s.settings;
       input = s.input;
       context = s.context;
-      state = kept_state s;
+      state = state_value s;
       reread = s.reread;
       errors = s.errors;
       comments = s.comments;
@@ -126,18 +126,18 @@ state_of s =
     }
 
 -- the same with the errors as they are kept
-pub record LexerKept : Type 0 where
+pub record LexerValue : Type 0 where
   pub settings : Settings
   pub input : Cursor
   pub context : Context
-  pub state : StateKept
+  pub state : StateValue
   pub reread : Option BytePos
-  pub errors : ErrorsKept
+  pub errors : ErrorsValue
   pub comments : List BufferedComment
   pub refused : Bool
 
 -- how a lexer is seen
-abbrev pub lexer_state : LexerKept → LexerState
+abbrev pub lexer_state : LexerValue → LexerState
 lexer_state l =
     record {
       settings = l.settings;
@@ -151,5 +151,5 @@ lexer_state l =
     }
 
 -- the same with other contexts
-abbrev pub kept_with_contexts : LexerKept → Contexts → LexerKept
-kept_with_contexts l contexts = record l { state = record l.state { contexts = contexts } }
+abbrev pub value_with_contexts : LexerValue → Contexts → LexerValue
+value_with_contexts l contexts = record l { state = record l.state { contexts = contexts } }

@@ -56,7 +56,7 @@ flag_of (Some t) = t.flag
 
 -- What the next read goes by
 
-pub record StateKept : Type 0 where
+pub record StateValue : Type 0 where
   -- the innermost first
   pub contexts : Contexts
   -- whether an expression may begin
@@ -68,12 +68,12 @@ pub record StateKept : Type 0 where
   pub seen : Seen
 
 -- the state before the first read of a text that starts at a place
-abbrev pub started : BytePos → StateKept
+abbrev pub started : BytePos → StateValue
 started start =
     record { contexts = BraceStmt ∷ []; expr_allowed = true; start = start; opened = start; seen = none_seen }
 
 -- what the next token changes the contexts by
-abbrev pub before_of : StateKept → Before
+abbrev pub before_of : StateValue → Before
 before_of s =
     record { expr_allowed = s.expr_allowed; previous = previous s.seen; previous_flag = flag_of s.seen.last }
 
@@ -82,15 +82,15 @@ end_in start None = start
 end_in start (Some t) = t.span.hi
 
 -- where the token before ends; the start place where there is none
-abbrev pub end_of : StateKept → BytePos
+abbrev pub end_of : StateValue → BytePos
 end_of s = end_in s.start s.seen.last
 
 -- the places that the comments of a read go by, which answers a token or the end
-abbrev pub around_of : StateKept → Option Kept → Around
+abbrev pub around_of : StateValue → Option Kept → Around
 around_of s answer = record { start = s.start; end = end_of s; next = option_map (λ t. t.span.lo) answer }
 
 -- the contexts behind an answer, and whether an expression may begin there: the end changes neither
-abbrev pub turned_by : StateKept → Option Kept → Turned
+abbrev pub turned_by : StateValue → Option Kept → Turned
 turned_by s None = turned s.contexts s.expr_allowed
 turned_by s (Some t) = transition (before_of s) s.contexts t.kind t.flag
 
@@ -98,12 +98,12 @@ abbrev pub opens_template : Contexts → TokenKind → Bool
 opens_template contexts BackQuote = not (tpl_on_top contexts)
 opens_template contexts _ = false
 
-abbrev pub opened_by : StateKept → Option Kept → BytePos
+abbrev pub opened_by : StateValue → Option Kept → BytePos
 opened_by s None = s.opened
 opened_by s (Some t) = if opens_template s.contexts t.kind then t.span.lo else s.opened
 
 -- the state behind an answer: a token, or the end with the flag before it
-abbrev pub behind_answer : StateKept → Bool → Option Kept → StateKept
+abbrev pub behind_answer : StateValue → Bool → Option Kept → StateValue
 behind_answer s end_flag answer =
     record {
       contexts = (turned_by s answer).contexts;

@@ -18,8 +18,8 @@ use Rattle.ecma_grammar.specs.Strings as strings
 use Rattle.ecma_grammar.specs.Templates as templates
 use Rattle.ecma_state.specs.Mode.{gap_mode, type_mode, is_since_es5, is_template, is_tpl_element, is_typescript}
 use Rattle.ecma_state.specs.declared.mode.Mode.{Mode}
-use Rattle.ecma_state.specs.declared.opening.Opening.{Opening}
-use Rattle.ecma_state.specs.declared.opening.Opening.TheVariants as opens
+use Rattle.ecma_state.specs.declared.lookahead.Lookahead.{Lookahead}
+use Rattle.ecma_state.specs.declared.lookahead.Lookahead.TheVariants as opens
 
 abbrev pub word_value : Result Word ErrorView → Result TokenView ErrorView
 word_value (Ok word) = Ok (plain_token (token.Word word))
@@ -44,18 +44,18 @@ abbrev pub other_token : Mode → Text → Scanned TokenView
 other_token mode text = punctuator_or_stray (punctuators.punctuator_in (type_mode mode) text) text
 
 -- what the first characters of a text open, by the first question that is answered so
-abbrev pub opening_from : Bool → Bool → Bool → Bool → Bool → Opening
-opening_from true number string word bars = opens.Template
-opening_from false true string word bars = opens.Number
-opening_from false false true word bars = opens.String
-opening_from false false false true bars = opens.Word
-opening_from false false false false true = opens.Bars
-opening_from false false false false false = opens.Other
+abbrev pub lookahead_from : Bool → Bool → Bool → Bool → Bool → Lookahead
+lookahead_from true number string word bars = opens.Template
+lookahead_from false true string word bars = opens.Number
+lookahead_from false false true word bars = opens.String
+lookahead_from false false false true bars = opens.Word
+lookahead_from false false false false true = opens.Bars
+lookahead_from false false false false false = opens.Other
 
 -- in a template whatever stands there is its text, and bars open a marker only where the flag stands
-abbrev pub opening : Mode → Bool → Text → Opening
-opening mode flag text =
-    opening_from
+abbrev pub lookahead : Mode → Bool → Text → Lookahead
+lookahead mode flag text =
+    lookahead_from
     (is_template mode.top)
     (numbers.opens_number text)
     (strings.opens_string text)
@@ -63,7 +63,7 @@ opening mode flag text =
     (flag && bars.opens_bars text)
 
 -- what each reader asks of the text: that it opens what is read, and the bars' reader is another's
-abbrev pub Opens : Opening → Text → Type 0
+abbrev pub Opens : Lookahead → Text → Type 0
 Opens opens.Template text = ⊤
 Opens opens.Number text = numbers.opens_number text ≡ true
 Opens opens.String text = strings.opens_string text ≡ true
@@ -75,7 +75,7 @@ Opens opens.Other text = ⊤
 abbrev pub ts1085 : Mode → Bool
 ts1085 mode = is_typescript mode.settings.syntax && is_since_es5 mode.settings.target
 
-abbrev pub read_opened : Opening → Mode → Text → Scanned TokenView
+abbrev pub read_opened : Lookahead → Mode → Text → Scanned TokenView
 read_opened opens.Template mode text = templates.template_text (is_tpl_element mode.previous) text
 read_opened opens.Number mode text = numbers.number (ts1085 mode) mode.settings.numbers text
 read_opened opens.String mode text = strings.string_literal text
@@ -85,11 +85,11 @@ read_opened opens.Other mode text = other_token mode text
 
 -- the token at a text that isn't empty, where the flag of the gap before stands or not
 abbrev pub token_at : Mode → Bool → Text → Scanned TokenView
-token_at mode flag text = read_opened (opening mode flag text) mode text
+token_at mode flag text = read_opened (lookahead mode flag text) mode text
 
 -- what is found where it is read at the place n: template text that meets the end is in error from where its template
 -- was opened
-abbrev pub placed : Opening → Mode → ℕ → Scanned TokenView → FoundView TokenView
+abbrev pub placed : Lookahead → Mode → ℕ → Scanned TokenView → FoundView TokenView
 placed opens.Template mode n s = templates.template_found mode.opened.0 n s
 placed opens.Number mode n s = found_at token_behind n s
 placed opens.String mode n s = found_at token_behind n s
@@ -99,15 +99,15 @@ placed opens.Other mode n s = found_at token_behind n s
 
 -- the token of a text that isn't empty and stands at the place n
 abbrev pub token_found : Mode → Bool → ℕ → Text → FoundView TokenView
-token_found mode flag n text = placed (opening mode flag text) mode n (token_at mode flag text)
+token_found mode flag n text = placed (lookahead mode flag text) mode n (token_at mode flag text)
 
 -- the comments of a token: a marker of bars holds some
-abbrev pub comments_in : Opening → Mode → ℕ → Text → List (Comment × Bool)
+abbrev pub comments_in : Lookahead → Mode → ℕ → Text → List (Comment × Bool)
 comments_in opens.Bars mode n text = bars.bars_comments_at n (gap_mode mode) text
 comments_in _ mode n text = []
 
 abbrev pub token_comments : Mode → Bool → ℕ → Text → List (Comment × Bool)
-token_comments mode flag n text = comments_in (opening mode flag text) mode n text
+token_comments mode flag n text = comments_in (lookahead mode flag text) mode n text
 
 -- all texts of the token are slices
 abbrev pub is_borrowed : Result TokenView ErrorView → Bool
@@ -120,7 +120,7 @@ is_borrowed_name (Err error) = false
 
 -- nothing in a token asks for memory: no escape or CR in a template's text, no separator in a number, no escape in a
 -- string or a word
-abbrev pub asks_for_none : Opening → Text → Scanned TokenView → Bool
+abbrev pub asks_for_none : Lookahead → Text → Scanned TokenView → Bool
 asks_for_none opens.Template text s = list_all templates.is_verbatim (pieces templates.template_cutter tt text)
 asks_for_none opens.Number text s = not (list_any numbers.is_separator s.spelling)
 asks_for_none opens.String text s = is_borrowed s.value
@@ -133,11 +133,11 @@ is_empty [] = true
 is_empty (item ∷ items) = false
 
 -- what is read takes no memory where nothing is wrong with it and it asks for none
-abbrev pub is_free_token : Opening → Text → Scanned TokenView → Bool
+abbrev pub is_free_token : Lookahead → Text → Scanned TokenView → Bool
 is_free_token opened text s = is_ok s.value && (is_empty s.faults && asks_for_none opened text s)
 
 abbrev pub is_free_at : Mode → Bool → Text → Bool
-is_free_at mode flag text = is_free_token (opening mode flag text) text (token_at mode flag text)
+is_free_at mode flag text = is_free_token (lookahead mode flag text) text (token_at mode flag text)
 
 -- a refused text is a token too
 abbrev pub token_of : Result TokenView ErrorView → TokenView

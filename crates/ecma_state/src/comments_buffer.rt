@@ -65,9 +65,9 @@ pub struct CommentsBuffer<'a> {
 }
 
 impl<'a> Model for CommentsBuffer<'a> {
-    ghost use Rattle.ecma_state.specs.Buffers.{CommentsKept};
+    ghost use Rattle.ecma_state.specs.Buffers.{CommentsValue};
 
-    ghost Value = { CommentsKept };
+    ghost Value = { CommentsValue };
 
     ghost view = { λ b. record { comments = b.comments.items; pending_leading = b.pending_leading.items } };
 }

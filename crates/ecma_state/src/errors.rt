@@ -24,9 +24,9 @@ impl<'a> Model for ErrorLists<'a> {
     ghost use Rattle.std.specs.Coded.{codes};
     ghost use denote.Signature.{static_lft};
     ghost use Rattle.ecma_token.specs.contracts.error.Error as e;
-    ghost use Rattle.ecma_state.specs.Errors.{ErrorsKept};
+    ghost use Rattle.ecma_state.specs.Errors.{ErrorsValue};
 
-    ghost Value = { ErrorsKept };
+    ghost Value = { ErrorsValue };
 
     ghost coded = { Prim.hlevel (codes, (e.the_row static_lft).coded) };
 

@@ -2,7 +2,7 @@
 ghost use Rattle.std.specs.Prelude.{◌≡◌, None, Some, option_map};
 ghost use Rattle.ecma_token.specs.View.{spanned_view};
 ghost use Rattle.ecma_state.specs.Session.{kept_of, kept_in};
-ghost use Rattle.ecma_state.specs.State as grammar;
+ghost use Rattle.ecma_state.specs.State as state;
 ghost use Rattle.ecma_state.specs.State.{none_seen, seen_behind, previous, flag_of, last_slash};
 
 use ecma_place::{BytePos, Span};
@@ -43,17 +43,6 @@ impl Kept {
     }
 }
 
-impl<'a> From<TokenAndSpan<'a>> for Kept {
-    ghost use Rattle.ecma_token.specs.View.{spanned_view};
-    ghost use Rattle.ecma_state.specs.Session.{kept_of};
-
-    ghost from_gives = { λ token kept. kept ≡ kept_of (spanned_view token) };
-
-    fn from(token: TokenAndSpan<'a>) -> Kept {
-        Kept::of(&token)
-    }
-}
-
 /// What a lexer keeps of its answers.
 #[derive(Debug, Clone, Copy, PartialEq, Eq)]
 pub struct Seen {
@@ -68,14 +57,14 @@ pub struct Seen {
 }
 
 fn is_shebang(kind: TokenKind) -> bool
-    ensures { result ≡ grammar.is_shebang kind }
+    ensures { result ≡ state.is_shebang kind }
 {
     matches!(kind, TokenKind::Shebang)
 }
 
 /// Whether the token is `/` or `/=`.
 fn is_slash(kind: TokenKind) -> bool
-    ensures { result ≡ grammar.is_slash kind }
+    ensures { result ≡ state.is_slash kind }
 {
     matches!(
         kind,

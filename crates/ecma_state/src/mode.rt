@@ -20,7 +20,7 @@ pub struct Mode {
     /// Whether no token but a shebang was given.
     pub first: bool,
     /// Whether no token at all was given, so that a shebang may stand.
-    pub none_given: bool,
+    pub shebang_allowed: bool,
     /// The kind of the token before.
     pub previous: Option<TokenKind>,
     /// Where the back quote stands that opened a template last; the start place where none did.

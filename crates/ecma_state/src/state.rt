@@ -3,7 +3,7 @@ ghost use Rattle.std.specs.Prelude.{◌≡◌, ◌<◌, ◌≤◌, ◌∷◌, tr
 ghost use Rattle.ecma_grammar.specs.Comments.{can_trail_line, can_trail_block};
 ghost use Rattle.ecma_state.specs.Contexts as contexts;
 ghost use Rattle.ecma_state.specs.Mode.{is_tpl_element};
-ghost use Rattle.ecma_state.specs.State as grammar;
+ghost use Rattle.ecma_state.specs.State as state;
 ghost use Rattle.ecma_state.specs.Transition.{brace_behind, keyword_behind, paren_behind};
 
 use crate::attachment::Around;
@@ -31,9 +31,9 @@ pub struct State {
 }
 
 impl Model for State {
-    ghost use Rattle.ecma_state.specs.State.{StateKept};
+    ghost use Rattle.ecma_state.specs.State.{StateValue};
 
-    ghost Value = { StateKept };
+    ghost Value = { StateValue };
 
     ghost view = { λ s. record { contexts = s.contexts; expr_allowed = s.expr_allowed; start = s.start; opened = s.opened; seen = s.seen } };
 }
@@ -43,7 +43,7 @@ impl State {
     ///
     /// It is the same whatever the syntax is, since JSX isn't read.
     pub fn new(alloc: Global, _syntax: Syntax, start: BytePos) -> State
-        ensures { result ≡ grammar.started start }
+        ensures { result ≡ state.started start }
     {
         let mut contexts = TokenContexts::new(alloc);
         // One context takes no memory, so this is never refused.
@@ -69,7 +69,7 @@ impl State {
 
     /// Whether a line comment may be the previous token's, also where there is none.
     pub fn can_have_trailing_line_comment(&self) -> bool
-        ensures { result ≡ can_trail_line (grammar.previous self.now.seen) }
+        ensures { result ≡ can_trail_line (state.previous self.now.seen) }
     {
         match self.seen.previous() {
             Some(kind) => kind.can_have_trailing_line_comment(),
@@ -79,7 +79,7 @@ impl State {
 
     /// Whether a block comment may be the previous token's; not where there is none.
     pub fn can_have_trailing_comment(&self) -> bool
-        ensures { result ≡ can_trail_block (grammar.previous self.now.seen) }
+        ensures { result ≡ can_trail_block (state.previous self.now.seen) }
     {
         match self.seen.previous() {
             Some(kind) => kind.can_have_trailing_comment(),
@@ -89,7 +89,7 @@ impl State {
 
     /// Whether the previous token is a template's text.
     pub fn last_was_tpl_element(&self) -> bool
-        ensures { result ≡ is_tpl_element (grammar.previous self.now.seen) }
+        ensures { result ≡ is_tpl_element (state.previous self.now.seen) }
     {
         matches!(self.seen.previous(), Some(TokenKind::Template))
     }
@@ -97,7 +97,7 @@ impl State {
     /// What the next token changes the contexts by.
     #[inline(always)]
     fn before(&self) -> Before
-        ensures { result ≡ grammar.before_of self.now }
+        ensures { result ≡ state.before_of self.now }
     {
         Before {
             expr_allowed: self.expr_allowed,
@@ -108,7 +108,7 @@ impl State {
 
     /// Where the token before ends; the start place where there is none.
     fn end(&self) -> BytePos
-        ensures { result ≡ grammar.end_of self.now }
+        ensures { result ≡ state.end_of self.now }
     {
         match self.seen.last {
             Some(token) => token.span.hi,
@@ -118,7 +118,7 @@ impl State {
 
     /// The places that the comments of a read go by, which answers a token or the end.
     pub fn around(&self, answer: Option<Kept>) -> Around
-        ensures { result ≡ grammar.around_of self.now answer }
+        ensures { result ≡ state.around_of self.now answer }
     {
         Around {
             start: self.start,
@@ -129,7 +129,7 @@ impl State {
 
     /// Whether a token of this kind opens a template.
     fn opens_template(&self, kind: TokenKind) -> bool
-        ensures { result ≡ grammar.opens_template self.now.contexts kind }
+        ensures { result ≡ state.opens_template self.now.contexts kind }
     {
         matches!(kind, TokenKind::BackQuote) && !self.contexts.is_in_template()
     }
@@ -137,9 +137,9 @@ impl State {
     /// Changes the contexts as a token of any kind does, and remembers where it opens a template.
     #[inline(never)]
     fn turn_any(&mut self, token: Kept) -> Result<(), AllocError>
-        ensures contexts { OnOk result (self.new.contexts ≡ (grammar.turned_by self.old (Some token)).contexts) }
-        ensures allowed { OnOk result (self.new.expr_allowed ≡ (grammar.turned_by self.old (Some token)).expr_allowed) }
-        ensures opened { OnOk result (self.new.opened ≡ grammar.opened_by self.old (Some token)) }
+        ensures contexts { OnOk result (self.new.contexts ≡ (state.turned_by self.old (Some token)).contexts) }
+        ensures allowed { OnOk result (self.new.expr_allowed ≡ (state.turned_by self.old (Some token)).expr_allowed) }
+        ensures opened { OnOk result (self.new.opened ≡ state.opened_by self.old (Some token)) }
         ensures same { (self.new.start ≡ self.old.start) × (self.new.seen ≡ self.old.seen) }
         ensures err { OnErr result (self.new ≡ self.old) }
         ensures free { length self.old.contexts < 128 → IsOk result }
@@ -157,7 +157,7 @@ impl State {
     /// Begins the context of `(`.
     #[inline(never)]
     fn open_paren(&mut self) -> Result<(), AllocError>
-        ensures ok { OnOk result (self.new ≡ record self.old { contexts = paren_behind (grammar.previous self.old.seen) ∷ self.old.contexts; expr_allowed = true }) }
+        ensures ok { OnOk result (self.new ≡ record self.old { contexts = paren_behind (state.previous self.old.seen) ∷ self.old.contexts; expr_allowed = true }) }
         ensures err { OnErr result (self.new ≡ self.old) }
         ensures free { length self.old.contexts < 128 → IsOk result }
     {
@@ -169,7 +169,7 @@ impl State {
     /// Begins the context of `{`, before which a line terminator stands or not.
     #[inline(never)]
     fn open_brace(&mut self, flag: bool) -> Result<(), AllocError>
-        ensures ok { OnOk result (self.new ≡ record self.old { contexts = brace_behind (grammar.before_of self.old) self.old.contexts flag ∷ self.old.contexts; expr_allowed = true }) }
+        ensures ok { OnOk result (self.new ≡ record self.old { contexts = brace_behind (state.before_of self.old) self.old.contexts flag ∷ self.old.contexts; expr_allowed = true }) }
         ensures err { OnErr result (self.new ≡ self.old) }
         ensures free { length self.old.contexts < 128 → IsOk result }
     {
@@ -182,8 +182,8 @@ impl State {
     /// Takes in `function` or `class`, which may begin a context, or any other keyword.
     #[inline(never)]
     fn turn_definition(&mut self, keyword: Keyword, flag: bool) -> Result<(), AllocError>
-        ensures contexts { OnOk result (self.new.contexts ≡ (keyword_behind (grammar.previous self.old.seen) keyword (grammar.before_of self.old) self.old.contexts flag).contexts) }
-        ensures allowed { OnOk result (self.new.expr_allowed ≡ (keyword_behind (grammar.previous self.old.seen) keyword (grammar.before_of self.old) self.old.contexts flag).expr_allowed) }
+        ensures contexts { OnOk result (self.new.contexts ≡ (keyword_behind (state.previous self.old.seen) keyword (state.before_of self.old) self.old.contexts flag).contexts) }
+        ensures allowed { OnOk result (self.new.expr_allowed ≡ (keyword_behind (state.previous self.old.seen) keyword (state.before_of self.old) self.old.contexts flag).expr_allowed) }
         ensures same { (self.new.start ≡ self.old.start) × (self.new.opened ≡ self.old.opened) × (self.new.seen ≡ self.old.seen) }
         ensures err { OnErr result (self.new ≡ self.old) }
         ensures free { length self.old.contexts < 128 → IsOk result }
@@ -197,8 +197,8 @@ impl State {
     /// Takes in a keyword.
     #[inline(always)]
     fn turn_keyword(&mut self, keyword: Keyword, flag: bool) -> Result<(), AllocError>
-        ensures contexts { OnOk result (self.new.contexts ≡ (keyword_behind (grammar.previous self.old.seen) keyword (grammar.before_of self.old) self.old.contexts flag).contexts) }
-        ensures allowed { OnOk result (self.new.expr_allowed ≡ (keyword_behind (grammar.previous self.old.seen) keyword (grammar.before_of self.old) self.old.contexts flag).expr_allowed) }
+        ensures contexts { OnOk result (self.new.contexts ≡ (keyword_behind (state.previous self.old.seen) keyword (state.before_of self.old) self.old.contexts flag).contexts) }
+        ensures allowed { OnOk result (self.new.expr_allowed ≡ (keyword_behind (state.previous self.old.seen) keyword (state.before_of self.old) self.old.contexts flag).expr_allowed) }
         ensures same { (self.new.start ≡ self.old.start) × (self.new.opened ≡ self.old.opened) × (self.new.seen ≡ self.old.seen) }
         ensures err { OnErr result (self.new ≡ self.old) }
         ensures free { length self.old.contexts < 128 → IsOk result }
@@ -217,9 +217,9 @@ impl State {
     #[tactic(auto, unfolding(crate::specs::Transition::transition))]
     #[inline(always)]
     fn turn(&mut self, token: Kept) -> Result<(), AllocError>
-        ensures contexts { OnOk result (self.new.contexts ≡ (grammar.turned_by self.old (Some token)).contexts) }
-        ensures allowed { OnOk result (self.new.expr_allowed ≡ (grammar.turned_by self.old (Some token)).expr_allowed) }
-        ensures opened { OnOk result (self.new.opened ≡ grammar.opened_by self.old (Some token)) }
+        ensures contexts { OnOk result (self.new.contexts ≡ (state.turned_by self.old (Some token)).contexts) }
+        ensures allowed { OnOk result (self.new.expr_allowed ≡ (state.turned_by self.old (Some token)).expr_allowed) }
+        ensures opened { OnOk result (self.new.opened ≡ state.opened_by self.old (Some token)) }
         ensures same { (self.new.start ≡ self.old.start) × (self.new.seen ≡ self.old.seen) }
         ensures err { OnErr result (self.new ≡ self.old) }
         ensures free { length self.old.contexts < 128 → IsOk result }
@@ -255,7 +255,7 @@ impl State {
     /// `AllocError` where there is no memory for one more context. Nothing is then changed.
     #[inline(always)]
     pub fn take_token(&mut self, token: Kept) -> Result<(), AllocError>
-        ensures ok { OnOk result (self.new ≡ grammar.behind_answer self.old token.flag (Some token)) }
+        ensures ok { OnOk result (self.new ≡ state.behind_answer self.old token.flag (Some token)) }
         ensures err { OnErr result (self.new ≡ self.old) }
         ensures free { length self.old.contexts < 128 → IsOk result }
     {
@@ -271,7 +271,7 @@ impl State {
     ///
     /// `AllocError` where there is no memory for one more context. Nothing is then changed.
     pub fn take(&mut self, answer: Option<Kept>, end_flag: bool) -> Result<(), AllocError>
-        ensures ok { OnOk result (self.new ≡ grammar.behind_answer self.old end_flag answer) }
+        ensures ok { OnOk result (self.new ≡ state.behind_answer self.old end_flag answer) }
         ensures err { OnErr result (self.new ≡ self.old) }
         ensures free { length self.old.contexts < 128 → IsOk result }
         ensures ended { answer ≡ None → IsOk result }

@@ -1,7 +1,7 @@
 //! How a token changes the contexts, and whether an expression may begin behind it: our own choice, as ECMA-262 leaves
 //! it to the parser when a slash begins a regular expression and where a template goes on.
 ghost use Rattle.std.specs.Prelude.{◌≡◌, ◌<◌, ◌≤◌, length, IsOk, IfOk, OnErr};
-ghost use Rattle.ecma_state.specs.Transition as grammar;
+ghost use Rattle.ecma_state.specs.Transition as transitions;
 ghost use Rattle.ecma_state.specs.Transition.{transition, turned};
 
 use crate::token_context::TokenContext;
@@ -23,7 +23,7 @@ pub struct Before {
 
 /// Whether an expression may follow what ends with this context.
 fn ends_statement(context: TokenContext) -> bool
-    ensures { result ≡ grammar.ends_statement context }
+    ensures { result ≡ transitions.ends_statement context }
 {
     matches!(
         context,
@@ -37,7 +37,7 @@ fn ends_statement(context: TokenContext) -> bool
 impl TokenContexts {
     /// Whether a template's text is read.
     pub(crate) fn is_in_template(&self) -> bool
-        ensures { result ≡ grammar.tpl_on_top self.now }
+        ensures { result ≡ transitions.tpl_on_top self.now }
     {
         matches!(self.current(), Some(TokenContext::Tpl))
     }
@@ -45,7 +45,7 @@ impl TokenContexts {
     /// Ends a context at `)` or `}`; whether an expression may begin then.
     #[inline(never)]
     pub(crate) fn close(&mut self) -> bool
-        ensures { turned self.new result ≡ grammar.closed self.old }
+        ensures { turned self.new result ≡ transitions.closed self.old }
     {
         if self.len() <= 1 {
             return true;
@@ -67,7 +67,7 @@ impl TokenContexts {
     /// Ends the context of a function or class at `:`; an expression may begin then.
     #[inline(always)]
     pub(crate) fn end_definition(&mut self) -> bool
-        ensures { turned self.new result ≡ grammar.coloned self.old }
+        ensures { turned self.new result ≡ transitions.coloned self.old }
     {
         if let Some(TokenContext::FnExpr | TokenContext::ClassExpr) = self.current() {
             let _ = self.pop();
@@ -77,10 +77,10 @@ impl TokenContexts {
 
     /// Ends or begins a template at a back quote.
     fn quote(&mut self) -> Result<(), AllocError>
-        ensures ok { IfOk result (λ _. self.new ≡ grammar.quoted self.old) }
+        ensures ok { IfOk result (λ _. self.new ≡ transitions.quoted self.old) }
         ensures err { OnErr result (self.new ≡ self.old) }
         ensures free { length self.old < 128 → IsOk result }
-        ensures ends { length (grammar.quoted self.old) ≤ length self.old → IsOk result }
+        ensures ends { length (transitions.quoted self.old) ≤ length self.old → IsOk result }
     {
         if self.is_in_template() {
             let _ = self.pop();
@@ -93,7 +93,7 @@ impl TokenContexts {
 
 /// Whether `{` begins a block behind `:`.
 fn is_block_behind_colon(contexts: &TokenContexts, expr_allowed: bool) -> bool
-    ensures { result ≡ grammar.block_behind_colon contexts.now expr_allowed }
+    ensures { result ≡ transitions.block_behind_colon contexts.now expr_allowed }
 {
     match contexts.current() {
         Some(TokenContext::BraceStmt) => true,
@@ -104,7 +104,7 @@ fn is_block_behind_colon(contexts: &TokenContexts, expr_allowed: bool) -> bool
 
 /// Whether `{` begins a block behind `{`.
 fn is_block_behind_brace(contexts: &TokenContexts) -> bool
-    ensures { result ≡ grammar.block_behind_brace contexts.now }
+    ensures { result ≡ transitions.block_behind_brace contexts.now }
 {
     match contexts.current() {
         Some(TokenContext::BraceStmt) => true,
@@ -118,7 +118,7 @@ fn is_block_behind_brace(contexts: &TokenContexts) -> bool
 /// Whether the kind is that of a word that declares variables.
 #[inline(always)]
 fn declares(previous: Option<TokenKind>) -> bool
-    ensures { result ≡ grammar.declares previous }
+    ensures { result ≡ transitions.declares previous }
 {
     matches!(
         previous,
@@ -128,7 +128,7 @@ fn declares(previous: Option<TokenKind>) -> bool
 
 /// Whether `of` in the head of a `for` stands behind what is iterated with, so that it isn't itself a name.
 fn is_not_before_expr(previous: Option<TokenKind>) -> bool
-    ensures { result ≡ grammar.not_before_expr previous }
+    ensures { result ≡ transitions.not_before_expr previous }
 {
     match previous {
         Some(kind) => !kind.before_expr(),
@@ -138,7 +138,7 @@ fn is_not_before_expr(previous: Option<TokenKind>) -> bool
 
 /// The context that `(` begins.
 pub(crate) fn paren_behind(previous: Option<TokenKind>) -> TokenContext
-    ensures { result ≡ grammar.paren_behind previous }
+    ensures { result ≡ transitions.paren_behind previous }
 {
     match previous {
         Some(TokenKind::Word(WordKind::Keyword(Keyword::If | Keyword::With | Keyword::While))) => {
@@ -154,7 +154,7 @@ pub(crate) fn paren_behind(previous: Option<TokenKind>) -> TokenContext
 impl Before {
     /// Whether `{` begins a block.
     fn is_brace_block(self, contexts: &TokenContexts, flag: bool) -> bool
-        ensures { result ≡ grammar.brace_block contexts.now self.previous flag self.expr_allowed }
+        ensures { result ≡ transitions.brace_block contexts.now self.previous flag self.expr_allowed }
     {
         match self.previous {
             None => true,
@@ -173,7 +173,7 @@ impl Before {
 
     /// The context that `{` begins.
     pub(crate) fn brace(self, contexts: &TokenContexts, flag: bool) -> TokenContext
-        ensures { result ≡ grammar.brace_behind self contexts.now flag }
+        ensures { result ≡ transitions.brace_behind self contexts.now flag }
     {
         if self.is_brace_block(contexts, flag) {
             TokenContext::BraceStmt
@@ -185,7 +185,7 @@ impl Before {
     /// Whether an expression may begin behind a name that isn't `of` in the head of a `for`.
     #[inline(always)]
     fn allows_behind_other(self) -> bool
-        ensures { result ≡ grammar.name_declared self }
+        ensures { result ≡ transitions.name_declared self }
     {
         declares(self.previous) && self.previous_flag
     }
@@ -193,7 +193,7 @@ impl Before {
     /// Whether an expression may begin behind `of`.
     #[inline(never)]
     fn allows_behind_of(self, contexts: &TokenContexts) -> bool
-        ensures { result ≡ grammar.name_allows (IdentKind.Known KnownIdent.Of) self contexts.now }
+        ensures { result ≡ transitions.name_allows (IdentKind.Known KnownIdent.Of) self contexts.now }
     {
         match contexts.current() {
             Some(TokenContext::ParenStmt { is_for_loop: true }) => {
@@ -206,7 +206,7 @@ impl Before {
     /// Whether an expression may begin behind a name.
     #[inline(always)]
     pub(crate) fn allows_behind_name(self, name: IdentKind, contexts: &TokenContexts) -> bool
-        ensures { result ≡ grammar.name_allows name self contexts.now }
+        ensures { result ≡ transitions.name_allows name self contexts.now }
     {
         match name {
             IdentKind::Known(KnownIdent::Of) => self.allows_behind_of(contexts),
@@ -221,10 +221,10 @@ impl Before {
         pushed: TokenContext,
         flag: bool,
     ) -> Result<bool, AllocError>
-        ensures ok { IfOk result (λ e. turned contexts.new e ≡ grammar.defined pushed self contexts.old flag) }
+        ensures ok { IfOk result (λ e. turned contexts.new e ≡ transitions.defined pushed self contexts.old flag) }
         ensures err { OnErr result (contexts.new ≡ contexts.old) }
         ensures free { length contexts.old < 128 → IsOk result }
-        ensures no_push { length (grammar.defined pushed self contexts.old flag).contexts ≤ length contexts.old → IsOk result }
+        ensures no_push { length (transitions.defined pushed self contexts.old flag).contexts ≤ length contexts.old → IsOk result }
     {
         if self.expr_allowed && !self.is_brace_block(contexts, flag) {
             contexts.push(pushed)?;
@@ -239,10 +239,10 @@ impl Before {
         keyword: Keyword,
         flag: bool,
     ) -> Result<bool, AllocError>
-        ensures ok { IfOk result (λ e. turned contexts.new e ≡ grammar.keyword_behind self.previous keyword self contexts.old flag) }
+        ensures ok { IfOk result (λ e. turned contexts.new e ≡ transitions.keyword_behind self.previous keyword self contexts.old flag) }
         ensures err { OnErr result (contexts.new ≡ contexts.old) }
         ensures free { length contexts.old < 128 → IsOk result }
-        ensures no_push { length (grammar.keyword_behind self.previous keyword self contexts.old flag).contexts ≤ length contexts.old → IsOk result }
+        ensures no_push { length (transitions.keyword_behind self.previous keyword self contexts.old flag).contexts ≤ length contexts.old → IsOk result }
     {
         if matches!(self.previous, Some(TokenKind::Dot)) {
             return Ok(false);

@@ -19,17 +19,17 @@ use Rattle.ecma_scan.specs.PunctuatorKinds.{kind_token}
 use Rattle.ecma_scan.specs.declared.punctuator_kind.PunctuatorKind.{PunctuatorKind}
 use Rattle.ecma_scan.specs.declared.punctuator_kind.PunctuatorKind.TheVariants as kinds
 use Rattle.ecma_state.specs.Mode.{is_template}
-use Rattle.ecma_state.specs.TokenAt.{opening, opening_from}
+use Rattle.ecma_state.specs.TokenAt.{lookahead, lookahead_from}
 use Rattle.ecma_state.specs.declared.mode.Mode.{Mode}
-use Rattle.ecma_state.specs.declared.opening.Opening.TheVariants as opens
+use Rattle.ecma_state.specs.declared.lookahead.Lookahead.TheVariants as opens
 use Rattle.ecma_stream.specs.Plain.{IsAlone, begins_word}
 
 -- nothing else is opened where no other reader's question is answered so
 other-opens : (mode : Mode) (flag : Bool) (text : Text) → is_template mode.top ≡ false → opens_number text ≡ false → opens_string text ≡ false → opens_word text ≡ false
-    → opens_bars text ≡ false → opening mode flag text ≡ opens.Other
+    → opens_bars text ≡ false → lookahead mode flag text ≡ opens.Other
 other-opens mode flag text template number string word bars = rw (template, number, string, word, bars) (go flag)
   where
-    go : (flag : Bool) → opening_from false false false false (flag && false) ≡ opens.Other
+    go : (flag : Bool) → lookahead_from false false false false (flag && false) ≡ opens.Other
     go true = refl
     go false = refl
 
@@ -225,7 +225,7 @@ single-no-start : is_ident_start 39 ≡ false
 unfolding is_ident_start
 single-no-start = refl
 
-starts-word : (mode : Mode) (flag : Bool) (a : ℕ) (cs : Text) → a < 128 → is_ident_start a ≡ true → is_template mode.top ≡ false → opening mode flag (a ∷ cs) ≡ opens.Word
+starts-word : (mode : Mode) (flag : Bool) (a : ℕ) (cs : Text) → a < 128 → is_ident_start a ≡ true → is_template mode.top ≡ false → lookahead mode flag (a ∷ cs) ≡ opens.Word
 starts-word mode flag a cs l start template =
     let number : digit Decimal a ≡ false = no-digit-starts a l start in
     let point = differs a 46 start point-no-start in
@@ -233,10 +233,10 @@ starts-word mode flag a cs l start template =
     let single = differs a 39 start single-no-start in
     rw (template, number, point, double, single, start) refl
 
-pub word-opens : (mode : Mode) (flag : Bool) (text : Text) (c : ℕ) → slice_get text 0 ≡ Some c → begins_word c ≡ true → is_template mode.top ≡ false → opening mode flag text ≡ opens.Word
+pub word-opens : (mode : Mode) (flag : Bool) (text : Text) (c : ℕ) → slice_get text 0 ≡ Some c → begins_word c ≡ true → is_template mode.top ≡ false → lookahead mode flag text ≡ opens.Word
 word-opens mode flag text c e is template =
     let l = word-ascii c is in
-    ap (opening mode flag) (first-cons text c e) ∙ starts-word mode flag c (drop 1 text) l (word-starts c l is) template
+    ap (lookahead mode flag) (first-cons text c e) ∙ starts-word mode flag c (drop 1 text) l (word-starts c l is) template
 
 pub one-first : (text : Text) (c : ℕ) → slice_get text 0 ≡ Some c → length (take 1 text) ≡ 1
 one-first text c e = ap (λ t. length (take 1 t)) (first-cons text c e)

@@ -15,7 +15,7 @@ use Rattle.ecma_dispatch.specs.Besides.{bare, state_taking}
 use Rattle.ecma_state.specs.Mode.{gap_mode, is_template}
 use Rattle.ecma_state.specs.Reading.{reading}
 use Rattle.ecma_state.specs.Run.{at_place, mode_of, reading_from, reading_of, state_behind}
-use Rattle.ecma_state.specs.Session.{LexerKept, LexerState, kept_of, lexer_state}
+use Rattle.ecma_state.specs.Session.{LexerValue, LexerState, kept_of, lexer_state}
 use Rattle.ecma_stream.specs.Plain.{IsBehindGap, IsPlain, PassesWord, StandsPlain, back_at, begins_word, plain_reading}
 use Rattle.ecma_state.specs.declared.mode.Mode.{Mode}
 use Rattle.ecma_stream.specs.Slashes.{IsAnswer}
@@ -74,27 +74,27 @@ back-lexer a now p is has opened moved =
     }
 
 -- the same where the lexer is seen from outside
-pub shown-back : (a : Inside) (l : LexerKept) (now : Cursor) (p : BytePos) → lexer_view a ≡ l → IsLexer a → HasPlace l.input p.0 → l.state.opened.0 ≤ p.0 → now ≡ at_place p a.input
+pub shown-back : (a : Inside) (l : LexerValue) (now : Cursor) (p : BytePos) → lexer_view a ≡ l → IsLexer a → HasPlace l.input p.0 → l.state.opened.0 ≤ p.0 → now ≡ at_place p a.input
     → IsLexer (record a { input = now })
 shown-back a l now p shows is has opened moved =
-    back-lexer a now p is (subst (λ (k : LexerKept). HasPlace k.input p.0) (sym shows) has) (subst (λ (k : LexerKept). k.state.opened.0 ≤ p.0) (sym shows) opened) moved
+    back-lexer a now p is (subst (λ (k : LexerValue). HasPlace k.input p.0) (sym shows) has) (subst (λ (k : LexerValue). k.state.opened.0 ≤ p.0) (sym shows) opened) moved
 
 -- What is found
 
 -- a read from before the white space finds the token that stands behind it
-pub behind-read : (before : BytePos) (l : LexerKept) (gap : BlankGap) (t : SpannedView) (now : Cursor) → IsBehindGap before l gap → t.had_line_break ≡ gap.line_break
+pub behind-read : (before : BytePos) (l : LexerValue) (gap : BlankGap) (t : SpannedView) (now : Cursor) → IsBehindGap before l gap → t.had_line_break ≡ gap.line_break
     → IsPlain (mode_of (lexer_state l)) t l.input now → reading (mode_of (lexer_state l)) (at_place before l.input) ≡ plain_reading t now
 behind-read before l gap t now behind flag is =
     let stands = behind.stands in
     plain-read (mode_of (lexer_state l)) (at_place before l.input) l.input now gap.next t stands.given stands.next
     (subst (λ (b : Bool). IsBlankGap (gap_mode (mode_of (lexer_state l))) (at_place before l.input) l.input b) (sym flag) stands.blank) is
 
-from-plain : (before : BytePos) (l : LexerKept) (t : SpannedView) → l.reread ≡ None → reading (mode_of (lexer_state l)) (at_place before l.input) ≡ plain_reading t l.input
+from-plain : (before : BytePos) (l : LexerValue) (t : SpannedView) → l.reread ≡ None → reading (mode_of (lexer_state l)) (at_place before l.input) ≡ plain_reading t l.input
     → reading_of (lexer_state (back_at before l)) ≡ plain_reading t l.input
 from-plain before l t none found = ap (λ o. reading_from o (lexer_state (back_at before l))) none ∙ found
 
 -- it is an answer
-pub given-answer : (before : BytePos) (l : LexerKept) (t : SpannedView) → l.reread ≡ None → HasPlace l.input before.0 → l.state.opened.0 ≤ before.0
+pub given-answer : (before : BytePos) (l : LexerValue) (t : SpannedView) → l.reread ≡ None → HasPlace l.input before.0 → l.state.opened.0 ≤ before.0
     → reading (mode_of (lexer_state l)) (at_place before l.input) ≡ plain_reading t l.input → IsAnswer l (Some (kept_of t))
 given-answer before l t none has opened found =
     let reads = from-plain before l t none found in
@@ -102,11 +102,11 @@ given-answer before l t none has opened found =
     is-answer (back_at before l) l.input (Some t) (omega (arith, there, opened)) (λ p e. absurd (none-some p (sym none ∙ e))) (ap (λ r. r.found) (sym reads)) (ap (λ r. r.input) (sym reads))
 
 -- what was given is what that read finds
-pub given-found : (before : BytePos) (l : LexerKept) (t : SpannedView) → l.reread ≡ None → reading (mode_of (lexer_state l)) (at_place before l.input) ≡ plain_reading t l.input
+pub given-found : (before : BytePos) (l : LexerValue) (t : SpannedView) → l.reread ≡ None → reading (mode_of (lexer_state l)) (at_place before l.input) ≡ plain_reading t l.input
     → Some t ≡ (reading_of (lexer_state (back_at before l))).found
 given-found before l t none found = ap (λ r. r.found) (sym (from-plain before l t none found))
 
-pub given-state : (before : BytePos) (l : LexerKept) (t : SpannedView) (now : LexerState) → l.reread ≡ None
+pub given-state : (before : BytePos) (l : LexerValue) (t : SpannedView) (now : LexerState) → l.reread ≡ None
     → reading (mode_of (lexer_state l)) (at_place before l.input) ≡ plain_reading t l.input → now ≡ state_taking (lexer_state l) (Some (kept_of t)) (bare t.had_line_break)
     → now ≡ state_behind (lexer_state (back_at before l)) (reading_of (lexer_state (back_at before l)))
 given-state before l t now none found taken =
@@ -114,19 +114,19 @@ given-state before l t now none found taken =
 
 -- An arm, by what the lexer holds
 
-pub arm-code : (before : BytePos) (a : Inside) (l : LexerKept) (gap : BlankGap) → lexer_view a ≡ l → IsBehindGap before l gap → is_template (mode_of (lexer_state (lexer_view a))).top ≡ false
+pub arm-code : (before : BytePos) (a : Inside) (l : LexerValue) (gap : BlankGap) → lexer_view a ≡ l → IsBehindGap before l gap → is_template (mode_of (lexer_state (lexer_view a))).top ≡ false
 arm-code before a l gap shows behind = ap (λ k. is_template (mode_of (lexer_state k)).top) shows ∙ behind.stands.in_code
 
-pub arm-read : (before : BytePos) (a : Inside) (l : LexerKept) (gap : BlankGap) (t : SpannedView) (now : Cursor) (n : ℕ) → lexer_view a ≡ l → IsBehindGap before l gap
+pub arm-read : (before : BytePos) (a : Inside) (l : LexerValue) (gap : BlankGap) (t : SpannedView) (now : Cursor) (n : ℕ) → lexer_view a ≡ l → IsBehindGap before l gap
     → t.had_line_break ≡ gap.line_break → IsPlain (mode_of (lexer_state (lexer_view a))) t a.input now → now ≡ passed n a.input
     → reading (mode_of (lexer_state (lexer_view a))) (at_place before now) ≡ plain_reading t now
 arm-read before a l gap t now n shows behind flag is moved =
     ap (reading (mode_of (lexer_state (lexer_view a)))) (at-moved a.input now before n moved)
-    ∙ behind-read before (lexer_view a) gap t now (subst (λ (k : LexerKept). IsBehindGap before k gap) (sym shows) behind) flag is
+    ∙ behind-read before (lexer_view a) gap t now (subst (λ (k : LexerValue). IsBehindGap before k gap) (sym shows) behind) flag is
 
 -- the arm of words
 
-pub word-read : (before : BytePos) (a : Inside) (l : LexerKept) (gap : BlankGap) (token : TokenAndSpan) (start : BytePos) (kind : WordKind) (now : Cursor) → lexer_view a ≡ l
+pub word-read : (before : BytePos) (a : Inside) (l : LexerValue) (gap : BlankGap) (token : TokenAndSpan) (start : BytePos) (kind : WordKind) (now : Cursor) → lexer_view a ≡ l
     → IsBehindGap before l gap → begins_word gap.next ≡ true → start.0 ≡ place a.input → PassesWord a.input now kind
     → ((mode : Mode) (old : Cursor) → is_template mode.top ≡ false → start.0 ≡ place old → slice_get (rest old) 0 ≡ Some gap.next → begins_word gap.next ≡ true → PassesWord old now kind
     → IsPlain mode (spanned_view token) old now)
@@ -138,15 +138,15 @@ word-read before a l gap token start kind now shows behind begins there passes t
 
 -- behind the white space
 
-pub arm-back : (a : Inside) (l : LexerKept) (before : BytePos) (now : Cursor) (n c : ℕ) → lexer_view a ≡ l → before.0 ≡ place a.input → now ≡ passed n a.input → slice_get (rest now) 0 ≡ Some c
+pub arm-back : (a : Inside) (l : LexerValue) (before : BytePos) (now : Cursor) (n c : ℕ) → lexer_view a ≡ l → before.0 ≡ place a.input → now ≡ passed n a.input → slice_get (rest now) 0 ≡ Some c
     → back_at before (lexer_view (record a { input = now })) ≡ l
 arm-back a l before now n c shows e moved first =
-    ap (λ (i : Cursor). let k : LexerKept = record (lexer_view a) { input = i } in k) (at-back a.input now before n c moved e first) ∙ shows
+    ap (λ (i : Cursor). let k : LexerValue = record (lexer_view a) { input = i } in k) (at-back a.input now before n c moved e first) ∙ shows
 
-pub here-inside : (a : Inside) (l : LexerKept) (p : BytePos) → lexer_view a ≡ l → p.0 ≡ place l.input → p.0 ≡ place a.input
+pub here-inside : (a : Inside) (l : LexerValue) (p : BytePos) → lexer_view a ≡ l → p.0 ≡ place l.input → p.0 ≡ place a.input
 here-inside a l p shows here = here ∙ ap (λ k. place k.input) (sym shows)
 
-pub arm-behind : (a : Inside) (l : LexerKept) (mode : Mode) (before : BytePos) (now : Cursor) (gap : BlankGap) → lexer_view a ≡ l → IsLexer a → l.reread ≡ None
+pub arm-behind : (a : Inside) (l : LexerValue) (mode : Mode) (before : BytePos) (now : Cursor) (gap : BlankGap) → lexer_view a ≡ l → IsLexer a → l.reread ≡ None
     → mode ≡ mode_of (lexer_state l) → before.0 ≡ place a.input → StandsPlain mode a.input now gap → IsBehindGap before (lexer_view (record a { input = now })) gap
 arm-behind a l mode before now gap shows is none by e stands =
     let moved = stands.blank.moved in
@@ -163,7 +163,7 @@ arm-behind a l mode before now gap shows is none by e stands =
     }
 
 -- the first character behind it is the one that the gap tells
-pub gap-first : (o : Option BlankGap) (gap : BlankGap) (before : BytePos) (l : LexerKept) (c : ℕ) → o ≡ Some gap → IfSome o (IsBehindGap before l) → gap.next ≡ c
+pub gap-first : (o : Option BlankGap) (gap : BlankGap) (before : BytePos) (l : LexerValue) (c : ℕ) → o ≡ Some gap → IfSome o (IsBehindGap before l) → gap.next ≡ c
     → slice_get (rest l.input) 0 ≡ Some c
 gap-first o gap before l c is holds next =
     let behind : IsBehindGap before l gap = subst (λ (o : Option BlankGap). IfSome o (IsBehindGap before l)) is holds in

@@ -20,10 +20,10 @@ use Rattle.ecma_scan.specs.Shebangs.{opens_shebang}
 use Rattle.ecma_stream.specs.Ending.{empty_room}
 use Rattle.ecma_state.specs.Mode.{gap_mode, is_tpl_element}
 use Rattle.ecma_state.specs.Reading.{Reading, is_free, is_free_behind, is_free_code, reading, reading_behind, reading_code, reading_if, behind_gap, gap_in, no_gap, shebang_reading, shebang_token, stands_shebang, token_reading}
-use Rattle.ecma_state.specs.TokenAt.{is_empty, opening, placed, token_at, token_found}
+use Rattle.ecma_state.specs.TokenAt.{is_empty, lookahead, placed, token_at, token_found}
 use Rattle.ecma_state.specs.declared.mode.Mode.{Mode}
-use Rattle.ecma_state.specs.declared.opening.Opening.{Opening}
-use Rattle.ecma_state.specs.declared.opening.Opening.TheVariants as opens
+use Rattle.ecma_state.specs.declared.lookahead.Lookahead.{Lookahead}
+use Rattle.ecma_state.specs.declared.lookahead.Lookahead.TheVariants as opens
 use Rattle.ecma_dispatch.proofs.FrontLemmas.{shebang-front, token_at-front}
 use Rattle.ecma_stream.proofs.ProgressLemmas.{Nothing, Reads, Something, token-reads}
 
@@ -51,7 +51,7 @@ pub record ReadsOn (input : Cursor) (r : Reading) : Type 0 where
 
 -- what is found at a place reaches over its spelling
 
-placed-extent : (opening : Opening) (mode : Mode) (n : ℕ) (s : Scanned TokenView) → (placed opening mode n s).extent ≡ span_of n (n + byte_len s.spelling)
+placed-extent : (lookahead : Lookahead) (mode : Mode) (n : ℕ) (s : Scanned TokenView) → (placed lookahead mode n s).extent ≡ span_of n (n + byte_len s.spelling)
 placed-extent opens.Template mode n s = refl
 placed-extent opens.Number mode n s = refl
 placed-extent opens.String mode n s = refl
@@ -60,7 +60,7 @@ placed-extent opens.Bars mode n s = refl
 placed-extent opens.Other mode n s = refl
 
 pub token-extent : (mode : Mode) (flag : Bool) (n : ℕ) (text : Text) → (token_found mode flag n text).extent ≡ span_of n (n + byte_len (token_at mode flag text).spelling)
-token-extent mode flag n text = placed-extent (opening mode flag text) mode n (token_at mode flag text)
+token-extent mode flag n text = placed-extent (lookahead mode flag text) mode n (token_at mode flag text)
 
 reads-behind : (mode : Mode) (before : GapView) (input here : Cursor) (n : ℕ) (text : Text) → here ≡ passed n input → rest here ≡ text → ReadsOn input (reading_behind mode before here text)
 reads-behind mode before input here n [] gap e = record {
@@ -103,7 +103,7 @@ token-on input s front =
       ending = λ h. absurd (none-some _ (sym h));
     }
 
-pub stands-opens : (none_given : Bool) (text : Text) → (none_given && opens_shebang text) ≡ true → opens_shebang text ≡ true
+pub stands-opens : (shebang_allowed : Bool) (text : Text) → (shebang_allowed && opens_shebang text) ≡ true → opens_shebang text ≡ true
 stands-opens true text h = h
 stands-opens false text h = cc
 
@@ -116,7 +116,7 @@ pub reading-on : (mode : Mode) (input : Cursor) → ReadsOn input (reading mode 
 reading-on mode input = go (stands_shebang mode (rest input)) refl
   where
     go : (b : Bool) → stands_shebang mode (rest input) ≡ b → ReadsOn input (reading_if b mode input)
-    go true e = token-on input (shebang_token (rest input)) (shebang-front (rest input) (stands-opens mode.none_given (rest input) e))
+    go true e = token-on input (shebang_token (rest input)) (shebang-front (rest input) (stands-opens mode.shebang_allowed (rest input) e))
     go false e = code-on mode input
 
 -- At the end
@@ -167,18 +167,18 @@ code-end mode input e =
     nothing_left flag faults comments input =
         record { found = None; end_flag = flag; faults = faults; comments = comments; input = input }
 
-no-shebang : (none_given : Bool) → (none_given && opens_shebang []) ≡ false
+no-shebang : (shebang_allowed : Bool) → (shebang_allowed && opens_shebang []) ≡ false
 no-shebang true = refl
 no-shebang false = refl
 
 pub reading-end : (mode : Mode) (input : Cursor) → rest input ≡ [] → reading mode input ≡ record { found = None; end_flag = has_line_break (gap_mode mode) (rest input); faults = []; comments = []; input = input }
 reading-end mode input e =
-    ap (λ b. reading_if b mode input) (ap (stands_shebang mode) e ∙ no-shebang mode.none_given) ∙ code-end mode input e
+    ap (λ b. reading_if b mode input) (ap (stands_shebang mode) e ∙ no-shebang mode.shebang_allowed) ∙ code-end mode input e
 
 -- such a read takes no memory
 pub end-free : (mode : Mode) (input : Cursor) → rest input ≡ [] → is_free mode input ≡ true
 end-free mode input e =
-    ap (λ b. b || is_free_code mode input) (ap (stands_shebang mode) e ∙ no-shebang mode.none_given)
+    ap (λ b. b || is_free_code mode input) (ap (stands_shebang mode) e ∙ no-shebang mode.shebang_allowed)
     ∙ ap (λ faults. is_empty faults && (is_empty gap.comments && is_free_behind mode flag (rest (behind_gap mode input)))) faults
     ∙ ap (λ comments. is_empty comments && is_free_behind mode flag (rest (behind_gap mode input))) comments
     ∙ ap (λ here. is_free_behind mode flag (rest here)) (behind_gap-end mode input e)
@@ -257,5 +257,5 @@ pub reading-less : (mode : Mode) (input : Cursor) (t : SpannedView) → (reading
 reading-less mode input t found = go (stands_shebang mode (rest input)) refl found
   where
     go : (b : Bool) → stands_shebang mode (rest input) ≡ b → (reading_if b mode input).found ≡ Some t → most (reading_if b mode input).input (Some (kind_of t.token)) < most input mode.previous
-    go true e found = shebang-less mode.previous input t (stands-opens mode.none_given (rest input) e)
+    go true e found = shebang-less mode.previous input t (stands-opens mode.shebang_allowed (rest input) e)
     go false e found = code-less mode input t found

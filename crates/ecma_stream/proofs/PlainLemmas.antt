@@ -25,13 +25,13 @@ use Rattle.ecma_state.specs.Mode.{gap_mode, is_template, keeps_space, passes_spa
 use Rattle.ecma_stream.specs.Plain.{IsPlain, StandsPlain, plain_reading, plain_view}
 use Rattle.ecma_state.specs.Reading.{Reading, gap_in, is_free, is_free_behind, is_free_code, reading, reading_if, reading_token, token_reading}
 use Rattle.ecma_state.specs.Run.{mode_of, reading_from, reading_of}
-use Rattle.ecma_state.specs.Session.{LexerKept, lexer_state}
-use Rattle.ecma_state.specs.TokenAt.{as_token, comments_in, is_free_at, is_free_token, opening, placed, ts1085, punctuator_or_stray, read_opened, token_at, token_comments, word_token}
+use Rattle.ecma_state.specs.Session.{LexerValue, lexer_state}
+use Rattle.ecma_state.specs.TokenAt.{as_token, comments_in, is_free_at, is_free_token, lookahead, placed, ts1085, punctuator_or_stray, read_opened, token_at, token_comments, word_token}
 use Rattle.ecma_stream.specs.View.{lexer_view}
 use Rattle.ecma_stream.specs.declared.lexer.Lexer.TheInside.{Inside}
 use Rattle.ecma_state.specs.declared.mode.Mode.{Mode}
-use Rattle.ecma_state.specs.declared.opening.Opening.{Opening}
-use Rattle.ecma_state.specs.declared.opening.Opening.TheVariants as opens
+use Rattle.ecma_state.specs.declared.lookahead.Lookahead.{Lookahead}
+use Rattle.ecma_state.specs.declared.lookahead.Lookahead.TheVariants as opens
 use Rattle.ecma_state.specs.declared.token_context.TokenContext.{TokenContext}
 use Rattle.ecma_state.specs.declared.token_context.TokenContext.TheVariants as context
 use Rattle.ecma_dispatch.proofs.ReadingLemmas.{free-reading, free-token, reading-some}
@@ -76,15 +76,15 @@ ok-some (Ok None) P Q S p q f = tt
 ok-some (Err e) P Q S p q f = tt
 
 -- a token that takes no memory, where it is known what opens it
-pub free-opened : (mode : Mode) (flag : Bool) (text : Text) (o : Opening) → opening mode flag text ≡ o → is_free_at mode flag text ≡ true → is_free_token o text (read_opened o mode text) ≡ true
+pub free-opened : (mode : Mode) (flag : Bool) (text : Text) (o : Lookahead) → lookahead mode flag text ≡ o → is_free_at mode flag text ≡ true → is_free_token o text (read_opened o mode text) ≡ true
 free-opened mode flag text o is h = ap (λ x. is_free_token x text (read_opened x mode text)) (sym is) ∙ h
 
 -- a word is found where one opens
-pub plain-of-word : (mode : Mode) (flag : Bool) (old now : Cursor) (t : SpannedView) → opening mode flag (rest old) ≡ opens.Word
+pub plain-of-word : (mode : Mode) (flag : Bool) (old now : Cursor) (t : SpannedView) → lookahead mode flag (rest old) ≡ opens.Word
     → found_at token_behind (place old) (word_token mode (rest old)) ≡ plain_view t → t.had_line_break ≡ flag → now ≡ passed (length (word_token mode (rest old)).spelling) old
     → IsPlain mode t old now
 plain-of-word mode flag old now t is found same moved =
-    let opened : opening mode t.had_line_break (rest old) ≡ opens.Word = ap (λ b. opening mode b (rest old)) same ∙ is in
+    let opened : lookahead mode t.had_line_break (rest old) ≡ opens.Word = ap (λ b. lookahead mode b (rest old)) same ∙ is in
     record {
       found = ap (λ x. placed x mode (place old) (read_opened x mode (rest old))) opened ∙ found;
       comments = ap (λ x. comments_in x mode (place old) (rest old)) opened;
@@ -92,11 +92,11 @@ plain-of-word mode flag old now t is found same moved =
     }
 
 -- so is a string
-pub plain-of-string : (mode : Mode) (flag : Bool) (old now : Cursor) (t : SpannedView) → opening mode flag (rest old) ≡ opens.String
+pub plain-of-string : (mode : Mode) (flag : Bool) (old now : Cursor) (t : SpannedView) → lookahead mode flag (rest old) ≡ opens.String
     → found_at token_behind (place old) (string_literal (rest old)) ≡ plain_view t → t.had_line_break ≡ flag → now ≡ passed (length (string_literal (rest old)).spelling) old
     → IsPlain mode t old now
 plain-of-string mode flag old now t is found same moved =
-    let opened : opening mode t.had_line_break (rest old) ≡ opens.String = ap (λ b. opening mode b (rest old)) same ∙ is in
+    let opened : lookahead mode t.had_line_break (rest old) ≡ opens.String = ap (λ b. lookahead mode b (rest old)) same ∙ is in
     record {
       found = ap (λ x. placed x mode (place old) (read_opened x mode (rest old))) opened ∙ found;
       comments = ap (λ x. comments_in x mode (place old) (rest old)) opened;
@@ -104,11 +104,11 @@ plain-of-string mode flag old now t is found same moved =
     }
 
 -- so is a number
-pub plain-of-number : (mode : Mode) (flag : Bool) (old now : Cursor) (t : SpannedView) → opening mode flag (rest old) ≡ opens.Number
+pub plain-of-number : (mode : Mode) (flag : Bool) (old now : Cursor) (t : SpannedView) → lookahead mode flag (rest old) ≡ opens.Number
     → found_at token_behind (place old) (number (ts1085 mode) mode.settings.numbers (rest old)) ≡ plain_view t → t.had_line_break ≡ flag → now ≡ passed (length (number (ts1085 mode) mode.settings.numbers (rest old)).spelling) old
     → IsPlain mode t old now
 plain-of-number mode flag old now t is found same moved =
-    let opened : opening mode t.had_line_break (rest old) ≡ opens.Number = ap (λ b. opening mode b (rest old)) same ∙ is in
+    let opened : lookahead mode t.had_line_break (rest old) ≡ opens.Number = ap (λ b. lookahead mode b (rest old)) same ∙ is in
     record {
       found = ap (λ x. placed x mode (place old) (read_opened x mode (rest old))) opened ∙ found;
       comments = ap (λ x. comments_in x mode (place old) (rest old)) opened;
@@ -117,7 +117,7 @@ plain-of-number mode flag old now t is found same moved =
 
 -- a punctuator is found where nothing else opens
 pub plain-of-punctuator : (mode : Mode) (old now : Cursor) (found : Option Punctuator) (t : token.Token) (flag : Bool) (span : Span) (lo hi : BytePos)
-    → opening mode flag (rest old) ≡ opens.Other → punctuator_in (type_mode mode) (rest old) ≡ found → Some t ≡ token_in found → now ≡ passed (length (spelling_in found)) old
+    → lookahead mode flag (rest old) ≡ opens.Other → punctuator_in (type_mode mode) (rest old) ≡ found → Some t ≡ token_in found → now ≡ passed (length (spelling_in found)) old
     → lo.0 ≡ place old → hi.0 ≡ place now → span ≡ record { lo = lo; hi = hi }
     → IsPlain mode (record { token = token_view t; had_line_break = flag; span = span }) old now
 plain-of-punctuator mode old now found t flag span lo hi opened is told moved at to spans =
@@ -148,7 +148,7 @@ passes-parts (Some context.JSXClosingTag) e = (refl, refl)
 passes-parts (Some context.JSXExpr) e = cc
 
 -- a gap of which nothing is told but the flag
-pub stands-plain : (mode : Mode) (old now : Cursor) (gap : BlankGap) → mode.none_given ≡ false → passes_space mode.top ≡ true → IsTold mode.first mode.settings.comments old now gap → StandsPlain mode old now gap
+pub stands-plain : (mode : Mode) (old now : Cursor) (gap : BlankGap) → mode.shebang_allowed ≡ false → passes_space mode.top ≡ true → IsTold mode.first mode.settings.comments old now gap → StandsPlain mode old now gap
 stands-plain mode old now gap given passes told =
     let parts = passes-parts mode.top passes in
     record { given = given; in_code = parts.0; next = told.0; blank = told.1 (gap_mode mode) refl parts.0 parts.1 refl }
@@ -166,7 +166,7 @@ or-false true = refl
 or-false false = refl
 
 -- behind white space alone nothing is found besides the token
-pub plain-read : (mode : Mode) (input here now : Cursor) (c : ℕ) (t : SpannedView) → mode.none_given ≡ false → slice_get (rest here) 0 ≡ Some c
+pub plain-read : (mode : Mode) (input here now : Cursor) (c : ℕ) (t : SpannedView) → mode.shebang_allowed ≡ false → slice_get (rest here) 0 ≡ Some c
     → IsBlankGap (gap_mode mode) input here t.had_line_break → IsPlain mode t here now → reading mode input ≡ plain_reading t now
 plain-read mode input here now c t none first gap is =
     ap (λ b. reading_if (b && opens_shebang (rest input)) mode input) none
@@ -197,7 +197,7 @@ none-is None e = refl
 none-is (Some x) e = cc
 
 -- where no slash is read again, that is what the lexer reads
-pub reads-plain : (a : Inside) (l : LexerKept) (mode : Mode) (input : Cursor) (r : Reading) → lexer_view a ≡ l → is_some a.reread ≡ false
+pub reads-plain : (a : Inside) (l : LexerValue) (mode : Mode) (input : Cursor) (r : Reading) → lexer_view a ≡ l → is_some a.reread ≡ false
     → mode ≡ mode_of (lexer_state l) → input ≡ a.input → reading mode input ≡ r → reading_of (lexer_state l) ≡ r
 reads-plain a l mode input r shows none is at reads =
     ap (λ o. reading_from o (lexer_state l)) (sym (ap (λ k. k.reread) shows) ∙ none-is a.reread none)

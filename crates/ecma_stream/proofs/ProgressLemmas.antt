@@ -14,9 +14,9 @@ use Rattle.ecma_scan.specs.Templates.{AtBackQuote, AtDollarBrace, AtEnd, Templat
 use Rattle.ecma_scan.specs.Words.{opens_word}
 use Rattle.ecma_scan.proofs.TemplateLaws.{template_goes_on, template_tiles}
 use Rattle.ecma_state.specs.Mode.{is_template, is_tpl_element}
-use Rattle.ecma_state.specs.TokenAt.{opening_from, placed, read_opened, token_at, token_found, token_of}
+use Rattle.ecma_state.specs.TokenAt.{lookahead_from, placed, read_opened, token_at, token_found, token_of}
 use Rattle.ecma_state.specs.declared.mode.Mode.{Mode}
-use Rattle.ecma_state.specs.declared.opening.Opening.{Opening}
+use Rattle.ecma_state.specs.declared.lookahead.Lookahead.{Lookahead}
 use Rattle.ecma_dispatch.proofs.FrontLemmas.{token_at-some}
 
 -- what is read in a template, where text stands before or not
@@ -70,8 +70,8 @@ pub data Reads (mode : Mode) (flag : Bool) (text : Text) : Type 0 where
 pub token-reads : (mode : Mode) (flag : Bool) (c : ℕ) (cs : Text) → Reads mode flag (c ∷ cs)
 token-reads mode flag c cs = go (is_template mode.top) refl
   where
-    opened_as : Bool → Opening
-    opened_as b = opening_from b (opens_number (c ∷ cs)) (opens_string (c ∷ cs)) (opens_word (c ∷ cs)) (flag && opens_bars (c ∷ cs))
+    opened_as : Bool → Lookahead
+    opened_as b = lookahead_from b (opens_number (c ∷ cs)) (opens_string (c ∷ cs)) (opens_word (c ∷ cs)) (flag && opens_bars (c ∷ cs))
 
     spelt : Bool → ℕ
     spelt b = length (read_opened (opened_as b) mode (c ∷ cs)).spelling

@@ -33,16 +33,16 @@ use Rattle.ecma_state.specs.Contexts.{Contexts}
 use Rattle.ecma_state.specs.Mode.{is_tpl_element, type_mode}
 use Rattle.ecma_state.specs.Reading.{behind_gap, gap_in, reading, reading_again, reading_behind, reading_code, reading_if, spanned, stands_shebang}
 use Rattle.ecma_state.specs.Run.{at_place, is_free_from, is_free_read, mode_of, reading_from, reading_of}
-use Rattle.ecma_state.specs.Session.{LexerKept, LexerState, kept_in, kept_of, lexer_state}
+use Rattle.ecma_state.specs.Session.{LexerValue, LexerState, kept_in, kept_of, lexer_state}
 use Rattle.ecma_stream.specs.Slashes.{IsAnswer, MayReread, OpensBehind, StandsSlash}
-use Rattle.ecma_state.specs.State.{StateKept, behind_answer, is_slash, last_slash, opened_by, opens_template, seen_behind, slash_in}
+use Rattle.ecma_state.specs.State.{StateValue, behind_answer, is_slash, last_slash, opened_by, opens_template, seen_behind, slash_in}
 use Rattle.ecma_stream.specs.View.{IsLexer, lexer_view}
 use Rattle.ecma_stream.specs.declared.lexer.Lexer.TheInside.{Inside}
-use Rattle.ecma_state.specs.TokenAt.{opening, other_token, placed, punctuator_or_stray, is_borrowed, is_empty, read_opened, stray, token_found, token_of, ts1085, word_value}
+use Rattle.ecma_state.specs.TokenAt.{lookahead, other_token, placed, punctuator_or_stray, is_borrowed, is_empty, read_opened, stray, token_found, token_of, ts1085, word_value}
 use Rattle.ecma_state.specs.declared.kept.Kept.{Kept}
 use Rattle.ecma_state.specs.declared.mode.Mode.{Mode}
-use Rattle.ecma_state.specs.declared.opening.Opening.{Opening}
-use Rattle.ecma_state.specs.declared.opening.Opening.TheVariants as opens
+use Rattle.ecma_state.specs.declared.lookahead.Lookahead.{Lookahead}
+use Rattle.ecma_state.specs.declared.lookahead.Lookahead.TheVariants as opens
 use Rattle.ecma_stream.proofs.EndLemmas.{lo_in, reading-on, token-extent}
 use Rattle.ecma_stream.proofs.EndingLemmas.{opened-kept}
 use Rattle.ecma_dispatch.proofs.ReadingLemmas.{free_comments, free_faults}
@@ -179,12 +179,12 @@ other-slash mode text h = go (punctuator_in (type_mode mode) text) refl h
 
 -- a token that is a slash is read where one stands
 pub token-slash : (mode : Mode) (flag : Bool) (n : ℕ) (text : Text) → is_slash_token (token_found mode flag n text).value ≡ true → opens_expression text ≡ true
-token-slash mode flag n text h = go (opening mode flag text) h
+token-slash mode flag n text h = go (lookahead mode flag text) h
   where
     absurdly : {b : Bool} → b ≡ false → b ≡ true → opens_expression text ≡ true
     absurdly is_not is = cc
 
-    go : (o : Opening) → is_slash_token (placed o mode n (read_opened o mode text)).value ≡ true → opens_expression text ≡ true
+    go : (o : Lookahead) → is_slash_token (placed o mode n (read_opened o mode text)).value ≡ true → opens_expression text ≡ true
     go opens.Template h = absurdly (template-no-slash mode.opened.0 n (is_tpl_element mode.previous) text) h
     go opens.Number h = absurdly (behind-slash n _ ∙ number-no-slash (ts1085 mode) mode.settings.numbers text) h
     go opens.String h = absurdly (behind-slash n _ ∙ string-no-slash text) h
@@ -357,7 +357,7 @@ opened-before l now opened slash moved = go l.reread refl moved
         omega (arith, further, there, before)
 
 -- what was found is an answer
-pub is-answer : (l : LexerKept) (now : Cursor) (found : Option SpannedView) → l.state.opened.0 ≤ place l.input → ((p : BytePos) → l.reread ≡ Some p → StandsSlash l.input l.state.opened p)
+pub is-answer : (l : LexerValue) (now : Cursor) (found : Option SpannedView) → l.state.opened.0 ≤ place l.input → ((p : BytePos) → l.reread ≡ Some p → StandsSlash l.input l.state.opened p)
     → found ≡ (reading_of (lexer_state l)).found → now ≡ (reading_of (lexer_state l)).input → IsAnswer (record l { input = now }) (kept_in found)
 is-answer l now found opened slash finds moved = go l.reread refl found finds moved
   where
@@ -413,7 +413,7 @@ is-answer l now found opened slash finds moved = go l.reread refl found finds mo
 
 -- What an answer that is taken in leaves
 
-pub answered-slash : (l : LexerKept) (answer : Option Kept) (flag : Bool) (p : BytePos) → IsAnswer l answer → last_slash (seen_behind l.state.seen flag answer) ≡ Some p
+pub answered-slash : (l : LexerValue) (answer : Option Kept) (flag : Bool) (p : BytePos) → IsAnswer l answer → last_slash (seen_behind l.state.seen flag answer) ≡ Some p
     → StandsSlash l.input (opened_by l.state answer) p
 answered-slash l None flag p is e = cc
 answered-slash l (Some t) flag p is e = subst (λ opened. StandsSlash l.input opened p) (sym (kept (is_slash t.kind) refl e)) (is.slash p e)
@@ -433,13 +433,13 @@ answered-slash l (Some t) flag p is e = subst (λ opened. StandsSlash l.input op
     kept true h e = ap (λ b. cond b t.span.lo l.state.opened) (no-quote t.kind h)
     kept false h e = cc
 
-pub again-slash : (l : LexerKept) (answer : Option Kept) (p : BytePos) → IsAnswer l answer → l.reread ≡ Some p → StandsSlash l.input l.state.opened p
+pub again-slash : (l : LexerValue) (answer : Option Kept) (p : BytePos) → IsAnswer l answer → l.reread ≡ Some p → StandsSlash l.input l.state.opened p
     → StandsSlash l.input (opened_by l.state answer) p
 again-slash l answer p is e stands = subst (λ opened. StandsSlash l.input opened p) (sym (is.again p e)) stands
 
 -- What always holds of a lexer still does
 
-pub still-lexer : (a : Inside) (l : LexerKept) (now : Cursor) → lexer_view a ≡ l → IsLexer a → now ≡ (reading_of (lexer_state l)).input → IsLexer (record a { input = now })
+pub still-lexer : (a : Inside) (l : LexerValue) (now : Cursor) → lexer_view a ≡ l → IsLexer a → now ≡ (reading_of (lexer_state l)).input → IsLexer (record a { input = now })
 still-lexer a l now shows is moves =
     let moved : now ≡ (reading_of (lexer_state (lexer_view a))).input = moves ∙ ap (λ k. (reading_of (lexer_state k)).input) (sym shows) in
     let from = reads-from (lexer_state (lexer_view a)) in
@@ -452,7 +452,7 @@ still-lexer a l now shows is moves =
       reread = λ p h. stands-moved a.input now a.state.opened p start text (is.reread p h);
     }
 
-pub still-answers : (a : Inside) (l : LexerKept) (now : Cursor) (found : Option SpannedView) → lexer_view a ≡ l → IsLexer a → found ≡ (reading_of (lexer_state l)).found
+pub still-answers : (a : Inside) (l : LexerValue) (now : Cursor) (found : Option SpannedView) → lexer_view a ≡ l → IsLexer a → found ≡ (reading_of (lexer_state l)).found
     → now ≡ (reading_of (lexer_state l)).input → IsAnswer (record (lexer_view a) { input = now }) (kept_in found)
 still-answers a l now found shows is finds moved =
     is-answer (lexer_view a) now found is.opened is.reread (finds ∙ ap (λ k. (reading_of (lexer_state k)).found) (sym shows)) (moved ∙ ap (λ k. (reading_of (lexer_state k)).input) (sym shows))
@@ -479,7 +479,7 @@ kept-lexer a x b shows is input opened seen reread pending =
       reread = rw (input, opened, reread) was.reread;
     }
 
-taken-opened : (state : StateKept) (answer : Option Kept) (input : Cursor) → OpensBehind answer input → state.opened.0 ≤ place input → (opened_by state answer).0 ≤ place input
+taken-opened : (state : StateValue) (answer : Option Kept) (input : Cursor) → OpensBehind answer input → state.opened.0 ≤ place input → (opened_by state answer).0 ≤ place input
 taken-opened state None input behind opened = opened
 taken-opened state (Some t) input behind opened = go (opens_template state.contexts t.kind)
   where
@@ -487,7 +487,7 @@ taken-opened state (Some t) input behind opened = go (opens_template state.conte
     go true = behind
     go false = opened
 
-pub taken-lexer : (a b : Inside) (l : LexerKept) (answer : Option Kept) (flag : Bool) → lexer_view a ≡ l → IsAnswer l answer → IsLexer a → b.input ≡ a.input → b.reread ≡ a.reread
+pub taken-lexer : (a b : Inside) (l : LexerValue) (answer : Option Kept) (flag : Bool) → lexer_view a ≡ l → IsAnswer l answer → IsLexer a → b.input ≡ a.input → b.reread ≡ a.reread
     → b.state ≡ behind_answer a.state flag answer → b.comments.pending_leading ≡ [] → IsLexer b
 taken-lexer a b l answer flag shows answers is input reread state pending =
     let fits : IsAnswer (lexer_view a) answer = subst (λ k. IsAnswer k answer) (sym shows) answers in
@@ -498,7 +498,7 @@ taken-lexer a b l answer flag shows answers is input reread state pending =
       reread = rw (input, state, reread) (λ p h. again-slash (lexer_view a) answer p fits h (is.reread p h));
     }
 
-pub asked-lexer : (a b : Inside) (l : LexerKept) (start : Option BytePos) → lexer_view a ≡ l → MayReread start (lexer_state l) → IsLexer a → b.input ≡ a.input → b.reread ≡ start
+pub asked-lexer : (a b : Inside) (l : LexerValue) (start : Option BytePos) → lexer_view a ≡ l → MayReread start (lexer_state l) → IsLexer a → b.input ≡ a.input → b.reread ≡ start
     → b.state ≡ a.state → b.comments.pending_leading ≡ [] → IsLexer b
 asked-lexer a b l start shows may is input reread state pending =
     record {

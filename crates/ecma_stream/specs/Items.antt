@@ -8,22 +8,22 @@ use Rattle.ecma_token.specs.View.{spanned_view}
 use Rattle.ecma_token.specs.declared.token.TokenAndSpan.{TokenAndSpan}
 use Rattle.ecma_stream.specs.Ending.{most_tokens}
 use Rattle.ecma_state.specs.Run.{reading_of, state_behind}
-use Rattle.ecma_state.specs.Session.{LexerKept, LexerState, lexer_state}
+use Rattle.ecma_state.specs.Session.{LexerValue, LexerState, lexer_state}
 
 -- where memory was not refused before: the token or the end that a read answers, or that memory is refused, which it is
 -- not at the end where no slash is read again
-abbrev pub ReadItem : LexerKept → Option (Result TokenAndSpan AllocError) → LexerKept → Type 0
+abbrev pub ReadItem : LexerValue → Option (Result TokenAndSpan AllocError) → LexerValue → Type 0
 ReadItem old None new = ((reading_of (lexer_state old)).found ≡ None) × (lexer_state new ≡ state_behind (lexer_state old) (reading_of (lexer_state old)))
 ReadItem old (Some (Ok token)) new =
     ((reading_of (lexer_state old)).found ≡ Some (spanned_view token)) × (lexer_state new ≡ state_behind (lexer_state old) (reading_of (lexer_state old)))
 ReadItem old (Some (Err error)) new = (new.refused ≡ true) × (new.errors ≡ old.errors) × (old.reread ≡ None → rest old.input ≡ [] → ⊥)
 
 -- a refusal comes once: behind it there is nothing
-abbrev pub ItemIf : Bool → LexerKept → Option (Result TokenAndSpan AllocError) → LexerKept → Type 0
+abbrev pub ItemIf : Bool → LexerValue → Option (Result TokenAndSpan AllocError) → LexerValue → Type 0
 ItemIf true old item new = (item ≡ None) × (new ≡ old)
 ItemIf false old item new = ReadItem old item new
 
-abbrev pub GivesItem : LexerKept → Option (Result TokenAndSpan AllocError) → LexerKept → Type 0
+abbrev pub GivesItem : LexerValue → Option (Result TokenAndSpan AllocError) → LexerValue → Type 0
 GivesItem old item new = ItemIf old.refused old item new
 
 -- so many items are left at most, where no slash is read again: the tokens, and one refusal
@@ -33,5 +33,5 @@ items_from true reread l = at_most 0
 items_from false None l = at_most (most_tokens l + 1)
 items_from false (Some slash) l = endless
 
-abbrev pub items_left : LexerKept → Count
+abbrev pub items_left : LexerValue → Count
 items_left l = items_from l.refused l.reread (lexer_state l)

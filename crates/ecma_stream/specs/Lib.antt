@@ -30,7 +30,7 @@ pub use Rattle.ecma_scan.specs.Gaps
 pub use Rattle.ecma_scan.specs.Numbers
 pub use Rattle.ecma_scan.specs.Pieces
 pub use Rattle.ecma_scan.specs.Punctuators
-pub use Rattle.ecma_scan.specs.Readings
+pub use Rattle.ecma_scan.specs.GapRecords
 pub use Rattle.ecma_scan.specs.Shebangs
 pub use Rattle.ecma_scan.specs.Strings
 pub use Rattle.ecma_scan.specs.Templates

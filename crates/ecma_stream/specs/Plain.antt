@@ -23,10 +23,10 @@ use Rattle.ecma_syntax.specs.declared.operator.AssignOp.TheVariants as assign
 use Rattle.ecma_state.specs.Mode.{gap_mode, is_template}
 use Rattle.ecma_state.specs.Reading.{Reading}
 use Rattle.ecma_state.specs.Run.{at_place, mode_of, reading_of, state_behind}
-use Rattle.ecma_state.specs.Session.{LexerKept, kept_of, lexer_state}
-use Rattle.ecma_state.specs.TokenAt.{opening, token_at, token_comments, token_found}
+use Rattle.ecma_state.specs.Session.{LexerValue, kept_of, lexer_state}
+use Rattle.ecma_state.specs.TokenAt.{lookahead, token_at, token_comments, token_found}
 use Rattle.ecma_state.specs.declared.mode.Mode.{Mode}
-use Rattle.ecma_state.specs.declared.opening.Opening.TheVariants as opens
+use Rattle.ecma_state.specs.declared.lookahead.Lookahead.TheVariants as opens
 use Rattle.ecma_stream.specs.View.{IsGivenAs}
 use Rattle.ecma_stream.specs.declared.plain.Plain.{Plain}
 
@@ -60,7 +60,7 @@ pub record PassesWord (old now : Cursor) (kind : WordKind) : Type 0 where
 
 -- the first character of the text is a punctuator, which is found in each mode of code, and begins nothing else
 pub record IsAlone (kind : PunctuatorKind) (text : Text) : Type 0 where
-  pub opens : (mode : Mode) (flag : Bool) → is_template mode.top ≡ false → opening mode flag text ≡ opens.Other
+  pub opens : (mode : Mode) (flag : Bool) → is_template mode.top ≡ false → lookahead mode flag text ≡ opens.Other
   pub found : (type_mode : Bool) → punctuator_in type_mode text ≡ Some (spells (take 1 text) (kind_token kind))
 
 abbrev pub assignment : PunctuatorKind
@@ -72,31 +72,31 @@ IsAhead old now = (n : ℕ) × (now ≡ passed n old)
 
 -- behind the first token, white space alone stands between two cursors, and this character behind it
 pub record StandsPlain (mode : Mode) (old now : Cursor) (gap : BlankGap) : Type 0 where
-  pub given : mode.none_given ≡ false
+  pub given : mode.shebang_allowed ≡ false
   pub in_code : is_template mode.top ≡ false
   pub next : slice_get (rest now) 0 ≡ Some gap.next
   pub blank : IsBlankGap (gap_mode mode) old now gap.line_break
 
 -- a lexer whose cursor stands at this place
-abbrev pub back_at : BytePos → LexerKept → LexerKept
+abbrev pub back_at : BytePos → LexerValue → LexerValue
 back_at p l = record l { input = at_place p l.input }
 
 -- A lexer stands behind the white space with which a read from this place begins, no slash is read again, and no template
 -- was opened behind the place.
-pub record IsBehindGap (before : BytePos) (l : LexerKept) (gap : BlankGap) : Type 0 where
+pub record IsBehindGap (before : BytePos) (l : LexerValue) (gap : BlankGap) : Type 0 where
   pub none : l.reread ≡ None
   pub has_place : HasPlace l.input before.0
   pub opened : l.state.opened.0 ≤ before.0
   pub stands : StandsPlain (mode_of (lexer_state l)) (at_place before l.input) l.input gap
 
 -- the next token, or the end, was put into a slot, or nothing was changed
-abbrev pub Gives : LexerKept → LexerKept → Option TokenAndSpan → Option TokenAndSpan → Bool → Type 0
+abbrev pub Gives : LexerValue → LexerValue → Option TokenAndSpan → Option TokenAndSpan → Bool → Type 0
 Gives old now empty slot true =
     (option_map spanned_view slot ≡ (reading_of (lexer_state old)).found) × (lexer_state now ≡ state_behind (lexer_state old) (reading_of (lexer_state old)))
 Gives old now empty slot false = (now ≡ old) × (slot ≡ empty)
 
 -- nothing is put into a slot, and neither errors nor what the caller set are changed
-pub record IsRefused (old now : LexerKept) (empty left : Option TokenAndSpan) : Type 0 where
+pub record IsRefused (old now : LexerValue) (empty left : Option TokenAndSpan) : Type 0 where
   pub slot : left ≡ empty
   pub kept : now.errors ≡ old.errors
   pub given : IsGivenAs old now

@@ -4,7 +4,7 @@ use Rattle.ecma_place.specs.Cursor.{Cursor, HasPlace, place, rest}
 use Rattle.ecma_place.specs.declared.place.BytePos.{BytePos}
 use Rattle.ecma_scan.specs.Expressions.{opens_expression}
 use Rattle.ecma_state.specs.Run.{at_place}
-use Rattle.ecma_state.specs.Session.{LexerKept, LexerState}
+use Rattle.ecma_state.specs.Session.{LexerValue, LexerState}
 use Rattle.ecma_state.specs.State.{last_slash, opened_by, slash_in}
 use Rattle.ecma_state.specs.declared.kept.Kept.{Kept}
 
@@ -20,7 +20,7 @@ OpensBehind None input = ⊤
 OpensBehind (Some t) input = t.span.lo.0 ≤ place input
 
 -- The answer of what was read: where it is a slash, one stands there, and what is read again opens no template.
-pub record IsAnswer (l : LexerKept) (answer : Option Kept) : Type 0 where
+pub record IsAnswer (l : LexerValue) (answer : Option Kept) : Type 0 where
   pub opens_behind : OpensBehind answer l.input
   pub slash : (p : BytePos) → slash_in answer ≡ Some p → StandsSlash l.input l.state.opened p
   pub again : (p : BytePos) → l.reread ≡ Some p → opened_by l.state answer ≡ l.state.opened

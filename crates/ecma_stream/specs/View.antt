@@ -3,11 +3,11 @@ use Rattle.std.specs.Prelude.{◌≡◌, ◌≤◌, [], Some}
 use Rattle.ecma_place.specs.Cursor.{place}
 use Rattle.ecma_place.specs.declared.place.BytePos.{BytePos}
 use Rattle.ecma_stream.specs.declared.lexer.Lexer.TheInside.{Inside}
-use Rattle.ecma_state.specs.Session.{LexerKept}
+use Rattle.ecma_state.specs.Session.{LexerValue}
 use Rattle.ecma_stream.specs.Slashes.{StandsSlash}
 use Rattle.ecma_state.specs.State.{last_slash}
 
-abbrev pub lexer_view : Inside → LexerKept
+abbrev pub lexer_view : Inside → LexerValue
 lexer_view a =
     record {
       settings = a.settings;
@@ -29,7 +29,7 @@ pub record IsLexer (a : Inside) : Type 0 where
   pub reread : (p : BytePos) → a.reread ≡ Some p → StandsSlash a.input a.state.opened p
 
 -- what the caller gave and set, and where the text starts, is as it was
-pub record IsGivenAs (old now : LexerKept) : Type 0 where
+pub record IsGivenAs (old now : LexerValue) : Type 0 where
   pub settings : now.settings ≡ old.settings
   pub context : now.context ≡ old.context
   pub start : now.state.start ≡ old.state.start

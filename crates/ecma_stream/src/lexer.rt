@@ -15,7 +15,7 @@ ghost use Rattle.ecma_state.specs.Errors.{errors_view};
 
 mod arms;
 
-use crate::commented::Commented;
+use crate::hand_over::HandsOver;
 use crate::plain::{begins_word, is_lone_dot, is_lone_equals};
 use crate::tokens::Tokens;
 use ecma_dispatch::read::{Besides, Reading, read_again, read_from};
@@ -54,9 +54,9 @@ impl<'a> Model for Lexer<'a> {
     ghost use Rattle.std.specs.Coded.{codes};
     ghost use denote.Signature.{static_lft};
     ghost use Rattle.ecma_token.specs.contracts.error.Error as e;
-    ghost use Rattle.ecma_state.specs.Session.{LexerKept};
+    ghost use Rattle.ecma_state.specs.Session.{LexerValue};
 
-    ghost Value = { LexerKept };
+    ghost Value = { LexerValue };
 
     ghost coded = { Prim.hlevel (codes, (e.the_row static_lft).coded) };
 
@@ -239,7 +239,7 @@ impl<'a> Lexer<'a> {
             context: self.context,
             top: self.state.contexts.current(),
             first: self.state.seen.first,
-            none_given: self.state.seen.last.is_none(),
+            shebang_allowed: self.state.seen.last.is_none(),
             previous: self.state.seen.previous(),
             opened: self.state.opened,
         }
@@ -517,7 +517,7 @@ impl<'a> Iterator for Lexer<'a> {
     }
 }
 
-impl<'a> Commented<'a> for Lexer<'a> {
+impl<'a> HandsOver<'a> for Lexer<'a> {
     ghost use Rattle.ecma_state.specs.Session.{lexer_state};
 
     ghost shown = { lexer_state };
@@ -539,13 +539,13 @@ impl<'a> Tokens<'a> for Lexer<'a> {
     ghost use mir.Syntax.{named};
     ghost use Rattle.std.specs.Borrow.{Lends, sem};
     ghost use Rattle.std.specs.Prelude.{◌≡◌, []};
-    ghost use Rattle.ecma_state.specs.Session.{kept_with_contexts, lexer_state};
+    ghost use Rattle.ecma_state.specs.Session.{value_with_contexts, lexer_state};
     ghost use Rattle.ecma_stream.specs.contracts.lexer.Lexer as lexer;
     ghost use Rattle.ecma_state.specs.contracts.token_contexts.TokenContexts as token_contexts;
 
     ghost state = { lexer_state };
 
-    ghost with_contexts = { kept_with_contexts };
+    ghost with_contexts = { value_with_contexts };
 
     fn set_ctx(&mut self, ctx: Context) -> Result<(), AllocError> {
         self.errors.enter(&ctx)?;
@@ -583,7 +583,7 @@ impl<'a> Tokens<'a> for Lexer<'a> {
 
     // The trait's clause, with the type of the lexer written out, which is too large to be told by its name.
     fn token_context_mut(&mut self) -> &mut TokenContexts
-        ensures* writes_back { sem 𝓛 (Lends (lexer.the_row record { mir = named 1; lft = [] }) token_contexts.the_row self.entry result (kept_with_contexts self.old)) }
+        ensures* writes_back { sem 𝓛 (Lends (lexer.the_row record { mir = named 1; lft = [] }) token_contexts.the_row self.entry result (value_with_contexts self.old)) }
         ensures value { result.now ≡ self.old.state.contexts }
     {
         &mut self.state.contexts

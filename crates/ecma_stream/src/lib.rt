@@ -1,11 +1,11 @@
 //! The lexer, a stream of tokens, and what a parser asks of it.
 #![tactic(auto)]
 
-mod commented;
+mod hand_over;
 pub mod lexer;
 mod plain;
 pub mod tokens;
 
-pub use commented::hand_comments;
+pub use hand_over::hand_comments;
 pub use lexer::Lexer;
 pub use tokens::Tokens;

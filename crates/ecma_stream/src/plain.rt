@@ -8,10 +8,10 @@ ghost use Rattle.ecma_scan.specs.Strings.{opens_string, string_literal};
 ghost use Rattle.ecma_stream.specs.Plain.{IsAhead, IsAlone, IsKept, IsPlain, PassesWord, StandsPlain, assignment, begins_word, plain_view};
 ghost use Rattle.ecma_scan.specs.declared.punctuator_kind.PunctuatorKind.{PunctuatorKind};
 ghost use Rattle.ecma_state.specs.Mode.{is_template};
-ghost use Rattle.ecma_state.specs.TokenAt.{is_free_token, opening, ts1085};
-ghost use Rattle.ecma_state.specs.declared.opening.Opening.TheVariants as opens;
+ghost use Rattle.ecma_state.specs.TokenAt.{is_free_token, lookahead, ts1085};
+ghost use Rattle.ecma_state.specs.declared.lookahead.Lookahead.TheVariants as opens;
 ghost use Rattle.ecma_state.specs.declared.mode.Mode.{Mode};
-ghost use Rattle.ecma_state.specs.declared.opening.Opening.{Opening};
+ghost use Rattle.ecma_state.specs.declared.lookahead.Lookahead.{Lookahead};
 
 use ecma_place::{BytePos, Span, StringInput};
 use ecma_scan::{
@@ -169,7 +169,7 @@ pub fn plain_punctuator<'a>(
     mode: &Mode,
     flag: bool,
 ) -> Option<Plain<'a>>
-    requires { opening mode.now flag (rest input.old) ≡ opens.Other }
+    requires { lookahead mode.now flag (rest input.old) ≡ opens.Other }
     ensures token { IfSome result (λ plain. IsPlain mode.now (spanned_view plain.token) input.old input.new) }
     ensures flag { IfSome result (λ plain. plain.token.had_line_break ≡ flag) }
     ensures kept { IfSome result IsKept }
@@ -197,7 +197,7 @@ pub fn plain_number<'a>(
     ensures flag { IfOk result (λ found. IfSome found (λ t. t.had_line_break ≡ flag)) }
     ensures moved { OnOk result (input.new ≡ passed (length (number (ts1085 mode.now) mode.now.settings.numbers (rest input.old)).spelling) input.old) }
     ensures same { OnErr result (input.new ≡ input.old) }
-    ensures free { is_free_token Opening.Number (rest input.old) (number (ts1085 mode.now) mode.now.settings.numbers (rest input.old)) ≡ true → IsOk result }
+    ensures free { is_free_token Lookahead.Number (rest input.old) (number (ts1085 mode.now) mode.now.settings.numbers (rest input.old)) ≡ true → IsOk result }
 {
     let start = input.cur_pos();
     if let Some(token) = eat_plain_number(input) {
@@ -225,7 +225,7 @@ pub fn plain_string<'a>(
     ensures flag { IfOk result (λ found. IfSome found (λ t. t.had_line_break ≡ flag)) }
     ensures moved { OnOk result (input.new ≡ passed (length (string_literal (rest input.old)).spelling) input.old) }
     ensures same { OnErr result (input.new ≡ input.old) }
-    ensures free { is_free_token Opening.String (rest input.old) (string_literal (rest input.old)) ≡ true → IsOk result }
+    ensures free { is_free_token Lookahead.String (rest input.old) (string_literal (rest input.old)) ≡ true → IsOk result }
 {
     let start = input.cur_pos();
     if let Some(token) = eat_plain_string(input) {
@@ -245,7 +245,7 @@ pub fn plain_string<'a>(
 pub fn plain_gap(input: &mut StringInput, mode: &Mode) -> Option<BlankGap>
     ensures { IfSome result (λ gap. StandsPlain mode.now input.old input.new gap) }
 {
-    if mode.none_given || !mode.passes_space() {
+    if mode.shebang_allowed || !mode.passes_space() {
         return None;
     }
     scan_blank_gap(input, mode.first, mode.settings.comments)

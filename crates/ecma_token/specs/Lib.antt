@@ -1,6 +1,6 @@
 pub mod Kinds
 pub mod Messages
-pub mod Plain
+pub mod Fixed
 pub mod Questions
 pub mod Quoted
 pub mod View

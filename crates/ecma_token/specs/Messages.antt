@@ -3,12 +3,12 @@ use Rattle.std.specs.Prelude.{ℕ, List, [], ◌++◌, ◌-◌, codes, length, t
 use Rattle.std.specs.List.{join_by}
 use Rattle.ecma_word.specs.Word.{word_text}
 use Rattle.ecma_word.specs.Operators.{bin_op_text, assign_op_text}
-use Rattle.ecma_token.specs.Plain.{plain_text}
+use Rattle.ecma_token.specs.Fixed.{fixed_error_text}
 use Rattle.ecma_token.specs.Quoted.{quoted_char}
 use Rattle.ecma_token.specs.declared.token.Radix.{Radix}
 use Rattle.ecma_token.specs.declared.token.Radix.TheVariants.{Binary, Octal, Decimal, Hex}
 use Rattle.ecma_token.specs.declared.token.Token.{Token, Word, Arrow, Hash, At, Dot, DotDotDot, Bang, LParen, RParen, LBracket, RBracket, LBrace, RBrace, Semi, Comma, BackQuote, Template', Colon, BinOp, AssignOp, DollarLBrace, QuestionMark, PlusPlus, MinusMinus, Tilde, Str, Regex, Num, BigInt, JSXName, JSXText, JSXTagStart, JSXTagEnd, Shebang, Error'}
-use Rattle.ecma_token.specs.declared.error.SyntaxError.{SyntaxError, LegacyDecimal, LegacyOctal, InvalidIdentChar, UnterminatedBlockComment, UnterminatedStrLit, ExpectedUnicodeEscape, UnterminatedRegExp, UnterminatedTpl, IdentAfterNum, InvalidStrEscape, InvalidUnicodeEscape, NumLitTerminatedWithExp, LegacyCommentInModule, NumericSeparatorIsAllowedOnlyBetweenTwoDigits, TS1085, TS1185, Plain, ExpectedDigit, UnexpectedChar, BadCharacterEscapeSequence, UnaryInExp, Unexpected, UnexpectedTokenWithSuggestions, ExpectedSemiForExprStmt, MultipleDefault, ImportBindingIsString, DuplicatedRegExpFlags, TS1029, TS1243, EscapeInReservedWord, InvalidIdentInStrict, DuplicateLabel, JSXExpectedClosingTag, PrivateNameModifier, ExportExpectFrom, TS1030, TS1089, TS1273, TS1274, TS1277, TsNonNullAssertionNotAllowed, Expected', WithLabel'}
+use Rattle.ecma_token.specs.declared.error.SyntaxError.{SyntaxError, LegacyDecimal, LegacyOctal, InvalidIdentChar, UnterminatedBlockComment, UnterminatedStrLit, ExpectedUnicodeEscape, UnterminatedRegExp, UnterminatedTpl, IdentAfterNum, InvalidStrEscape, InvalidUnicodeEscape, NumLitTerminatedWithExp, LegacyCommentInModule, NumericSeparatorIsAllowedOnlyBetweenTwoDigits, TS1085, TS1185, Fixed, ExpectedDigit, UnexpectedChar, BadCharacterEscapeSequence, UnaryInExp, Unexpected, UnexpectedTokenWithSuggestions, ExpectedSemiForExprStmt, MultipleDefault, ImportBindingIsString, DuplicatedRegExpFlags, TS1029, TS1243, EscapeInReservedWord, InvalidIdentInStrict, DuplicateLabel, JSXExpectedClosingTag, PrivateNameModifier, ExportExpectFrom, TS1030, TS1089, TS1273, TS1274, TS1277, TsNonNullAssertionNotAllowed, Expected', WithLabel'}
 
 -- what is said of a digit that is missing
 abbrev pub digit_text : Radix → List ℕ
@@ -35,7 +35,7 @@ fixed_text LegacyCommentInModule = Some (codes "Legacy comments cannot be used i
 fixed_text NumericSeparatorIsAllowedOnlyBetweenTwoDigits = Some (codes "A numeric separator is only allowed between two digits")
 fixed_text TS1085 = Some (codes "Legacy octal literals are not available when targeting ECMAScript 5 and higher")
 fixed_text TS1185 = Some (codes "Merge conflict marker encountered.")
-fixed_text (Plain error) = Some (plain_text error)
+fixed_text (Fixed error) = Some (fixed_error_text error)
 fixed_text (ExpectedDigit radix) = Some (digit_text radix)
 fixed_text (UnaryInExp left at) = Some (codes "'**' cannot be applied to unary/await expression.")
 fixed_text (ExpectedSemiForExprStmt at) = Some (codes "Expected ';', '}' or <eof>")

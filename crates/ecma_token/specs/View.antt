@@ -152,10 +152,10 @@ holds_words (TS1243 left right) = true
 holds_words _ = false
 
 -- it holds nothing that owns memory
-abbrev pub is_plain : SyntaxError → Bool
-is_plain (UnaryInExp left at) = false
-is_plain (Unexpected got wanted) = false
-is_plain (UnexpectedTokenWithSuggestions all) = false
-is_plain (Expected' p token got) = false
-is_plain (WithLabel' p q kind at span note) = false
-is_plain kind = not (holds_words kind)
+abbrev pub owns_nothing : SyntaxError → Bool
+owns_nothing (UnaryInExp left at) = false
+owns_nothing (Unexpected got wanted) = false
+owns_nothing (UnexpectedTokenWithSuggestions all) = false
+owns_nothing (Expected' p token got) = false
+owns_nothing (WithLabel' p q kind at span note) = false
+owns_nothing kind = not (holds_words kind)

@@ -1,8 +1,8 @@
 //! What a text can have wrong.
 ghost use Rattle.std.specs.Prelude.{◌≡◌, IfOk, IsOk, IsTrue};
-ghost use Rattle.ecma_token.specs.View.{IsErrorAt, error_kind, error_span, error_view, holds_words, is_plain, kind_owns_nothing, kind_view};
+ghost use Rattle.ecma_token.specs.View.{IsErrorAt, error_kind, error_span, error_view, holds_words, owns_nothing, kind_owns_nothing, kind_view};
 
-use crate::plain::PlainError;
+use crate::fixed::FixedError;
 use crate::token::{Radix, Token};
 use ecma_place::{Atom, Span, Spanned};
 use std::alloc::{AllocError, Global};
@@ -68,7 +68,7 @@ pub enum SyntaxError<'a> {
     /// A conflict marker of a merge.
     TS1185,
     /// One of the parser's errors that hold nothing.
-    Plain(PlainError),
+    Fixed(FixedError),
     /// A name that is reserved in strict mode code.
     InvalidIdentInStrict(Atom<'a>),
     /// A unary expression as the base of `**`: its text, and where it stands.
@@ -226,7 +226,7 @@ impl<'a> SyntaxError<'a> {
             | SyntaxError::TS1274(_)
             | SyntaxError::TS1277(_)
             | SyntaxError::TsNonNullAssertionNotAllowed(_) => self.copy_words(alloc),
-            _ => Ok(self.copy_plain()),
+            _ => Ok(self.copy_unowned()),
         }
     }
 
@@ -278,12 +278,12 @@ impl<'a> SyntaxError<'a> {
     }
 
     /// The same, where it holds no memory at all.
-    fn copy_plain(&self) -> SyntaxError<'a>
-        requires { IsTrue (is_plain self.now) }
+    fn copy_unowned(&self) -> SyntaxError<'a>
+        requires { IsTrue (owns_nothing self.now) }
         ensures { kind_view result ≡ kind_view self.now }
     {
         match self {
-            SyntaxError::Plain(error) => SyntaxError::Plain(*error),
+            SyntaxError::Fixed(error) => SyntaxError::Fixed(*error),
             SyntaxError::ExpectedDigit { radix } => SyntaxError::ExpectedDigit { radix: *radix },
             SyntaxError::UnexpectedChar { c } => SyntaxError::UnexpectedChar { c: *c },
             SyntaxError::BadCharacterEscapeSequence { expected } => {

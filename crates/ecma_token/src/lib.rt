@@ -2,14 +2,14 @@
 #![tactic(auto)]
 
 pub mod error;
+pub mod fixed;
 pub mod kind;
 mod message;
 mod names;
-pub mod plain;
 mod quoted;
 pub mod token;
 
 pub use error::{Error, SyntaxError};
 pub use kind::TokenKind;
-pub use plain::PlainError;
+pub use fixed::FixedError;
 pub use token::{Radix, Token, TokenAndSpan};

@@ -73,7 +73,7 @@ impl<'a> SyntaxError<'a> {
                 )
             }
             SyntaxError::TS1185 => Some("Merge conflict marker encountered."),
-            SyntaxError::Plain(error) => Some(error.msg()),
+            SyntaxError::Fixed(error) => Some(error.msg()),
             SyntaxError::ExpectedDigit { radix } => Some(radix.digit_msg()),
             SyntaxError::UnaryInExp { .. } => Some(
                 "'**' cannot be applied to unary/await expression.",

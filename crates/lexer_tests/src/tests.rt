@@ -29,7 +29,7 @@ use std::alloc::AllocError;
 /// What is kept of the next token.
 fn next(lexer: &mut Lexer) -> Result<Option<Kept>, AllocError> {
     match lexer.read()? {
-        Some(token) => Ok(Some(Kept::from(token))),
+        Some(token) => Ok(Some(Kept::of(&token))),
         None => Ok(None),
     }
 }

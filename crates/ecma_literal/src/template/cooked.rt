@@ -4,7 +4,7 @@ ghost use Rattle.std.specs.List.{list_all};
 ghost use Rattle.ecma_place.specs.Cursor.{rest, passed};
 ghost use Rattle.ecma_place.specs.Text.{Text};
 ghost use Rattle.ecma_grammar.specs.Pieces.{pieces, spelled};
-ghost use Rattle.ecma_grammar.specs.Templates as grammar;
+ghost use Rattle.ecma_grammar.specs.Templates as templates;
 ghost use Rattle.ecma_literal.specs.WrittenTemplates.{piece_of};
 
 use crate::template::pieces::{Piece, read_piece};
@@ -16,7 +16,7 @@ use std::alloc::{AllocError, Global};
 #[tactic(auto, using(crate::proofs::TemplatePieces::cooked_answers))]
 fn push_piece(cooked: &mut String, piece: Piece, spelling: &str) -> Result<(), AllocError>
     ensures { (text : Text) → spelling.now ≡ encode_utf8_all text
-        → OnOk result (string_bytes cooked.new ≡ string_bytes cooked.old ++ encode_utf8_all (grammar.cooked_piece (piece_of text piece))) }
+        → OnOk result (string_bytes cooked.new ≡ string_bytes cooked.old ++ encode_utf8_all (templates.cooked_piece (piece_of text piece))) }
 {
     match piece {
         Piece::Plain(c) => cooked.push(c),
@@ -28,7 +28,7 @@ fn push_piece(cooked: &mut String, piece: Piece, spelling: &str) -> Result<(), A
 
 /// Moves over template text, up to a back quote, `${` or the end, and answers what it means.
 pub(super) fn cook_text(alloc: Global, input: &mut StringInput) -> Result<String, AllocError>
-    ensures { IfOk result (λ s. string_bytes s ≡ encode_utf8_all (grammar.cooked_text (pieces grammar.template_cutter tt (rest input.old)))) }
+    ensures { IfOk result (λ s. string_bytes s ≡ encode_utf8_all (templates.cooked_text (pieces templates.template_cutter tt (rest input.old)))) }
 {
     let mut cooked = String::new(alloc);
     let mut start = input.cur_pos();

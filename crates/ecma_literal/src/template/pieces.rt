@@ -3,11 +3,11 @@ ghost use Rattle.std.specs.Prelude.{◌≡◌, ◌&&◌, ◌||◌, ◌==◌, Som
 ghost use Rattle.ecma_place.specs.Cursor.{rest, passed};
 ghost use Rattle.ecma_place.specs.Text.{Text};
 ghost use Rattle.ecma_grammar.specs.Fronts.{next_is};
-ghost use Rattle.ecma_grammar.specs.Templates as grammar;
+ghost use Rattle.ecma_grammar.specs.Templates as templates;
 ghost use Rattle.ecma_grammar.specs.Escapes.{line_end};
 ghost use Rattle.ecma_literal.specs.WrittenTemplates.{piece_of, first_text};
 
-use ecma_escape::escape::{Answer, Use, read_escape};
+use ecma_escape::escape::{Meaning, Use, read_escape};
 use ecma_place::{CharExt, StringInput};
 
 /// A piece of template text.
@@ -20,7 +20,7 @@ pub(super) enum Piece {
     /// A CR, and whether LF follows it.
     Return(bool),
     /// An escape, by what it stands for.
-    Escaped(Answer),
+    Escaped(Meaning),
 }
 
 /// Whether template text stops at the cursor, where this character stands: at a back quote or `${`.
@@ -34,7 +34,7 @@ fn stops(input: &StringInput, c: char) -> bool
 /// Reads the line terminator at the cursor; CR LF is one.
 fn read_break(input: &mut StringInput, c: char) -> Piece
     requires { slice_get (rest input.old) 0 ≡ Some c }
-    ensures value { (spelling : Text) → piece_of spelling result ≡ grammar.Break (line_end c (drop 1 (rest input.old))) }
+    ensures value { (spelling : Text) → piece_of spelling result ≡ templates.Break (line_end c (drop 1 (rest input.old))) }
     ensures moved { input.new ≡ passed (length (line_end c (drop 1 (rest input.old)))) input.old }
 {
     input.bump();
@@ -47,7 +47,7 @@ fn read_break(input: &mut StringInput, c: char) -> Piece
 
 /// Reads the piece at the cursor, if one begins there, and moves behind it.
 pub(super) fn read_piece(input: &mut StringInput) -> Option<Piece>
-    ensures value { option_map (piece_of (first_text (rest input.old))) result ≡ grammar.template_piece (rest input.old) }
+    ensures value { option_map (piece_of (first_text (rest input.old))) result ≡ templates.template_piece (rest input.old) }
     ensures moved { input.new ≡ passed (length (first_text (rest input.old))) input.old }
 {
     let c = input.cur()?;
@@ -66,7 +66,7 @@ pub(super) fn read_piece(input: &mut StringInput) -> Option<Piece>
 
 /// Whether the piece means what is written: it is neither an escape nor has a CR.
 pub(super) fn is_verbatim(piece: Piece) -> bool
-    ensures { (spelling : Text) → result ≡ grammar.is_verbatim (piece_of spelling piece) }
+    ensures { (spelling : Text) → result ≡ templates.is_verbatim (piece_of spelling piece) }
 {
     match piece {
         Piece::Plain(_) => true,
@@ -78,7 +78,7 @@ pub(super) fn is_verbatim(piece: Piece) -> bool
 
 /// Whether the piece is a line terminator.
 pub(super) fn is_break(piece: Piece) -> bool
-    ensures { (spelling : Text) → result ≡ grammar.is_break (piece_of spelling piece) }
+    ensures { (spelling : Text) → result ≡ templates.is_break (piece_of spelling piece) }
 {
     match piece {
         Piece::Plain(_) => false,

@@ -4,14 +4,14 @@ ghost use Rattle.std.specs.List.{list_all, list_any};
 ghost use Rattle.ecma_place.specs.Cursor.{rest, place, passed};
 ghost use Rattle.ecma_place.specs.Text.{Text};
 ghost use Rattle.ecma_grammar.specs.Pieces.{pieces, spelled};
-ghost use Rattle.ecma_grammar.specs.Templates as grammar;
+ghost use Rattle.ecma_grammar.specs.Templates as templates;
 ghost use Rattle.ecma_literal.specs.WrittenTemplates.{piece_of, refused_at};
 ghost use Rattle.ecma_escape.specs.declared.escape.Refusal.{Refusal};
-ghost use Rattle.ecma_escape.specs.declared.escape.Answer.TheVariants.{Refused};
+ghost use Rattle.ecma_escape.specs.declared.escape.Meaning.TheVariants.{Refused};
 ghost use Rattle.ecma_literal.specs.declared.template.pieces.Piece.TheVariants.{Escaped};
 
 use crate::template::pieces::{Piece, is_break, is_verbatim, read_piece};
-use ecma_escape::escape::{Answer, Refusal, Use, refusal_span};
+use ecma_escape::escape::{Meaning, Refusal, Use, refusal_span};
 use ecma_place::{BytePos, Span, StringInput};
 
 /// What stands in template text.
@@ -34,10 +34,10 @@ fn newer(
 ) -> Option<(Refusal, Span)>
     requires { start.0 ≤ end.0 }
     ensures { (spelling : Text) → ((refusal : Refusal) → piece ≡ Escaped (Refused refusal) → start.0 + length spelling ≡ end.0)
-        → option_map refused_at result ≡ grammar.newer start.0 (option_map refused_at before) (grammar.piece_refusal (piece_of spelling piece)) }
+        → option_map refused_at result ≡ templates.newer start.0 (option_map refused_at before) (templates.piece_refusal (piece_of spelling piece)) }
 {
     match piece {
-        Piece::Escaped(Answer::Refused(refusal)) => {
+        Piece::Escaped(Meaning::Refused(refusal)) => {
             let span = refusal_span(refusal, Use::InTemplate, start, end);
             Some((refusal, span))
         }
@@ -47,11 +47,11 @@ fn newer(
 
 /// Moves over template text, up to a back quote, `${` or the end, and says what stands in it. No memory is taken.
 pub(super) fn survey_text(input: &mut StringInput) -> Survey
-    ensures verbatim { result.is_verbatim ≡ list_all grammar.is_verbatim (pieces grammar.template_cutter tt (rest input.old)) }
-    ensures line_break { result.line_break ≡ list_any grammar.is_break (pieces grammar.template_cutter tt (rest input.old)) }
+    ensures verbatim { result.is_verbatim ≡ list_all templates.is_verbatim (pieces templates.template_cutter tt (rest input.old)) }
+    ensures line_break { result.line_break ≡ list_any templates.is_break (pieces templates.template_cutter tt (rest input.old)) }
     ensures refusal { option_map refused_at result.refusal
-        ≡ grammar.last_refusal (place input.old) None (pieces grammar.template_cutter tt (rest input.old)) }
-    ensures moved { input.new ≡ passed (length (spelled grammar.template_cutter (pieces grammar.template_cutter tt (rest input.old)))) input.old }
+        ≡ templates.last_refusal (place input.old) None (pieces templates.template_cutter tt (rest input.old)) }
+    ensures moved { input.new ≡ passed (length (spelled templates.template_cutter (pieces templates.template_cutter tt (rest input.old)))) input.old }
 {
     let mut survey = Survey {
         is_verbatim: true,

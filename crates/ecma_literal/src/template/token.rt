@@ -5,7 +5,7 @@ ghost use Rattle.ecma_place.specs.Cursor.{rest, place};
 ghost use Rattle.ecma_token.specs.View.{token_view};
 ghost use Rattle.ecma_grammar.specs.Found.{token_behind};
 ghost use Rattle.ecma_grammar.specs.Pieces.{pieces};
-ghost use Rattle.ecma_grammar.specs.Templates as grammar;
+ghost use Rattle.ecma_grammar.specs.Templates as templates;
 ghost use Rattle.ecma_literal.specs.WrittenTemplates.{refused_at};
 
 use crate::template::cooked::cook_text;
@@ -23,9 +23,9 @@ fn cooked_atom<'a>(
     is_verbatim: bool,
     text: &mut StringInput<'a>,
 ) -> Result<Atom<'a>, AllocError>
-    requires raw { raw.now ≡ encode_utf8_all (grammar.raw_text (pieces grammar.template_cutter tt (rest text.old))) }
-    requires verbatim { is_verbatim ≡ list_all grammar.is_verbatim (pieces grammar.template_cutter tt (rest text.old)) }
-    ensures value { IfOk result (λ a. a ≡ grammar.cooked_atom (pieces grammar.template_cutter tt (rest text.old))) }
+    requires raw { raw.now ≡ encode_utf8_all (templates.raw_text (pieces templates.template_cutter tt (rest text.old))) }
+    requires verbatim { is_verbatim ≡ list_all templates.is_verbatim (pieces templates.template_cutter tt (rest text.old)) }
+    ensures value { IfOk result (λ a. a ≡ templates.cooked_atom (pieces templates.template_cutter tt (rest text.old))) }
     ensures free { is_verbatim ≡ true → IsOk result }
 {
     if is_verbatim {
@@ -42,12 +42,12 @@ pub(super) fn template_token<'a>(
     survey: Survey,
     text: &mut StringInput<'a>,
 ) -> Result<Token<'a>, AllocError>
-    requires raw { raw.now ≡ encode_utf8_all (grammar.raw_text (pieces grammar.template_cutter tt (rest text.old))) }
-    requires verbatim { survey.is_verbatim ≡ list_all grammar.is_verbatim (pieces grammar.template_cutter tt (rest text.old)) }
+    requires raw { raw.now ≡ encode_utf8_all (templates.raw_text (pieces templates.template_cutter tt (rest text.old))) }
+    requires verbatim { survey.is_verbatim ≡ list_all templates.is_verbatim (pieces templates.template_cutter tt (rest text.old)) }
     requires refusal { option_map refused_at survey.refusal
-        ≡ grammar.last_refusal (place text.old) None (pieces grammar.template_cutter tt (rest text.old)) }
+        ≡ templates.last_refusal (place text.old) None (pieces templates.template_cutter tt (rest text.old)) }
     ensures value { IfOk result (λ t. token_view t
-        ≡ token_behind (place text.old) (grammar.template_token (pieces grammar.template_cutter tt (rest text.old)))) }
+        ≡ token_behind (place text.old) (templates.template_token (pieces templates.template_cutter tt (rest text.old)))) }
     ensures free { survey.is_verbatim ≡ true → IsOk result }
 {
     match survey.refusal {

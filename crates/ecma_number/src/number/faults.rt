@@ -6,7 +6,7 @@ ghost use Rattle.ecma_token.specs.declared.token.Radix.TheVariants.{Decimal};
 ghost use Rattle.ecma_grammar.specs.Fronts.{next_passes};
 ghost use Rattle.ecma_number.specs.WrittenNumbers.{number_of, fraction_of, exponent_of};
 ghost use Rattle.ecma_grammar.specs.Numbers.{OctalRun, DecimalRun};
-ghost use Rattle.ecma_grammar.specs.Numbers as grammar;
+ghost use Rattle.ecma_grammar.specs.Numbers as numbers;
 
 use crate::number::digits::has_separator;
 use crate::number::parts::{
@@ -29,7 +29,7 @@ fn push_separator<'a>(
 ) -> Result<(), AllocError>
     requires { start.0 + count < 2 ^ 32 }
     ensures { OnOk result (map fault_view faults.new.items ≡ map fault_view faults.old.items
-        ++ map (fault_behind start.0) (map grammar.separator_fault (if is_faulty then count ∷ [] else []))) }
+        ++ map (fault_behind start.0) (map numbers.separator_fault (if is_faulty then count ∷ [] else []))) }
 {
     if is_faulty {
         let span = Span::new(start, BytePos(start.0 + count));
@@ -46,7 +46,7 @@ fn push_separator<'a>(
 
 /// Whether the bytes begin with a digit of the radix.
 fn begins_with_digit(bytes: &[u8], radix: Radix) -> bool
-    ensures { result ≡ next_passes (grammar.digit radix) bytes.now }
+    ensures { result ≡ next_passes (numbers.digit radix) bytes.now }
 {
     match bytes.first() {
         Some(b) => is_digit(*b as char, radix),
@@ -56,7 +56,7 @@ fn begins_with_digit(bytes: &[u8], radix: Radix) -> bool
 
 /// Whether the byte of a run is a separator that does not stand between two digits, or stands in a run that may hold none.
 fn is_faulty(b: u8, allowed: bool, seen: bool, behind: &[u8], radix: Radix) -> bool
-    ensures { result ≡ grammar.is_faulty radix (allowed && seen) b behind.now }
+    ensures { result ≡ numbers.is_faulty radix (allowed && seen) b behind.now }
 {
     b == b'_' && !(allowed && seen && begins_with_digit(behind, radix))
 }
@@ -71,9 +71,9 @@ fn push_separators<'a>(
     allowed: bool,
 ) -> Result<(), AllocError>
     requires fits { start.0 + length run.now < 2 ^ 32 }
-    requires run { grammar.IsRun radix run.now }
+    requires run { numbers.IsRun radix run.now }
     ensures { OnOk result (map fault_view faults.new.items ≡ map fault_view faults.old.items
-        ++ map (fault_behind start.0) (grammar.run_faults allowed radix run.now)) }
+        ++ map (fault_behind start.0) (numbers.run_faults allowed radix run.now)) }
 {
     let mut seen = false;
     let mut count = 0;
@@ -103,10 +103,10 @@ pub(super) fn push_run_faults<'a>(
     allowed: bool,
 ) -> Result<(), AllocError>
     requires fits { start.0 + length run.now < 2 ^ 32 }
-    requires run { grammar.IsRun radix run.now }
+    requires run { numbers.IsRun radix run.now }
     ensures faults { OnOk result (map fault_view faults.new.items ≡ map fault_view faults.old.items
-        ++ map (fault_behind start.0) (grammar.run_faults allowed radix run.now)) }
-    ensures free { list_any grammar.is_separator run.now ≡ false → IsOk result }
+        ++ map (fault_behind start.0) (numbers.run_faults allowed radix run.now)) }
+    ensures free { list_any numbers.is_separator run.now ≡ false → IsOk result }
 {
     if has_separator(run) {
         push_separators(alloc, faults, run, radix, start, allowed)?;
@@ -116,7 +116,7 @@ pub(super) fn push_run_faults<'a>(
 
 /// Whether a decimal run that begins a number may hold separators.
 fn may_hold_separators(run: &str, rule: NumberRule) -> bool
-    ensures { result ≡ grammar.may_hold_separators rule run.now }
+    ensures { result ≡ numbers.may_hold_separators rule run.now }
 {
     match rule {
         NumberRule::Crate => true,
@@ -133,10 +133,10 @@ fn push_first_run_faults<'a>(
     rule: NumberRule,
 ) -> Result<(), AllocError>
     requires fits { start.0 + length run.now < 2 ^ 32 }
-    requires run { grammar.IsRun Decimal run.now }
+    requires run { numbers.IsRun Decimal run.now }
     ensures faults { OnOk result (map fault_view faults.new.items ≡ map fault_view faults.old.items
-        ++ map (fault_behind start.0) (grammar.first_run_faults rule run.now)) }
-    ensures free { list_any grammar.is_separator run.now ≡ false → IsOk result }
+        ++ map (fault_behind start.0) (numbers.first_run_faults rule run.now)) }
+    ensures free { list_any numbers.is_separator run.now ≡ false → IsOk result }
 {
     push_run_faults(
         alloc,
@@ -156,10 +156,10 @@ fn push_legacy_fault<'a>(
     start: BytePos,
 ) -> Result<(), AllocError>
     requires fits { start.0 + length run.now < 2 ^ 32 }
-    requires run { grammar.IsRun Decimal run.now }
+    requires run { numbers.IsRun Decimal run.now }
     ensures faults { OnOk result (map fault_view faults.new.items ≡ map fault_view faults.old.items
-        ++ map (fault_behind start.0) (grammar.legacy_faults run.now)) }
-    ensures free { grammar.is_legacy run.now ≡ false → IsOk result }
+        ++ map (fault_behind start.0) (numbers.legacy_faults run.now)) }
+    ensures free { numbers.is_legacy run.now ≡ false → IsOk result }
 {
     if is_legacy(run) {
         let span = Span::new(start, BytePos(start.0 + run.len() as u32));
@@ -181,11 +181,11 @@ fn push_fraction_faults<'a>(
     fraction: WrittenFraction,
     start: BytePos,
 ) -> Result<(), AllocError>
-    requires fits { start.0 + length (grammar.fraction_text (fraction_of fraction)) < 2 ^ 32 }
-    requires form { grammar.IsFraction (fraction_of fraction) }
+    requires fits { start.0 + length (numbers.fraction_text (fraction_of fraction)) < 2 ^ 32 }
+    requires form { numbers.IsFraction (fraction_of fraction) }
     ensures faults { OnOk result (map fault_view faults.new.items ≡ map fault_view faults.old.items
-        ++ grammar.fraction_faults start.0 (fraction_of fraction.entry)) }
-    ensures free { list_any grammar.is_separator (grammar.fraction_text (fraction_of fraction.entry)) ≡ false → IsOk result }
+        ++ numbers.fraction_faults start.0 (fraction_of fraction.entry)) }
+    ensures free { list_any numbers.is_separator (numbers.fraction_text (fraction_of fraction.entry)) ≡ false → IsOk result }
 {
     match fraction {
         WrittenFraction::Pointless => Ok(()),
@@ -209,11 +209,11 @@ fn push_exponent_faults<'a>(
     exponent: WrittenExponent,
     start: BytePos,
 ) -> Result<(), AllocError>
-    requires fits { start.0 + length (grammar.exponent_text (exponent_of exponent)) < 2 ^ 32 }
-    requires form { grammar.IsExponent (exponent_of exponent) }
+    requires fits { start.0 + length (numbers.exponent_text (exponent_of exponent)) < 2 ^ 32 }
+    requires form { numbers.IsExponent (exponent_of exponent) }
     ensures faults { OnOk result (map fault_view faults.new.items ≡ map fault_view faults.old.items
-        ++ grammar.exponent_faults start.0 (exponent_of exponent.entry)) }
-    ensures free { list_any grammar.is_separator (grammar.exponent_text (exponent_of exponent.entry)) ≡ false → IsOk result }
+        ++ numbers.exponent_faults start.0 (exponent_of exponent.entry)) }
+    ensures free { list_any numbers.is_separator (numbers.exponent_text (exponent_of exponent.entry)) ≡ false → IsOk result }
 {
     match exponent {
         WrittenExponent::Unscaled => Ok(()),
@@ -234,17 +234,17 @@ fn push_decimal_faults<'a>(
     start: BytePos,
     rule: NumberRule,
 ) -> Result<(), AllocError>
-    requires fits { start.0 + (length run.now + (length (grammar.fraction_text (fraction_of fraction))
-        + length (grammar.exponent_text (exponent_of exponent)))) < 2 ^ 32 }
-    requires run { grammar.IsRun Decimal run.now }
-    requires fraction { grammar.IsFraction (fraction_of fraction) }
-    requires exponent { grammar.IsExponent (exponent_of exponent) }
+    requires fits { start.0 + (length run.now + (length (numbers.fraction_text (fraction_of fraction))
+        + length (numbers.exponent_text (exponent_of exponent)))) < 2 ^ 32 }
+    requires run { numbers.IsRun Decimal run.now }
+    requires fraction { numbers.IsFraction (fraction_of fraction) }
+    requires exponent { numbers.IsExponent (exponent_of exponent) }
     ensures faults { OnOk result (map fault_view faults.new.items ≡ map fault_view faults.old.items
-        ++ map (fault_behind start.0) (grammar.part_faults rule (DecimalRun run.now (fraction_of fraction.entry) (exponent_of exponent.entry)))) }
-    ensures free { list_any grammar.is_separator run.now ≡ false
-        → list_any grammar.is_separator (grammar.fraction_text (fraction_of fraction.entry)) ≡ false
-        → list_any grammar.is_separator (grammar.exponent_text (exponent_of exponent.entry)) ≡ false
-        → grammar.is_legacy run.now ≡ false → IsOk result }
+        ++ map (fault_behind start.0) (numbers.part_faults rule (DecimalRun run.now (fraction_of fraction.entry) (exponent_of exponent.entry)))) }
+    ensures free { list_any numbers.is_separator run.now ≡ false
+        → list_any numbers.is_separator (numbers.fraction_text (fraction_of fraction.entry)) ≡ false
+        → list_any numbers.is_separator (numbers.exponent_text (exponent_of exponent.entry)) ≡ false
+        → numbers.is_legacy run.now ≡ false → IsOk result }
 {
     push_first_run_faults(alloc, faults, run, start, rule)?;
     push_legacy_fault(alloc, faults, run, start)?;
@@ -264,12 +264,12 @@ pub(super) fn push_part_faults<'a>(
     start: BytePos,
     rule: NumberRule,
 ) -> Result<(), AllocError>
-    requires fits { start.0 + length (grammar.number_text (number_of number)) < 2 ^ 32 }
-    requires form { grammar.IsNumber (number_of number) }
+    requires fits { start.0 + length (numbers.number_text (number_of number)) < 2 ^ 32 }
+    requires form { numbers.IsNumber (number_of number) }
     ensures faults { OnOk result (map fault_view faults.new.items ≡ map fault_view faults.old.items
-        ++ map (fault_behind start.0) (grammar.part_faults rule (number_of number.entry))) }
-    ensures free { list_any grammar.is_separator (grammar.number_text (number_of number.entry)) ≡ false
-        → grammar.part_faults rule (number_of number.entry) ≡ [] → IsOk result }
+        ++ map (fault_behind start.0) (numbers.part_faults rule (number_of number.entry))) }
+    ensures free { list_any numbers.is_separator (numbers.number_text (number_of number.entry)) ≡ false
+        → numbers.part_faults rule (number_of number.entry) ≡ [] → IsOk result }
 {
     match number {
         WrittenNumber::Radixed { radix, run, .. } => {
@@ -295,9 +295,9 @@ fn push_octal_run_faults<'a>(
     ts1085: bool,
 ) -> Result<(), AllocError>
     requires fits { start.0 + length run.now < 2 ^ 32 }
-    requires run { grammar.IsRun Decimal run.now }
+    requires run { numbers.IsRun Decimal run.now }
     ensures { OnOk result (map fault_view faults.new.items ≡ map fault_view faults.old.items
-        ++ map (fault_behind start.0) (grammar.octal_faults ts1085 (OctalRun run.now))) }
+        ++ map (fault_behind start.0) (numbers.octal_faults ts1085 (OctalRun run.now))) }
 {
     let span = Span::new(start, BytePos(start.0 + run.len() as u32));
     if ts1085 {
@@ -315,11 +315,11 @@ pub(super) fn push_octal_faults<'a>(
     start: BytePos,
     ts1085: bool,
 ) -> Result<(), AllocError>
-    requires fits { start.0 + length (grammar.number_text (number_of number)) < 2 ^ 32 }
-    requires form { grammar.IsNumber (number_of number) }
+    requires fits { start.0 + length (numbers.number_text (number_of number)) < 2 ^ 32 }
+    requires form { numbers.IsNumber (number_of number) }
     ensures faults { OnOk result (map fault_view faults.new.items ≡ map fault_view faults.old.items
-        ++ map (fault_behind start.0) (grammar.octal_faults ts1085 (number_of number.entry))) }
-    ensures free { grammar.octal_faults ts1085 (number_of number.entry) ≡ [] → IsOk result }
+        ++ map (fault_behind start.0) (numbers.octal_faults ts1085 (number_of number.entry))) }
+    ensures free { numbers.octal_faults ts1085 (number_of number.entry) ≡ [] → IsOk result }
 {
     match number {
         WrittenNumber::Radixed { .. } => Ok(()),

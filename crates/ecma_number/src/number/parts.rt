@@ -2,7 +2,7 @@
 ghost use Rattle.std.specs.Prelude.{◌≡◌, ◌<◌, ◌^◌, Some, None, length, drop};
 ghost use Rattle.std.specs.List.{list_any};
 ghost use Rattle.ecma_place.specs.Cursor.{rest, passed};
-ghost use Rattle.ecma_grammar.specs.Numbers as grammar;
+ghost use Rattle.ecma_grammar.specs.Numbers as numbers;
 ghost use Rattle.ecma_number.specs.WrittenNumbers.{number_of, fraction_of, exponent_of};
 
 use crate::number::runs::{has_digit, read_run};
@@ -53,7 +53,7 @@ pub(super) enum WrittenExponent<'a> {
 
 /// The radix that a letter behind `0` names.
 fn radix_of(letter: char) -> Option<Radix>
-    ensures { result ≡ grammar.radix_of letter }
+    ensures { result ≡ numbers.radix_of letter }
 {
     match letter {
         'x' | 'X' => Some(Radix::Hex),
@@ -65,7 +65,7 @@ fn radix_of(letter: char) -> Option<Radix>
 
 /// The radix with which a number begins at the cursor, and the letter that names it.
 fn prefix(input: &StringInput) -> Option<(Radix, char)>
-    ensures { result ≡ grammar.prefix (rest input.now) }
+    ensures { result ≡ numbers.prefix (rest input.now) }
 {
     if !input.is_byte(b'0') {
         return None;
@@ -77,16 +77,16 @@ fn prefix(input: &StringInput) -> Option<(Radix, char)>
 
 /// Moves behind the `n` of a big integer, where it follows a run with a digit, and answers whether it does.
 fn read_suffix(input: &mut StringInput, run: &str, radix: Radix) -> bool
-    ensures value { result ≡ grammar.is_big radix run.now (rest input.old) }
-    ensures moved { input.new ≡ passed (length (grammar.suffix_of (grammar.is_big radix run.now (rest input.old)))) input.old }
+    ensures value { result ≡ numbers.is_big radix run.now (rest input.old) }
+    ensures moved { input.new ≡ passed (length (numbers.suffix_of (numbers.is_big radix run.now (rest input.old)))) input.old }
 {
     has_digit(run, radix) && input.eat_byte(b'n')
 }
 
 /// Moves behind a point and the run behind it, where a point comes next.
 fn read_fraction<'a>(input: &mut StringInput<'a>) -> WrittenFraction<'a>
-    ensures value { fraction_of result ≡ grammar.fraction (rest input.old) }
-    ensures moved { input.new ≡ passed (length (grammar.fraction_text (grammar.fraction (rest input.old)))) input.old }
+    ensures value { fraction_of result ≡ numbers.fraction (rest input.old) }
+    ensures moved { input.new ≡ passed (length (numbers.fraction_text (numbers.fraction (rest input.old)))) input.old }
 {
     if input.eat_byte(b'.') {
         WrittenFraction::Pointed(read_run(input, Radix::Decimal))
@@ -97,8 +97,8 @@ fn read_fraction<'a>(input: &mut StringInput<'a>) -> WrittenFraction<'a>
 
 /// Moves behind a sign, where one comes next, and answers its text.
 fn read_sign<'a>(input: &mut StringInput<'a>) -> &'a str
-    ensures text { result.now ≡ grammar.sign (rest input.old) }
-    ensures moved { input.new ≡ passed (length (grammar.sign (rest input.old))) input.old }
+    ensures text { result.now ≡ numbers.sign (rest input.old) }
+    ensures moved { input.new ≡ passed (length (numbers.sign (rest input.old))) input.old }
 {
     if input.eat_byte(b'+') {
         "+"
@@ -111,15 +111,15 @@ fn read_sign<'a>(input: &mut StringInput<'a>) -> &'a str
 
 /// Whether an exponent begins with the character.
 fn is_exponent_mark(c: char) -> bool
-    ensures { result ≡ grammar.is_exponent_mark c }
+    ensures { result ≡ numbers.is_exponent_mark c }
 {
     c == 'e' || c == 'E'
 }
 
 /// Moves behind an exponent, where its mark comes next.
 fn read_exponent<'a>(input: &mut StringInput<'a>) -> WrittenExponent<'a>
-    ensures value { exponent_of result ≡ grammar.exponent (rest input.old) }
-    ensures moved { input.new ≡ passed (length (grammar.exponent_text (grammar.exponent (rest input.old)))) input.old }
+    ensures value { exponent_of result ≡ numbers.exponent (rest input.old) }
+    ensures moved { input.new ≡ passed (length (numbers.exponent_text (numbers.exponent (rest input.old)))) input.old }
 {
     match input.cur() {
         Some(mark) if is_exponent_mark(mark) => {
@@ -137,7 +137,7 @@ fn read_exponent<'a>(input: &mut StringInput<'a>) -> WrittenExponent<'a>
 
 /// Whether the run is longer than one digit and begins with `0`.
 pub(super) fn is_legacy(run: &str) -> bool
-    ensures { result ≡ grammar.is_legacy run.now }
+    ensures { result ≡ numbers.is_legacy run.now }
 {
     let bytes = run.as_bytes();
     bytes.len() > 1 && bytes[0] == b'0'
@@ -145,7 +145,7 @@ pub(super) fn is_legacy(run: &str) -> bool
 
 /// Whether `8` or `9` stands in the run.
 fn is_past_octal(run: &str) -> bool
-    ensures { result ≡ list_any grammar.is_past_octal run.now }
+    ensures { result ≡ list_any numbers.is_past_octal run.now }
 {
     let mut past = false;
     'bytes: for b in run.as_bytes() {
@@ -156,15 +156,15 @@ fn is_past_octal(run: &str) -> bool
 
 /// Whether the run is a legacy octal.
 fn is_octal_run(run: &str) -> bool
-    ensures { result ≡ grammar.is_octal_run run.now }
+    ensures { result ≡ numbers.is_octal_run run.now }
 {
     is_legacy(run) && !is_past_octal(run)
 }
 
 /// Moves behind a number without a prefix.
 fn read_decimal<'a>(input: &mut StringInput<'a>) -> WrittenNumber<'a>
-    ensures value { number_of result ≡ grammar.number_behind None (rest input.old) }
-    ensures moved { input.new ≡ passed (length (grammar.number_text (grammar.number_behind None (rest input.old)))) input.old }
+    ensures value { number_of result ≡ numbers.number_behind None (rest input.old) }
+    ensures moved { input.new ≡ passed (length (numbers.number_text (numbers.number_behind None (rest input.old)))) input.old }
 {
     let run = read_run(input, Radix::Decimal);
     if read_suffix(input, run, Radix::Decimal) {
@@ -184,9 +184,9 @@ fn read_decimal<'a>(input: &mut StringInput<'a>) -> WrittenNumber<'a>
 
 /// Reads a number with a prefix, which stands at the cursor.
 fn read_radixed<'a>(input: &mut StringInput<'a>, radix: Radix, letter: char) -> WrittenNumber<'a>
-    requires { grammar.prefix (rest input.old) ≡ Some (radix, letter) }
-    ensures value { number_of result ≡ grammar.prefixed_number radix letter (drop 2 (rest input.old)) }
-    ensures moved { input.new ≡ passed (length (grammar.number_text (grammar.prefixed_number radix letter (drop 2 (rest input.old))))) input.old }
+    requires { numbers.prefix (rest input.old) ≡ Some (radix, letter) }
+    ensures value { number_of result ≡ numbers.prefixed_number radix letter (drop 2 (rest input.old)) }
+    ensures moved { input.new ≡ passed (length (numbers.number_text (numbers.prefixed_number radix letter (drop 2 (rest input.old))))) input.old }
 {
     input.bump();
     input.bump();
@@ -202,8 +202,8 @@ fn read_radixed<'a>(input: &mut StringInput<'a>, radix: Radix, letter: char) -> 
 
 /// Moves behind the number at the cursor, and answers its parts.
 pub(super) fn read_parts<'a>(input: &mut StringInput<'a>) -> WrittenNumber<'a>
-    ensures value { number_of result ≡ grammar.number_parts (rest input.old) }
-    ensures moved { input.new ≡ passed (length (grammar.number_text (grammar.number_parts (rest input.old)))) input.old }
+    ensures value { number_of result ≡ numbers.number_parts (rest input.old) }
+    ensures moved { input.new ≡ passed (length (numbers.number_text (numbers.number_parts (rest input.old)))) input.old }
 {
     match prefix(input) {
         Some((radix, letter)) => read_radixed(input, radix, letter),
@@ -213,8 +213,8 @@ pub(super) fn read_parts<'a>(input: &mut StringInput<'a>) -> WrittenNumber<'a>
 
 /// How many bytes the fraction has.
 pub(super) fn fraction_len(fraction: WrittenFraction) -> usize
-    requires { length (grammar.fraction_text (fraction_of fraction)) < 2 ^ 32 }
-    ensures { result ≡ length (grammar.fraction_text (fraction_of fraction.entry)) }
+    requires { length (numbers.fraction_text (fraction_of fraction)) < 2 ^ 32 }
+    ensures { result ≡ length (numbers.fraction_text (fraction_of fraction.entry)) }
 {
     match fraction {
         WrittenFraction::Pointless => 0,
@@ -224,7 +224,7 @@ pub(super) fn fraction_len(fraction: WrittenFraction) -> usize
 
 /// Whether the number is a big integer.
 pub(super) fn is_big(number: &WrittenNumber) -> bool
-    ensures { result ≡ grammar.is_big_number (number_of number.now) }
+    ensures { result ≡ numbers.is_big_number (number_of number.now) }
 {
     match number {
         WrittenNumber::Radixed { big, .. } => *big,

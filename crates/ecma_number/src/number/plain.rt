@@ -8,7 +8,7 @@ ghost use Rattle.ecma_syntax.specs.declared.settings.NumberRule.{NumberRule};
 ghost use Rattle.ecma_token.specs.declared.token.Radix.TheVariants.{Decimal};
 ghost use Rattle.ecma_token.specs.View.{token_view};
 ghost use Rattle.ecma_grammar.specs.Found.{found_at, span_of, token_behind};
-ghost use Rattle.ecma_grammar.specs.Numbers as grammar;
+ghost use Rattle.ecma_grammar.specs.Numbers as numbers;
 ghost use Rattle.ecma_number.specs.PlainNumbers.{IsPlain, StartsPlain, ends_number};
 
 use ecma_place::{Atom, StringInput};
@@ -17,7 +17,7 @@ use ecma_token::{Radix, Token};
 /// Whether the byte is a decimal digit.
 #[inline(always)]
 fn is_decimal(b: u8) -> bool
-    ensures { result ≡ grammar.digit Decimal b }
+    ensures { result ≡ numbers.digit Decimal b }
 {
     b.is_ascii_digit()
 }
@@ -26,10 +26,10 @@ fn is_decimal(b: u8) -> bool
 /// of 18 digits does.
 #[inline(always)]
 fn leading_value(bytes: &[u8]) -> Option<(usize, u64)>
-    ensures count { IfSome result (λ r. r.0 ≡ prefix_len (grammar.digit Decimal) bytes.now) }
+    ensures count { IfSome result (λ r. r.0 ≡ prefix_len (numbers.digit Decimal) bytes.now) }
     ensures value { IfSome result (λ r. r.1 ≡ digits_value 10 (take r.0 bytes.now)) }
     ensures within { IfSome result (λ r. r.0 ≤ length bytes.now) }
-    ensures long { IfNone result (18 < prefix_len (grammar.digit Decimal) bytes.now) }
+    ensures long { IfNone result (18 < prefix_len (numbers.digit Decimal) bytes.now) }
 {
     let mut value: u64 = 0;
     let mut count = 0;
@@ -46,7 +46,7 @@ fn leading_value(bytes: &[u8]) -> Option<(usize, u64)>
 /// How many decimal digits the bytes begin with.
 #[inline(always)]
 fn leading_digits(bytes: &[u8]) -> usize
-    ensures count { result ≡ prefix_len (grammar.digit Decimal) bytes.now }
+    ensures count { result ≡ prefix_len (numbers.digit Decimal) bytes.now }
     ensures within { result ≤ length bytes.now }
 {
     let mut count = 0;
@@ -60,7 +60,7 @@ fn leading_digits(bytes: &[u8]) -> usize
 #[inline(always)]
 fn is_padded(bytes: &[u8], count: usize) -> bool
     requires { count ≤ length bytes.now }
-    ensures { result ≡ grammar.is_legacy (take count bytes.now) }
+    ensures { result ≡ numbers.is_legacy (take count bytes.now) }
 {
     count > 1 && bytes[0] == b'0'
 }
@@ -129,12 +129,12 @@ fn plain_extent(bytes: &[u8]) -> Option<(usize, Option<u128>)>
 /// The cursor stands at a digit, or at a point and a digit. No memory is taken.
 #[inline(always)]
 pub fn eat_plain_number<'a>(input: &mut StringInput<'a>) -> Option<Token<'a>>
-    requires { grammar.opens_number (rest input.old) ≡ true }
+    requires { numbers.opens_number (rest input.old) ≡ true }
     ensures found { IfSome result (λ t. (ts1085 : Bool) (rule : NumberRule) →
-        found_at token_behind (place input.old) (grammar.number ts1085 rule (rest input.old))
+        found_at token_behind (place input.old) (numbers.number ts1085 rule (rest input.old))
         ≡ record { value = Ok (token_view t); faults = []; extent = span_of (place input.old) (place input.new); line_break = false }) }
     ensures moved { IfSome result (λ _. (ts1085 : Bool) (rule : NumberRule) →
-        input.new ≡ passed (length (grammar.number ts1085 rule (rest input.old)).spelling) input.old) }
+        input.new ≡ passed (length (numbers.number ts1085 rule (rest input.old)).spelling) input.old) }
     ensures same { IfNone result (input.new ≡ input.old) }
     ensures answered { (start : StartsPlain (rest input.old)) → length start.run ≤ 18 → IsSome result }
 {

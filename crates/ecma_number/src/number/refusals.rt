@@ -5,7 +5,7 @@ ghost use Rattle.ecma_place.specs.Cursor.{rest, place};
 ghost use Rattle.ecma_token.specs.View.{error_view};
 ghost use Rattle.ecma_grammar.specs.Found.{error_behind};
 ghost use Rattle.ecma_grammar.specs.Fronts.{next_passes};
-ghost use Rattle.ecma_grammar.specs.Numbers as grammar;
+ghost use Rattle.ecma_grammar.specs.Numbers as numbers;
 ghost use Rattle.ecma_number.specs.WrittenNumbers.{number_of, exponent_of};
 
 use crate::number::parts::{WrittenExponent, WrittenNumber, fraction_len, is_big};
@@ -23,9 +23,9 @@ fn digit_refusal<'a>(
     start: BytePos,
 ) -> Result<Option<Error<'a>>, AllocError>
     requires fits { start.0 + length run.now < 2 ^ 32 }
-    requires run { grammar.IsRun radix run.now }
-    ensures value { IfOk result (λ r. option_map error_view r ≡ grammar.digit_refusal start.0 radix run.now) }
-    ensures free { grammar.digit_refusal start.0 radix run.now ≡ None → IsOk result }
+    requires run { numbers.IsRun radix run.now }
+    ensures value { IfOk result (λ r. option_map error_view r ≡ numbers.digit_refusal start.0 radix run.now) }
+    ensures free { numbers.digit_refusal start.0 radix run.now ≡ None → IsOk result }
 {
     if has_digit(run, radix) {
         return Ok(None);
@@ -49,11 +49,11 @@ fn exponent_refusal<'a>(
     start: BytePos,
     input: &StringInput,
 ) -> Result<Option<Error<'a>>, AllocError>
-    requires fits { start.0 + length (grammar.exponent_text (exponent_of exponent)) < 2 ^ 32 }
-    requires form { grammar.IsExponent (exponent_of exponent) }
+    requires fits { start.0 + length (numbers.exponent_text (exponent_of exponent)) < 2 ^ 32 }
+    requires form { numbers.IsExponent (exponent_of exponent) }
     ensures value { IfOk result (λ r. option_map error_view r ≡
-        grammar.exponent_refusal start.0 (exponent_of exponent.entry) (rest input.now)) }
-    ensures free { grammar.exponent_refusal start.0 (exponent_of exponent.entry) (rest input.now) ≡ None → IsOk result }
+        numbers.exponent_refusal start.0 (exponent_of exponent.entry) (rest input.now)) }
+    ensures free { numbers.exponent_refusal start.0 (exponent_of exponent.entry) (rest input.now) ≡ None → IsOk result }
 {
     match exponent {
         WrittenExponent::Unscaled => Ok(None),
@@ -81,11 +81,11 @@ fn part_refusal<'a>(
     start: BytePos,
     input: &StringInput,
 ) -> Result<Option<Error<'a>>, AllocError>
-    requires fits { start.0 + length (grammar.number_text (number_of number)) < 2 ^ 32 }
-    requires form { grammar.IsNumber (number_of number) }
+    requires fits { start.0 + length (numbers.number_text (number_of number)) < 2 ^ 32 }
+    requires form { numbers.IsNumber (number_of number) }
     ensures value { IfOk result (λ r. option_map error_view r ≡
-        option_map (error_behind start.0) (grammar.part_refusal (number_of number.entry) (rest input.now))) }
-    ensures free { grammar.part_refusal (number_of number.entry) (rest input.now) ≡ None → IsOk result }
+        option_map (error_behind start.0) (numbers.part_refusal (number_of number.entry) (rest input.now))) }
+    ensures free { numbers.part_refusal (number_of number.entry) (rest input.now) ≡ None → IsOk result }
 {
     match number {
         WrittenNumber::Radixed { radix, run, .. } => {
@@ -106,7 +106,7 @@ fn part_refusal<'a>(
 
 /// Whether the character may not stand right behind a number, big integer or not.
 fn may_not_follow(c: char, big: bool, rule: NumberRule) -> bool
-    ensures { result ≡ grammar.may_not_follow rule big c }
+    ensures { result ≡ numbers.may_not_follow rule big c }
 {
     match rule {
         NumberRule::Crate => !big && c.is_ident_start(),
@@ -116,7 +116,7 @@ fn may_not_follow(c: char, big: bool, rule: NumberRule) -> bool
 
 /// Whether such a character stands at the cursor.
 fn is_followed_wrongly(number: &WrittenNumber, input: &StringInput, rule: NumberRule) -> bool
-    ensures { result ≡ next_passes (grammar.may_not_follow rule (grammar.is_big_number (number_of number.now))) (rest input.now) }
+    ensures { result ≡ next_passes (numbers.may_not_follow rule (numbers.is_big_number (number_of number.now))) (rest input.now) }
 {
     match input.cur() {
         Some(c) => may_not_follow(c, is_big(number), rule),
@@ -131,10 +131,10 @@ fn next_refusal<'a>(
     input: &StringInput,
     rule: NumberRule,
 ) -> Result<Option<Error<'a>>, AllocError>
-    ensures value { (start : ℕ) → start + byte_len (grammar.number_text (number_of number.now)) ≡ place input.now →
+    ensures value { (start : ℕ) → start + byte_len (numbers.number_text (number_of number.now)) ≡ place input.now →
         IfOk result (λ r. option_map error_view r ≡
-        option_map (error_behind start) (grammar.next_refusal rule (number_of number.now) (rest input.now))) }
-    ensures free { grammar.next_refusal rule (number_of number.now) (rest input.now) ≡ None → IsOk result }
+        option_map (error_behind start) (numbers.next_refusal rule (number_of number.now) (rest input.now))) }
+    ensures free { numbers.next_refusal rule (number_of number.now) (rest input.now) ≡ None → IsOk result }
 {
     if !is_followed_wrongly(number, input, rule) {
         return Ok(None);
@@ -153,12 +153,12 @@ pub(super) fn refusal<'a>(
     input: &StringInput,
     rule: NumberRule,
 ) -> Result<Option<Error<'a>>, AllocError>
-    requires fits { start.0 + length (grammar.number_text (number_of number)) < 2 ^ 32 }
-    requires form { grammar.IsNumber (number_of number) }
-    requires behind { start.0 + byte_len (grammar.number_text (number_of number)) ≡ place input.now }
+    requires fits { start.0 + length (numbers.number_text (number_of number)) < 2 ^ 32 }
+    requires form { numbers.IsNumber (number_of number) }
+    requires behind { start.0 + byte_len (numbers.number_text (number_of number)) ≡ place input.now }
     ensures value { IfOk result (λ r. option_map error_view r ≡
-        option_map (error_behind start.0) (grammar.refusal rule (number_of number.entry) (rest input.now))) }
-    ensures free { grammar.refusal rule (number_of number.entry) (rest input.now) ≡ None → IsOk result }
+        option_map (error_behind start.0) (numbers.refusal rule (number_of number.entry) (rest input.now))) }
+    ensures free { numbers.refusal rule (number_of number.entry) (rest input.now) ≡ None → IsOk result }
 {
     match part_refusal(alloc, number, start, input)? {
         Some(error) => Ok(Some(error)),

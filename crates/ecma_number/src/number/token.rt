@@ -5,7 +5,7 @@ ghost use Rattle.std.specs.Str.Parse.{AllDigits};
 ghost use Rattle.ecma_place.specs.Text.{Text};
 ghost use Rattle.ecma_token.specs.View.{token_view};
 ghost use Rattle.ecma_grammar.specs.Numbers.{DecimalRun};
-ghost use Rattle.ecma_grammar.specs.Numbers as grammar;
+ghost use Rattle.ecma_grammar.specs.Numbers as numbers;
 ghost use Rattle.ecma_number.specs.WrittenNumbers.{number_of, fraction_of, exponent_of};
 
 use crate::number::digits::{digits_atom, fitting_value};
@@ -16,8 +16,8 @@ use std::alloc::{AllocError, Global};
 
 /// The digits of a number as they are written: its text without prefix and `n`.
 fn written_digits<'a>(number: WrittenNumber<'a>, raw: &'a str) -> &'a str
-    requires { raw.now ≡ grammar.number_text (number_of number) }
-    ensures { result.now ≡ grammar.written_digits (number_of number.entry) }
+    requires { raw.now ≡ numbers.number_text (number_of number) }
+    ensures { result.now ≡ numbers.written_digits (number_of number.entry) }
 {
     match number {
         WrittenNumber::Radixed { run, .. } => run,
@@ -29,7 +29,7 @@ fn written_digits<'a>(number: WrittenNumber<'a>, raw: &'a str) -> &'a str
 
 /// The radix in which the number is written.
 fn radix_of(number: &WrittenNumber) -> Radix
-    ensures { result ≡ grammar.number_radix (number_of number.now) }
+    ensures { result ≡ numbers.number_radix (number_of number.now) }
 {
     match number {
         WrittenNumber::Radixed { radix, .. } => *radix,
@@ -40,11 +40,11 @@ fn radix_of(number: &WrittenNumber) -> Radix
 
 /// The value of a decimal run with this fraction and this exponent, where it has neither: that of its digits.
 fn plain_value(fraction: &WrittenFraction, exponent: &WrittenExponent, digits: &str) -> Option<u128>
-    requires all { fraction_of fraction.now ≡ grammar.NoFraction → exponent_of exponent.now ≡ grammar.NoExponent
+    requires all { fraction_of fraction.now ≡ numbers.NoFraction → exponent_of exponent.now ≡ numbers.NoExponent
         → AllDigits 10 digits.now }
     requires some { 0 < length digits.now }
-    ensures { (run : Text) → digits.now ≡ grammar.without_separators run
-        → result ≡ grammar.whole_value (DecimalRun run (fraction_of fraction.now) (exponent_of exponent.now)) }
+    ensures { (run : Text) → digits.now ≡ numbers.without_separators run
+        → result ≡ numbers.whole_value (DecimalRun run (fraction_of fraction.now) (exponent_of exponent.now)) }
 {
     match (fraction, exponent) {
         (WrittenFraction::Pointless, WrittenExponent::Unscaled) => {
@@ -57,10 +57,10 @@ fn plain_value(fraction: &WrittenFraction, exponent: &WrittenExponent, digits: &
 /// The whole value of a number, by its digits without separators: it has one where it has neither `n`, point nor
 /// exponent, and the value fits 128 bits.
 fn whole_value(number: &WrittenNumber, digits: &str) -> Option<u128>
-    requires form { grammar.IsNumber (number_of number.now) }
-    requires digits { digits.now ≡ grammar.without_separators (grammar.written_digits (number_of number.now)) }
+    requires form { numbers.IsNumber (number_of number.now) }
+    requires digits { digits.now ≡ numbers.without_separators (numbers.written_digits (number_of number.now)) }
     requires some { 0 < length digits.now }
-    ensures { result ≡ grammar.whole_value (number_of number.now) }
+    ensures { result ≡ numbers.whole_value (number_of number.now) }
 {
     match number {
         WrittenNumber::Radixed { radix, big, .. } => {
@@ -86,11 +86,11 @@ pub(super) fn number_token<'a>(
     number: WrittenNumber<'a>,
     raw: &'a str,
 ) -> Result<Token<'a>, AllocError>
-    requires raw { raw.now ≡ grammar.number_text (number_of number) }
-    requires form { grammar.IsNumber (number_of number) }
-    requires some { 0 < length (grammar.without_separators (grammar.written_digits (number_of number))) }
-    ensures value { IfOk result (λ t. token_view t ≡ grammar.number_token (number_of number.entry)) }
-    ensures free { list_any grammar.is_separator (grammar.number_text (number_of number.entry)) ≡ false → IsOk result }
+    requires raw { raw.now ≡ numbers.number_text (number_of number) }
+    requires form { numbers.IsNumber (number_of number) }
+    requires some { 0 < length (numbers.without_separators (numbers.written_digits (number_of number))) }
+    ensures value { IfOk result (λ t. token_view t ≡ numbers.number_token (number_of number.entry)) }
+    ensures free { list_any numbers.is_separator (numbers.number_text (number_of number.entry)) ≡ false → IsOk result }
 {
     let radix = radix_of(&number);
     let digits = digits_atom(alloc, written_digits(number, raw))?;

@@ -5,8 +5,8 @@ ghost use Rattle.ecma_token.specs.View.{spanned_view};
 ghost use Rattle.ecma_place.specs.Cursor.{HasPlace, place, rest};
 ghost use Rattle.ecma_stream.specs.Plain.{back_at, Gives, IsAlone, IsBehindGap, IsKept, IsRefused, begins_word, plain_reading};
 ghost use Rattle.ecma_state.specs.Reading.{reading};
-ghost use Rattle.ecma_state.specs.TokenAt.{opening};
-ghost use Rattle.ecma_state.specs.declared.opening.Opening.TheVariants as opens;
+ghost use Rattle.ecma_state.specs.TokenAt.{lookahead};
+ghost use Rattle.ecma_state.specs.declared.lookahead.Lookahead.TheVariants as opens;
 ghost use Rattle.ecma_state.specs.Session.{lexer_state};
 ghost use Rattle.ecma_state.specs.Run.{at_place, is_free_read, mode_of};
 
@@ -17,7 +17,7 @@ use crate::plain::{
 };
 use ecma_place::BytePos;
 use ecma_scan::{BlankGap, PunctuatorKind, eat_plain_kind};
-use ecma_state::opening::Opening;
+use ecma_state::lookahead::Lookahead;
 use ecma_syntax::{IdentKind, WordKind};
 use ecma_token::TokenAndSpan;
 use std::alloc::AllocError;
@@ -136,7 +136,7 @@ impl<'a> Lexer<'a> {
         gap: BlankGap,
     ) -> Result<bool, AllocError>
         requires behind { IsBehindGap before self.old gap }
-        requires opens { opening (mode_of (lexer_state self.old)) gap.line_break (rest self.old.input) ≡ opens.Other }
+        requires opens { lookahead (mode_of (lexer_state self.old)) gap.line_break (rest self.old.input) ≡ opens.Other }
         ensures done { IfOk result (λ done. Gives (back_at before self.old) self.new slot.old slot.new done) }
         ensures refused { OnErr result (IsRefused self.old self.new slot.old slot.new) }
         ensures free { length self.old.state.contexts < 128 → IsOk result }
@@ -164,7 +164,7 @@ impl<'a> Lexer<'a> {
         gap: BlankGap,
     ) -> Result<bool, AllocError>
         requires behind { IsBehindGap before self.old gap }
-        requires opens { opening (mode_of (lexer_state self.old)) gap.line_break (rest self.old.input) ≡ opens.String }
+        requires opens { lookahead (mode_of (lexer_state self.old)) gap.line_break (rest self.old.input) ≡ opens.String }
         ensures done { IfOk result (λ done. Gives (back_at before self.old) self.new slot.old slot.new done) }
         ensures refused { OnErr result (IsRefused self.old self.new slot.old slot.new) }
         ensures free { length self.old.state.contexts < 128 → is_free_read (lexer_state (back_at before self.old)) ≡ true → IsOk result }
@@ -190,7 +190,7 @@ impl<'a> Lexer<'a> {
         gap: BlankGap,
     ) -> Result<bool, AllocError>
         requires behind { IsBehindGap before self.old gap }
-        requires opens { opening (mode_of (lexer_state self.old)) gap.line_break (rest self.old.input) ≡ opens.Number }
+        requires opens { lookahead (mode_of (lexer_state self.old)) gap.line_break (rest self.old.input) ≡ opens.Number }
         ensures done { IfOk result (λ done. Gives (back_at before self.old) self.new slot.old slot.new done) }
         ensures refused { OnErr result (IsRefused self.old self.new slot.old slot.new) }
         ensures free { length self.old.state.contexts < 128 → is_free_read (lexer_state (back_at before self.old)) ≡ true → IsOk result }
@@ -223,11 +223,11 @@ impl<'a> Lexer<'a> {
         ensures free { length self.old.state.contexts < 128 → is_free_read (lexer_state (back_at before self.old)) ≡ true → IsOk result }
     {
         let mode = self.mode();
-        match Opening::at(&self.input, &mode, gap.line_break, gap.next as char) {
-            Opening::Other => self.give_punctuator(slot, before, gap),
-            Opening::String => self.give_string(slot, before, gap),
-            Opening::Number => self.give_number(slot, before, gap),
-            Opening::Word | Opening::Template | Opening::Bars => {
+        match Lookahead::at(&self.input, &mode, gap.line_break, gap.next as char) {
+            Lookahead::Other => self.give_punctuator(slot, before, gap),
+            Lookahead::String => self.give_string(slot, before, gap),
+            Lookahead::Number => self.give_number(slot, before, gap),
+            Lookahead::Word | Lookahead::Template | Lookahead::Bars => {
                 self.go_before(before);
                 Ok(false)
             }

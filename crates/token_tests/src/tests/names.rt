@@ -1,19 +1,19 @@
 //! The parser's errors that hold nothing, by their names as constants of `SyntaxError`.
 
-use ecma_token::{PlainError, SyntaxError};
+use ecma_token::{FixedError, SyntaxError};
 
-// Each name is that of a constant and of the `PlainError` that it stands for.
+// Each name is that of a constant and of the `FixedError` that it stands for.
 macro_rules! named_among {
     ($error:expr; $($name:ident),* $(,)?) => {
         match $error {
-            $(&SyntaxError::$name => Some(PlainError::$name),)*
+            $(&SyntaxError::$name => Some(FixedError::$name),)*
             _ => None,
         }
     };
 }
 
 // The first of the constants that this error is: each error has to be its own.
-pub fn named(error: &SyntaxError) -> Option<PlainError> {
+pub fn named(error: &SyntaxError) -> Option<FixedError> {
     named_among!(
         error;
         Eof, DeclNotAllowed, UsingDeclNotAllowed, UsingDeclNotAllowedForForInLoop,

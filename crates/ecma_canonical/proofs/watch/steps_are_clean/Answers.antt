@@ -1,6 +1,6 @@
 use Rattle.std.proofs.Common.{◌∙◌, ap, drop, map}
 use Rattle.ecma_replay.specs.Replay.{answer_view}
-use Rattle.ecma_canonical.specs.Watching.{followed_all, none_kept}
+use Rattle.ecma_canonical.specs.Watching.{followed_all, nothing_watched}
 use Rattle.ecma_canonical.proofs.WatchLemmas.{followed-end, followed-more}
 use Rattle.ecma_canonical.proofs.watch.steps_are_clean.Goals as goal
 
@@ -11,4 +11,4 @@ steps-preserved c =
 
 pub returns : goal.returns
 returns c =
-    ap (λ w. w.watch.is_clean) (c.watcher-2.view_is ∙ followed-end c.steps.watcher (followed_all none_kept c.args.steps.now (map answer_view c.args.answers.now)) c.args.steps.now (map answer_view (drop c.steps.i c.args.answers.now)) c.steps.i c.steps-test.false c.steps.invariant)
+    ap (λ w. w.watch.is_clean) (c.watcher-2.view_is ∙ followed-end c.steps.watcher (followed_all nothing_watched c.args.steps.now (map answer_view c.args.answers.now)) c.args.steps.now (map answer_view (drop c.steps.i c.args.answers.now)) c.steps.i c.steps-test.false c.steps.invariant)

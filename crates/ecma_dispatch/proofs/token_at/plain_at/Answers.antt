@@ -1,7 +1,7 @@
 use Rattle.std.proofs.Common.{◌≡◌, true}
 use Rattle.ecma_place.specs.Cursor.{rest}
 use Rattle.ecma_state.specs.TokenAt.{is_free_token, read_opened}
-use Rattle.ecma_state.specs.declared.opening.Opening.TheVariants as opens
+use Rattle.ecma_state.specs.declared.lookahead.Lookahead.TheVariants as opens
 use Rattle.ecma_dispatch.proofs.TokenLemmas.{borrowed-token, free-parts}
 use Rattle.ecma_dispatch.proofs.token_at.plain_at.Goals as goal
 

@@ -1,7 +1,7 @@
 use Rattle.std.proofs.Common.{◌≤◌, ◌+◌, length, drop, arith}
 use Rattle.ecma_place.specs.Cursor.{rest}
 use Rattle.ecma_grammar.specs.Escapes.{hex_escape, escape_spelling}
-use Rattle.ecma_escape.specs.EscapeAnswers.{use_of, digit_front}
+use Rattle.ecma_escape.specs.EscapeMeanings.{use_of, digit_front}
 use Rattle.ecma_grammar.proofs.EscapeLaws.{hex_size}
 use Rattle.ecma_escape.proofs.EscapeForms.{hex-of, answers-whole, onward}
 use Rattle.ecma_grammar.proofs.SignLemmas.{rest-behind}

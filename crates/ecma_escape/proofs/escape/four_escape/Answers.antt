@@ -1,7 +1,7 @@
 use Rattle.std.proofs.Common.{◌≡◌, length, ◌∙◌, arith}
 use Rattle.std.proofs.lemmas.Bool.Decides.{nat_tests}
 use Rattle.ecma_place.specs.Cursor.{rest}
-use Rattle.ecma_escape.specs.EscapeAnswers.{digit_front}
+use Rattle.ecma_escape.specs.EscapeMeanings.{digit_front}
 use Rattle.ecma_escape.proofs.EscapeReading.{parsed-ok, parsed-err, front-digits}
 use Rattle.ecma_escape.proofs.EscapeForms.{four_accepts, four_refuses, short_value}
 use Rattle.ecma_escape.proofs.escape.four_escape.Goals as goal

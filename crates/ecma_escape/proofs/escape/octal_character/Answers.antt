@@ -2,7 +2,7 @@ use Rattle.std.proofs.Common.{◌≡◌, ◌<◌, ◌∙◌, ap, take, length, a
 use Rattle.std.specs.Str.Parse.{digits_value}
 use Rattle.ecma_place.specs.Cursor.{rest, passed}
 use Rattle.ecma_grammar.specs.Escapes.{octal_front, octal_digits}
-use Rattle.ecma_escape.specs.EscapeAnswers.{digit_front}
+use Rattle.ecma_escape.specs.EscapeMeanings.{digit_front}
 use Rattle.ecma_escape.proofs.EscapeReading.{front-digits}
 use Rattle.ecma_escape.proofs.EscapeForms.{octal-low, octal-high, parsed_is-ok, parsed_is-value}
 use Rattle.ecma_escape.proofs.escape.octal_character.Goals.{then-first-le51, else-first-le51}

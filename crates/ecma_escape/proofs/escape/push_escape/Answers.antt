@@ -3,8 +3,8 @@ use Rattle.ecma_place.specs.Cursor.{rest, place}
 use Rattle.ecma_place.proofs.MoveLemmas.{place-passed-le}
 use Rattle.ecma_place.proofs.RunLemmas.{further-start, further-step, further-HasPlace}
 use Rattle.ecma_grammar.specs.Found.{error_behind}
-use Rattle.ecma_escape.specs.EscapeAnswers.{use_of}
-use Rattle.ecma_escape.specs.declared.escape.Answer.TheVariants as answer
+use Rattle.ecma_escape.specs.EscapeMeanings.{use_of}
+use Rattle.ecma_escape.specs.declared.escape.Meaning.TheVariants as answer
 use Rattle.std.specs.Prelude.{option_map}
 use Rattle.ecma_escape.proofs.EscapeSpans.{IsRead, refused-error, escape-text, value-behind, faults-behind, not-refused, octal-room, nothing-is}
 use Rattle.ecma_escape.proofs.escape.push_escape.Goals as goal

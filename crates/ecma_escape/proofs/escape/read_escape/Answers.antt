@@ -1,9 +1,9 @@
 use Rattle.std.proofs.Common.{◌≤◌, ◌∙◌, ap, sym, refl, length, drop, arith, slice_get}
 use Rattle.ecma_place.specs.Cursor.{rest, passed}
 use Rattle.ecma_grammar.specs.Fronts.{next_is}
-use Rattle.ecma_grammar.specs.Escapes.{escape_behind, escape_of, opening, escape_spelling, unicode_escape}
-use Rattle.ecma_escape.specs.EscapeAnswers.{use_of}
-use Rattle.ecma_escape.specs.declared.escape.Answer.TheVariants as answer
+use Rattle.ecma_grammar.specs.Escapes.{escape_behind, escape_of, lead, escape_spelling, unicode_escape}
+use Rattle.ecma_escape.specs.EscapeMeanings.{use_of}
+use Rattle.ecma_escape.specs.declared.escape.Meaning.TheVariants as answer
 use Rattle.ecma_escape.specs.declared.escape.Refusal.TheVariants as because
 use Rattle.ecma_grammar.proofs.EscapeLaws.{unicode_size, escape_some}
 use Rattle.ecma_escape.proofs.EscapeForms.{eaten-is, at-letter, at-other, at-end, in-word, not-first, answers-whole, onward, onward-all}
@@ -92,8 +92,8 @@ returns-in-Some-clause-answer c =
     let stays = rw c.if-eat_byte.false at c.eat_byte.ensures.moved in
     let there = ap rest stays ∙ here in
     let at = ap (λ t. slice_get t 0) (sym there) ∙ sym c.in-Some.ensures.first in
-    let part = escape_of within (opening first) first (drop 1 (rest c.eat_byte.new.self)) in
-    let same = ap (λ t. escape_of within (opening first) first (drop 1 t)) there ∙ at-other within text first at in
+    let part = escape_of within (lead first) first (drop 1 (rest c.eat_byte.new.self)) in
+    let same = ap (λ t. escape_of within (lead first) first (drop 1 t)) there ∙ at-other within text first at in
     answers-whole within c.escape_at.result part (escape_behind within text) same c.escape_at.ensures.answer
 
 pub returns-in-Some-clause-moved : goal.returns-in-Some-clause-moved
@@ -105,8 +105,8 @@ returns-in-Some-clause-moved c =
     let stays = rw c.if-eat_byte.false at c.eat_byte.ensures.moved in
     let there = ap rest stays ∙ here in
     let at = ap (λ t. slice_get t 0) (sym there) ∙ sym c.in-Some.ensures.first in
-    let part = escape_of within (opening first) first (drop 1 (rest c.eat_byte.new.self)) in
-    let same = ap (λ t. escape_of within (opening first) first (drop 1 t)) there ∙ at-other within text first at in
+    let part = escape_of within (lead first) first (drop 1 (rest c.eat_byte.new.self)) in
+    let same = ap (λ t. escape_of within (lead first) first (drop 1 t)) there ∙ at-other within text first at in
     let size = ap (λ e. length (escape_spelling e)) same in
     let long : 1 ≤ length (escape_spelling part) = omega (arith, escape_some within text, size) in
     onward-all c.args.input.now c.eat_byte.new.self c.escape_at.new.input part (escape_behind within text) same (stays ∙ c.bump.ensures) c.escape_at.ensures.moved long

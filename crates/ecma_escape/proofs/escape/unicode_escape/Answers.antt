@@ -2,7 +2,7 @@ use Rattle.std.proofs.Common.{◌∙◌, sym}
 use Rattle.ecma_place.specs.Cursor.{rest}
 use Rattle.ecma_grammar.specs.Escapes.{hex_front, is_hex_digit, braced_escape, four_escape, unicode_escape}
 use Rattle.ecma_grammar.specs.Fronts.{after}
-use Rattle.ecma_escape.specs.EscapeAnswers.{digit_front}
+use Rattle.ecma_escape.specs.EscapeMeanings.{digit_front}
 use Rattle.ecma_escape.proofs.EscapeForms.{unicode-braced, unicode-four, eaten-is, answers-whole, onward, braced_long, same-move}
 use Rattle.ecma_grammar.proofs.SignLemmas.{rest-behind}
 use Rattle.ecma_escape.proofs.escape.unicode_escape.Goals as goal

@@ -3,7 +3,7 @@ use Rattle.std.specs.Prelude.{string_bytes}
 use Rattle.ecma_place.specs.Character.{is_ident_part}
 use Rattle.ecma_place.specs.Cursor.{rest}
 use Rattle.ecma_token.specs.View.{error_view}
-use Rattle.ecma_escape.specs.EscapeAnswers.{opens_escape}
+use Rattle.ecma_escape.specs.EscapeMeanings.{opens_escape}
 use Rattle.ecma_grammar.specs.Found.{fault_view, value_view}
 use Rattle.ecma_escape.proofs.NameReading.{plain-name, escaped-text, bad-text, not-borrowed, first-behind}
 use Rattle.ecma_escape.proofs.PieceReading.{run-stops}

@@ -4,7 +4,7 @@ use Rattle.ecma_place.specs.Cursor.{place}
 use Rattle.ecma_place.proofs.MoveLemmas.{place-passed-le}
 use Rattle.ecma_place.proofs.RunLemmas.{further-start, further-step, further-HasPlace}
 use Rattle.ecma_escape.specs.declared.escape.Use.TheVariants as place_of
-use Rattle.ecma_escape.specs.declared.escape.Answer.TheVariants as answer
+use Rattle.ecma_escape.specs.declared.escape.Meaning.TheVariants as answer
 use Rattle.ecma_grammar.specs.Escapes.{InWord}
 use Rattle.ecma_grammar.specs.Found.{fault_view, error_behind}
 use Rattle.ecma_escape.specs.NameParts.{named_faults, is_named}

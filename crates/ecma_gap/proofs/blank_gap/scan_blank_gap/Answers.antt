@@ -3,7 +3,7 @@ use Rattle.std.specs.Prelude.{IfSome}
 use Rattle.ecma_gap.specs.BlankGaps.{IsTold}
 use Rattle.ecma_gap.proofs.BlankGapLemmas.{told-gap}
 use Rattle.ecma_gap.proofs.PlainCommentLemmas.{ahead-more, answer-apart, answer-behind, answer-told, answer-white, told-behind}
-use Rattle.ecma_gap.proofs.ReadingLemmas.{white-stops}
+use Rattle.ecma_gap.proofs.GapSoFarLemmas.{white-stops}
 use Rattle.ecma_gap.proofs.blank_gap.scan_blank_gap.Goals as goal
 use Rattle.ecma_gap.proofs.blank_gap.scan_blank_gap.Goals.{else-is_none-via-then-is_none+then-not-collect+else-is_byte, else-is_none-via-then-is_none+else-not-collect, else-is_none-via-else-is_none}
 

@@ -5,7 +5,7 @@ use Rattle.std.specs.Str.{chars}
 use Rattle.ecma_place.specs.Cursor.{Cursor, rest, place, passed}
 use Rattle.ecma_place.proofs.MoveLemmas.{place-passed-le}
 use Rattle.ecma_grammar.specs.Gaps.{comment_body, block_of, body_before, element_text}
-use Rattle.ecma_gap.specs.Readings.{reading_view, with_element}
+use Rattle.ecma_gap.specs.GapRecords.{gap_so_far, with_element}
 use Rattle.ecma_gap.proofs.BodyLemmas.{body-ended}
 use Rattle.ecma_gap.proofs.ElementLemmas.{block-closed, block-open, closed-said, open-said, open-free}
 use Rattle.ecma_grammar.proofs.SignLemmas.{signs-within, rest-behind, ending-seen}
@@ -30,24 +30,24 @@ pub returns-in_err-add_fault-clause-free : goal.returns-in_err-add_fault-clause-
 returns-in_err-add_fault-clause-free c =
     let d = drop 2 (rest c.args.input.now) in
     let none = is_ended _ _ _ false c.read_body-terminator.ensures.moved c.is_str.ensures c.if-is_str.false in
-    λ h. absurd (open-free c.args.mode.now (reading_view c.args.reading.now) (place c.args.input.now) (rest c.args.input.now) (comment_body d) d (ap (λ t. is_some (comment_body t)) (sym (rest-behind _ _ 2 c.pass.ensures)) ∙ none) h)
+    λ h. absurd (open-free c.args.mode.now (gap_so_far c.args.so_far.now) (place c.args.input.now) (rest c.args.input.now) (comment_body d) d (ap (λ t. is_some (comment_body t)) (sym (rest-behind _ _ 2 c.pass.ensures)) ∙ none) h)
 
-pub returns-clause-reading : goal.returns-clause-reading
-returns-clause-reading c =
-    let r = reading_view c.args.reading.now in
+pub returns-clause-so_far : goal.returns-clause-so_far
+returns-clause-so_far c =
+    let r = gap_so_far c.args.so_far.now in
     let body = c.read_body-terminator.ensures in
     elim c.if-is_str.branch [
       | then-is_str+in_ok-add_comment w ↦
           let some = is_ended _ _ _ true body.moved c.is_str.ensures w.if-is_str.true in
           let is = block-closed c.args.input.now _ _ _ c.requires c.pass.ensures body.moved some w.pass-then-is_str.ensures in
-          closed-said c.args.mode.now r (reading_view c.if-is_str.reading) _ c.args.input.now c.pass.new.input _ _ _ _ _ some is c.cur_pos-start.ensures w.cur_pos.ensures body.text body.terminator
-          (ap reading_view w.reading-is ∙ (rw (w.from.ensures, w.new-span.ensures) at w.in_ok-add_comment.ensures.reading)) refl
+          closed-said c.args.mode.now r (gap_so_far c.if-is_str.so_far) _ c.args.input.now c.pass.new.input _ _ _ _ _ some is c.cur_pos-start.ensures w.cur_pos.ensures body.text body.terminator
+          (ap gap_so_far w.so_far-is ∙ (rw (w.from.ensures, w.new-span.ensures) at w.in_ok-add_comment.ensures.so_far)) refl
           ∙ ap (λ d. with_element c.args.mode.now (place c.args.input.now) (rest c.args.input.now) (block_of (comment_body d) d) r) (rest-behind _ _ 2 c.pass.ensures)
       | else-is_str+in_ok-add_fault w ↦
           let none = is_ended _ _ _ false body.moved c.is_str.ensures w.if-is_str.false in
           let is = block-open c.args.input.now _ _ c.requires c.pass.ensures body.moved none in
-          open-said c.args.mode.now r (reading_view c.if-is_str.reading) _ c.args.input.now c.pass.new.input _ _ _ _ none is c.cur_pos-start.ensures w.cur_pos-else-is_str.ensures body.terminator
-          (ap reading_view w.reading-is ∙ (rw w.new-span-else-is_str.ensures at w.in_ok-add_fault.ensures)) refl
+          open-said c.args.mode.now r (gap_so_far c.if-is_str.so_far) _ c.args.input.now c.pass.new.input _ _ _ _ none is c.cur_pos-start.ensures w.cur_pos-else-is_str.ensures body.terminator
+          (ap gap_so_far w.so_far-is ∙ (rw w.new-span-else-is_str.ensures at w.in_ok-add_fault.ensures)) refl
           ∙ ap (λ d. with_element c.args.mode.now (place c.args.input.now) (rest c.args.input.now) (block_of (comment_body d) d) r) (rest-behind _ _ 2 c.pass.ensures)
     ]
 

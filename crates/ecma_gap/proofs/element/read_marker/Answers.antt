@@ -3,7 +3,7 @@ use Rattle.ecma_place.specs.Cursor.{Cursor, passed, place}
 use Rattle.ecma_place.proofs.MoveLemmas.{place-passed-le}
 use Rattle.ecma_grammar.specs.Comments.{marker_margin}
 use Rattle.ecma_grammar.specs.Found.{span_of}
-use Rattle.ecma_gap.specs.Readings.{reading_view}
+use Rattle.ecma_gap.specs.GapRecords.{gap_so_far}
 use Rattle.ecma_gap.proofs.ElementLemmas.{marker-said, marker-moved, marker-places, two-moves, margin-within, signs-left, space-left}
 use Rattle.ecma_grammar.proofs.SignLemmas.{rest-behind}
 use Rattle.ecma_gap.proofs.element.read_marker.Goals as goal
@@ -32,12 +32,12 @@ returns-clause-span c =
     let high = c.cur_pos.ensures ∙ marker-places c.args.first c.args.input.now _ 7 c.requires.signs c.requires.ascii (omega arith) behind in
     c.new-span.ensures ∙ ap (λ (low : ℕ). span_of low c.cur_pos.result.0) c.cur_pos-start.ensures ∙ ap (λ (n : ℕ). span_of (place c.args.input.now) n) high
 
-pub returns-clause-reading : goal.returns-clause-reading
-returns-clause-reading c =
+pub returns-clause-so_far : goal.returns-clause-so_far
+returns-clause-so_far c =
     let behind = seventh _ _ _ _ c.args.first c.marker_margin-margin.ensures c.pass.ensures c.pass-2.ensures in
-    marker-said c.args.mode.now (reading_view c.args.reading.now) _ _ _ c.args.first _ c.args.input.now _ _ _ _ _ _ _ c.requires.signs c.requires.ascii c.requires.plain c.requires.space
+    marker-said c.args.mode.now (gap_so_far c.args.so_far.now) _ _ _ c.args.first _ c.args.input.now _ _ _ _ _ _ _ c.requires.signs c.requires.ascii c.requires.plain c.requires.space
     c.cur_pos-start.ensures (rw c.marker_margin-margin.ensures at c.pass.ensures) (margin-within c.args.first) c.cur_pos-comment.ensures behind c.cur_pos.ensures
-    c.space_before_text.ensures c.pass-3.ensures c.read_comment_line.ensures.moved c.in_ok-open_at.ensures.reading (rw c.new-span.ensures at c.in_ok-add_fault.ensures) c.in_ok-read_comment_line.ensures.reading
+    c.space_before_text.ensures c.pass-3.ensures c.read_comment_line.ensures.moved c.in_ok-open_at.ensures.so_far (rw c.new-span.ensures at c.in_ok-add_fault.ensures) c.in_ok-read_comment_line.ensures.so_far
 
 pub returns-clause-moved : goal.returns-clause-moved
 returns-clause-moved c =

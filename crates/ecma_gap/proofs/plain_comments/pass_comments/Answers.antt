@@ -1,5 +1,5 @@
 use Rattle.std.proofs.Common.{◌||◌}
-use Rattle.ecma_gap.proofs.ReadingLemmas.{white-stops}
+use Rattle.ecma_gap.proofs.GapSoFarLemmas.{white-stops}
 use Rattle.ecma_gap.proofs.PlainCommentLemmas.{ahead-more, answer-passed, same-comment, same-white, told-passed}
 use Rattle.ecma_gap.proofs.plain_comments.pass_comments.Goals as goal
 

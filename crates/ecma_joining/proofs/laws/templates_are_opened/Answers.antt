@@ -1,4 +1,4 @@
-use Rattle.ecma_joining.proofs.PlainContextsLemmas.{templates_are_opened}
+use Rattle.ecma_joining.proofs.OwnContextsLemmas.{templates_are_opened}
 use Rattle.ecma_joining.proofs.laws.templates_are_opened.Goals as goal
 
 pub returns : goal.returns

@@ -1,7 +1,7 @@
 use Rattle.std.proofs.Common.{◌≡◌, ap, sym, ◌∙◌, refl, map, true, false, Ok}
 use Rattle.std.specs.Prelude.{string_bytes}
 use Rattle.ecma_token.specs.View.{error_view}
-use Rattle.ecma_escape.specs.EscapeAnswers.{opens_escape}
+use Rattle.ecma_escape.specs.EscapeMeanings.{opens_escape}
 use Rattle.ecma_place.specs.Cursor.{rest}
 use Rattle.ecma_grammar.specs.Found.{fault_view, value_view}
 use Rattle.ecma_escape.proofs.StringReading.{plain-value, escaped-value, bad-value, not-borrowed}

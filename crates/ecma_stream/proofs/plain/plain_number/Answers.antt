@@ -4,7 +4,7 @@ use Rattle.ecma_place.proofs.MoveLemmas.{place-passed-le}
 use Rattle.ecma_syntax.specs.declared.settings.NumberRule.TheVariants.{Crate}
 use Rattle.ecma_scan.specs.Numbers.{number}
 use Rattle.ecma_state.specs.TokenAt.{is_free_token, ts1085}
-use Rattle.ecma_state.specs.declared.opening.Opening.TheVariants as opens
+use Rattle.ecma_state.specs.declared.lookahead.Lookahead.TheVariants as opens
 use Rattle.ecma_dispatch.proofs.TokenLemmas.{free-parts, no-separator, ok-accepted}
 use Rattle.ecma_stream.proofs.plain.plain_number.Goals as goal
 

@@ -2,7 +2,7 @@ use Rattle.std.proofs.Common.{◌≡◌, true, subst, sym}
 use Rattle.ecma_place.specs.Cursor.{Cursor, rest}
 use Rattle.ecma_scan.specs.Strings.{string_literal}
 use Rattle.ecma_state.specs.TokenAt.{is_free_token}
-use Rattle.ecma_state.specs.declared.opening.Opening.TheVariants as opens
+use Rattle.ecma_state.specs.declared.lookahead.Lookahead.TheVariants as opens
 use Rattle.ecma_dispatch.proofs.TokenLemmas.{borrowed-token, free-parts}
 use Rattle.ecma_stream.proofs.plain.plain_string.Goals as goal
 

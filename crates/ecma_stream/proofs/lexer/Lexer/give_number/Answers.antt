@@ -4,7 +4,7 @@ use Rattle.ecma_token.specs.View.{spanned_view}
 use Rattle.ecma_token.specs.declared.token.TokenAndSpan.{TokenAndSpan}
 use Rattle.ecma_state.specs.Run.{mode_of}
 use Rattle.ecma_state.specs.Session.{lexer_state}
-use Rattle.ecma_state.specs.TokenAt.{opening}
+use Rattle.ecma_state.specs.TokenAt.{lookahead}
 use Rattle.ecma_state.specs.declared.mode.Mode.{Mode}
 use Rattle.ecma_stream.specs.Plain.{IsPlain, plain_reading}
 use Rattle.ecma_stream.proofs.ArmLemmas.{arm-read, moved-lexer}
@@ -21,7 +21,7 @@ give-requires-clause-found c =
     let mode = c.mode-mode.ensures ∙ ap (λ k. mode_of (lexer_state k)) (sym c.self.view_is) in
     let token = rw c.in-Some.is at c.in_ok-token.ensures.token in
     let flag = rw c.in-Some.is at c.in_ok-token.ensures.flag in
-    let opens = ap (λ m. opening m gap.line_break (rest a.input)) mode ∙ ap (λ k. opening (mode_of (lexer_state k)) gap.line_break (rest k.input)) c.self.view_is ∙ c.requires.opens in
+    let opens = ap (λ m. lookahead m gap.line_break (rest a.input)) mode ∙ ap (λ k. lookahead (mode_of (lexer_state k)) gap.line_break (rest k.input)) c.self.view_is ∙ c.requires.opens in
     let is = plain-of-number c.mode-mode.result gap.line_break a.input now t opens token flag c.in_ok-token.ensures.moved in
     let read = arm-read c.args.before a c.args.self.now gap t now _ c.self.view_is c.requires.behind flag (subst (λ (m : Mode). IsPlain m t a.input now) mode is) c.in_ok-token.ensures.moved in
     read ∙ ap (λ (t : TokenAndSpan). plain_reading (spanned_view t) now) (sym c.with_kept.ensures.token)

@@ -17,8 +17,8 @@ use Rattle.ecma_grammar.specs.Fronts.{after, next_passes}
 use Rattle.ecma_grammar.specs.Gaps.{Element, Blank, element_faults, element_text, end_of, flag_behind, faults_of, gap_cutter, is_common, pending_behind, pending_fault}
 use Rattle.ecma_grammar.specs.Pieces.{Cutter, pieces, spelled}
 use Rattle.ecma_grammar.specs.GapViews.{GapView}
-use Rattle.ecma_gap.specs.Readings.{ReadingView, found_with, with_element, with_flag, with_next, next_text, element_comments, NextAddsNothing, IsEmpty}
-use Rattle.ecma_grammar.proofs.AttachmentLemmas.{after-white}
+use Rattle.ecma_gap.specs.GapRecords.{GapSoFarView, found_with, with_element, with_flag, with_next, next_text, element_comments, NextAddsNothing, IsEmpty}
+use Rattle.ecma_grammar.proofs.ForNextLemmas.{after-white}
 use Rattle.ecma_gap.proofs.BarsLaws.{common_is_cutter}
 use Rattle.ecma_gap.proofs.ElementLemmas.{none-collected}
 use Rattle.ecma_grammar.proofs.EmptyLists.{append-none}
@@ -40,10 +40,10 @@ pub record Whole : Type 0 where
   pub ends : Cursor
   pub found : GapView
 
-abbrev pub whole_of : GapMode → Cursor → ReadingView → List Element → Whole
+abbrev pub whole_of : GapMode → Cursor → GapSoFarView → List Element → Whole
 whole_of mode now r es = record { ends = passed (length (spelled (gap_cutter mode) es)) now; found = found_with mode (place now) (rest now) es r }
 
-unfoldable pub whole : {S : Type 0} → Cutter S Element → (Bool → S) → GapMode → Cursor → ReadingView → Whole
+unfoldable pub whole : {S : Type 0} → Cutter S Element → (Bool → S) → GapMode → Cursor → GapSoFarView → Whole
 whole cutter state mode now r = whole_of mode now r (pieces cutter (state r.flag) (rest now))
 
 -- One element
@@ -55,7 +55,7 @@ collected-append false xs ys = refl
 view : Bool → List (Comment × Bool) → List Fault → GapView
 view flag comments faults = record { line_break = flag; comments = comments; faults = faults }
 
-pub found-step : (mode : GapMode) (n : ℕ) (text : Text) (e : Element) (es : List Element) (r : ReadingView)
+pub found-step : (mode : GapMode) (n : ℕ) (text : Text) (e : Element) (es : List Element) (r : GapSoFarView)
     → found_with mode (end_of n e) (behind_element e text) es (with_element mode n text e r) ≡ found_with mode n text (e ∷ es) r
 unfolding view
 found-step mode n text e es r =
@@ -94,7 +94,7 @@ elements-more cutter state reads flag text e is =
     ∙ ap (λ t. e ∷ pieces cutter (cutter.next (state flag) e) (drop (length t) text)) (reads.spelling e)
     ∙ ap (λ s. e ∷ pieces cutter s (behind_element e text)) (reads.next flag e)
 
-pub whole-step : {S : Type 0} (cutter : Cutter S Element) (state : Bool → S) → ReadsElements cutter state → (mode : GapMode) (now next : Cursor) (r after : ReadingView) (e : Element)
+pub whole-step : {S : Type 0} (cutter : Cutter S Element) (state : Bool → S) → ReadsElements cutter state → (mode : GapMode) (now next : Cursor) (r after : GapSoFarView) (e : Element)
     → cutter.read (state r.flag) (rest now) ≡ Some e → next ≡ passed (length (element_text e)) now → after ≡ with_element mode (place now) (rest now) e r
     → whole cutter state mode next after ≡ whole cutter state mode now r
 unfolding whole
@@ -104,7 +104,7 @@ whole-step cutter state reads mode now next r after e is moved said =
     let es = pieces cutter (state (flag_behind r.flag e)) (behind_element e (rest now)) in
     let ends : passed (length (spelled (gap_cutter mode) es)) next ≡ passed (length (element_text e ++ spelled (gap_cutter mode) es)) now =
     ap (λ (c : Cursor). passed (length (spelled (gap_cutter mode) es)) c) moved ∙ sym (passed-later-by now _ _ _ (length-append (element_text e) (spelled (gap_cutter mode) es))) in
-    ap (λ (v : ReadingView). whole_of mode next v (pieces cutter (state v.flag) (rest next))) said
+    ap (λ (v : GapSoFarView). whole_of mode next v (pieces cutter (state v.flag) (rest next))) said
     ∙ ap (λ t. whole_of mode next it (pieces cutter (state (flag_behind r.flag e)) t)) b.rest_is
     ∙ ap (λ n. let w : Whole = record { ends = passed (length (spelled (gap_cutter mode) es)) next; found = found_with mode n (rest next) es it } in w) b.place_is
     ∙ ap (λ t. let w : Whole = record { ends = passed (length (spelled (gap_cutter mode) es)) next; found = found_with mode (end_of (place now) e) t es it } in w) b.rest_is
@@ -115,25 +115,25 @@ whole-step cutter state reads mode now next r after e is moved said =
 passed-nothing : (c : Cursor) → passed 0 c ≡ c
 passed-nothing c = ap (λ (n : ℕ). let moved : Cursor = record { start = c.start; text = c.text; at = n } in moved) (let same : c.at + 0 ≡ c.at = omega arith in same)
 
-pub whole-next : {S : Type 0} (cutter : Cutter S Element) (state : Bool → S) → ReadsElements cutter state → (mode : GapMode) (now next : Cursor) (r after : ReadingView)
+pub whole-next : {S : Type 0} (cutter : Cutter S Element) (state : Bool → S) → ReadsElements cutter state → (mode : GapMode) (now next : Cursor) (r after : GapSoFarView)
     → next ≡ passed (length (next_text (cutter.read (state r.flag) (rest now)))) now → after ≡ with_next mode (place now) (rest now) (cutter.read (state r.flag) (rest now)) r
     → whole cutter state mode next after ≡ whole cutter state mode now r
 whole-next {S} cutter state reads mode now next r after moved said = go (cutter.read (state r.flag) (rest now)) refl moved said
   where
     go : (o : Option Element) → cutter.read (state r.flag) (rest now) ≡ o → next ≡ passed (length (next_text o)) now → after ≡ with_next mode (place now) (rest now) o r
         → whole cutter state mode next after ≡ whole cutter state mode now r
-    go None is m s = ap (λ (c : Cursor). whole cutter state mode c after) (m ∙ passed-nothing now) ∙ ap (λ (v : ReadingView). whole cutter state mode now v) s
+    go None is m s = ap (λ (c : Cursor). whole cutter state mode c after) (m ∙ passed-nothing now) ∙ ap (λ (v : GapSoFarView). whole cutter state mode now v) s
     go (Some e) is m s = whole-step cutter state reads mode now next r after e is m s
 
 -- where nothing is read nothing changes
-pub next-ended : {S : Type 0} (cutter : Cutter S Element) (state : Bool → S) (mode : GapMode) (now next : Cursor) (r after : ReadingView) (more : Bool)
+pub next-ended : {S : Type 0} (cutter : Cutter S Element) (state : Bool → S) (mode : GapMode) (now next : Cursor) (r after : GapSoFarView) (more : Bool)
     → next ≡ passed (length (next_text (cutter.read (state r.flag) (rest now)))) now → after ≡ with_next mode (place now) (rest now) (cutter.read (state r.flag) (rest now)) r
     → more ≡ is_some (cutter.read (state r.flag) (rest now)) → more ≡ false → cutter.read (state after.flag) (rest next) ≡ None
 next-ended {S} cutter state mode now next r after more moved said some last = go (cutter.read (state r.flag) (rest now)) refl moved said (sym some ∙ last)
   where
     go : (o : Option Element) → cutter.read (state r.flag) (rest now) ≡ o → next ≡ passed (length (next_text o)) now → after ≡ with_next mode (place now) (rest now) o r → is_some o ≡ false
         → cutter.read (state after.flag) (rest next) ≡ None
-    go None is m s n = ap (λ (c : Cursor). cutter.read (state after.flag) (rest c)) (m ∙ passed-nothing now) ∙ ap (λ (v : ReadingView). cutter.read (state v.flag) (rest now)) s ∙ is
+    go None is m s n = ap (λ (c : Cursor). cutter.read (state after.flag) (rest c)) (m ∙ passed-nothing now) ∙ ap (λ (v : GapSoFarView). cutter.read (state v.flag) (rest now)) s ∙ is
     go (Some e) is m s n = cc
 
 pub next-smaller : {S : Type 0} (cutter : Cutter S Element) (state : Bool → S) → ReadsElements cutter state → (flag : Bool) (now next : Cursor) (more : Bool)
@@ -153,14 +153,14 @@ test-counts b e = rw e
 
 -- Runs of white space
 
-blank-said : (mode : GapMode) (n : ℕ) (text : Text) (c : ℕ) (r : ReadingView) → with_flag (r.flag || is_line_terminator c) r ≡ with_element mode n text (Blank c) r
+blank-said : (mode : GapMode) (n : ℕ) (text : Text) (c : ℕ) (r : GapSoFarView) → with_flag (r.flag || is_line_terminator c) r ≡ with_element mode n text (Blank c) r
 blank-said mode n text c r =
-    let said : Bool → List (Comment × Bool) → List Fault → ReadingView = λ flag comments faults. record { flag = flag; pending = r.pending; comments = comments; faults = faults } in
+    let said : Bool → List (Comment × Bool) → List Fault → GapSoFarView = λ flag comments faults. record { flag = flag; pending = r.pending; comments = comments; faults = faults } in
     ap (λ b. said (r.flag || b) r.comments r.faults) (sym (or-false (is_line_terminator c)))
     ∙ ap (λ cs. said (r.flag || (is_line_terminator c || false)) cs r.faults) (sym (append-nil r.comments) ∙ ap (λ l. r.comments ++ l) (sym (none-collected mode.collect)))
     ∙ ap (λ fs. said (r.flag || (is_line_terminator c || false)) (r.comments ++ collected mode.collect []) fs) (sym (append-nil r.faults))
 
-white-run : {S : Type 0} (cutter : Cutter S Element) (state : Bool → S) → ReadsElements cutter state → (mode : GapMode) (k : ℕ) (now next : Cursor) (r : ReadingView) (flag : Bool)
+white-run : {S : Type 0} (cutter : Cutter S Element) (state : Bool → S) → ReadsElements cutter state → (mode : GapMode) (k : ℕ) (now next : Cursor) (r : GapSoFarView) (flag : Bool)
     → k ≤ prefix_len is_white_space (rest now) → next ≡ passed k now → flag ≡ (r.flag || list_any is_line_terminator (take k (rest now)))
     → whole cutter state mode next (with_flag flag r) ≡ whole cutter state mode now r
 white-run cutter state reads mode zero now next r flag l moved e =
@@ -174,7 +174,7 @@ white-run {S} cutter state reads mode (suc k) now next r flag l moved e =
     first (rest now) refl l e (λ mid after. white-run cutter state reads mode k mid next after flag)
   where
     Turn : Type 0
-    Turn = (mid : Cursor) (after : ReadingView) → k ≤ prefix_len is_white_space (rest mid) → next ≡ passed k mid → flag ≡ (after.flag || list_any is_line_terminator (take k (rest mid)))
+    Turn = (mid : Cursor) (after : GapSoFarView) → k ≤ prefix_len is_white_space (rest mid) → next ≡ passed k mid → flag ≡ (after.flag || list_any is_line_terminator (take k (rest mid)))
         → whole cutter state mode next (with_flag flag after) ≡ whole cutter state mode mid after
 
     first : (text : Text) → rest now ≡ text → suc k ≤ prefix_len is_white_space text → flag ≡ (r.flag || list_any is_line_terminator (take (suc k) text)) → Turn
@@ -186,7 +186,7 @@ white-run {S} cutter state reads mode (suc k) now next r flag l moved e =
         here false w l = absurd (omega (arith, l))
         here true w l =
             let mid : Cursor = passed 1 now in
-            let after : ReadingView = with_flag (r.flag || is_line_terminator c) r in
+            let after : GapSoFarView = with_flag (r.flag || is_line_terminator c) r in
             let left : rest mid ≡ cs = rest-behind now mid 1 refl ∙ ap (drop 1) is in
             let less : k ≤ prefix_len is_white_space (rest mid) = rw left (omega (arith, l)) in
             let sum : 1 + k ≡ suc k = omega arith in
@@ -196,7 +196,7 @@ white-run {S} cutter state reads mode (suc k) now next r flag l moved e =
             more mid after less on said
             ∙ whole-step cutter state reads mode now mid r after (Blank c) (ap (cutter.read (state r.flag)) is ∙ reads.blank r.flag c cs w) refl (blank-said mode (place now) (rest now) c r)
 
-pub white-passed : {S : Type 0} (cutter : Cutter S Element) (state : Bool → S) → ReadsElements cutter state → (mode : GapMode) (now next : Cursor) (r : ReadingView) (terminator : Bool)
+pub white-passed : {S : Type 0} (cutter : Cutter S Element) (state : Bool → S) → ReadsElements cutter state → (mode : GapMode) (now next : Cursor) (r : GapSoFarView) (terminator : Bool)
     → next ≡ passed (prefix_len is_white_space (rest now)) now → terminator ≡ list_any is_line_terminator (take_while is_white_space (rest now))
     → whole cutter state mode next (with_flag (r.flag || terminator) r) ≡ whole cutter state mode now r
 white-passed cutter state reads mode now next r terminator moved e =
@@ -222,13 +222,13 @@ white-left now next moved = omega (arith, ap length (rest-behind now next _ move
 
 -- Where nothing is left to be read
 
-pub record Ended (mode : GapMode) (now : Cursor) (r : ReadingView) (w : Whole) : Type 0 where
+pub record Ended (mode : GapMode) (now : Cursor) (r : GapSoFarView) (w : Whole) : Type 0 where
   pub ends : w.ends ≡ now
   pub flag : r.flag ≡ w.found.line_break
   pub comments : r.comments ≡ w.found.comments
   pub faults : (r.faults ++ pending_fault r.pending (place now)) ≡ w.found.faults
 
-pub whole-ended : {S : Type 0} (cutter : Cutter S Element) (state : Bool → S) (mode : GapMode) (now : Cursor) (r : ReadingView) → cutter.read (state r.flag) (rest now) ≡ None
+pub whole-ended : {S : Type 0} (cutter : Cutter S Element) (state : Bool → S) (mode : GapMode) (now : Cursor) (r : GapSoFarView) → cutter.read (state r.flag) (rest now) ≡ None
     → Ended mode now r (whole cutter state mode now r)
 unfolding whole
 whole-ended cutter state mode now r none = rw (pieces_none cutter (state r.flag) (rest now) none) record {
@@ -238,14 +238,14 @@ whole-ended cutter state mode now r none = rw (pieces_none cutter (state r.flag)
   faults = refl;
 }
 
-pub ended-at : (mode : GapMode) (now : Cursor) (r : ReadingView) (v w : Whole) → v ≡ w → Ended mode now r v → Ended mode now r w
+pub ended-at : (mode : GapMode) (now : Cursor) (r : GapSoFarView) (v w : Whole) → v ≡ w → Ended mode now r v → Ended mode now r w
 ended-at mode now r v w same e = subst (Ended mode now r) same e
 
 pub three-ok : {T E : Type 0} (r : Result T E) (P Q R S : T → Type 0) → IfOk r P → IfOk r Q → IfOk r R → ((x : T) → P x → Q x → R x → S x) → IfOk r S
 three-ok (Ok x) P Q R S p q t f = f x p q t
 three-ok (Err x) P Q R S p q t f = tt
 
-pub ended-found : (mode : GapMode) (now : Cursor) (r : ReadingView) (w : Whole) (g : GapView) → Ended mode now r w → g.line_break ≡ r.flag → g.comments ≡ r.comments
+pub ended-found : (mode : GapMode) (now : Cursor) (r : GapSoFarView) (w : Whole) (g : GapView) → Ended mode now r w → g.line_break ≡ r.flag → g.comments ≡ r.comments
     → g.faults ≡ r.faults ++ pending_fault r.pending (place now) → g ≡ w.found
 unfolding view
 ended-found mode now r w g e a b c =
@@ -253,7 +253,7 @@ ended-found mode now r w g e a b c =
 
 -- Where nothing is found
 
-pub whole-empty : {S : Type 0} (cutter : Cutter S Element) (state : Bool → S) → ReadsElements cutter state → (mode : GapMode) (now : Cursor) (r : ReadingView)
+pub whole-empty : {S : Type 0} (cutter : Cutter S Element) (state : Bool → S) → ReadsElements cutter state → (mode : GapMode) (now : Cursor) (r : GapSoFarView)
     → IsEmpty (whole cutter state mode now r).found → NextAddsNothing mode (place now) (rest now) r (cutter.read (state r.flag) (rest now))
 unfolding whole
 whole-empty {S} cutter state reads mode now r empty = go (cutter.read (state r.flag) (rest now)) refl
@@ -270,7 +270,7 @@ whole-empty {S} cutter state reads mode now r empty = go (cutter.read (state r.f
         let faults = append-none it.faults _ here.1 in
         ((append-none r.comments _ comments.0).1, (append-none r.faults _ faults.0).1)
 
-pub ended-empty : (mode : GapMode) (now : Cursor) (r : ReadingView) (w : Whole) → Ended mode now r w → IsEmpty w.found → pending_fault r.pending (place now) ≡ []
+pub ended-empty : (mode : GapMode) (now : Cursor) (r : GapSoFarView) (w : Whole) → Ended mode now r w → IsEmpty w.found → pending_fault r.pending (place now) ≡ []
 ended-empty mode now r w e empty = (append-none r.faults (pending_fault r.pending (place now)) (e.faults ∙ empty.1)).1
 
 -- The two cutters
@@ -292,7 +292,7 @@ common-reads = record {
 }
 
 -- what is found from a cursor on, by the elements from there on
-pub whole-is : {S : Type 0} (cutter : Cutter S Element) (state : Bool → S) (mode : GapMode) (now : Cursor) (r : ReadingView)
+pub whole-is : {S : Type 0} (cutter : Cutter S Element) (state : Bool → S) (mode : GapMode) (now : Cursor) (r : GapSoFarView)
     → whole cutter state mode now r ≡ whole_of mode now r (pieces cutter (state r.flag) (rest now))
 unfolding whole
 whole-is cutter state mode now r = refl

@@ -2,8 +2,8 @@ use Rattle.std.proofs.Common.{sym, ◌∙◌}
 use Rattle.std.proofs.lemmas.Bool.{ne_eqb}
 use Rattle.ecma_place.specs.Cursor.{rest}
 use Rattle.ecma_grammar.proofs.SignLemmas.{bars-seen}
-use Rattle.ecma_state.proofs.OpeningLemmas.{no-bars}
-use Rattle.ecma_state.proofs.opening.stands_bars.Goals as goal
+use Rattle.ecma_state.proofs.LookaheadLemmas.{no-bars}
+use Rattle.ecma_state.proofs.lookahead.stands_bars.Goals as goal
 
 pub returns-then-c-eq124 : goal.returns-then-c-eq124
 returns-then-c-eq124 c = c.is_str.ensures ∙ bars-seen (rest c.args.input.now)

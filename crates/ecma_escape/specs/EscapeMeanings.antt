@@ -8,21 +8,21 @@ use Rattle.ecma_escape.specs.declared.escape.Use.{Use}
 use Rattle.ecma_escape.specs.declared.escape.Use.TheVariants as place
 use Rattle.ecma_escape.specs.declared.escape.Refusal.{Refusal}
 use Rattle.ecma_escape.specs.declared.escape.Refusal.TheVariants as because
-use Rattle.ecma_escape.specs.declared.escape.Answer.{Answer}
-use Rattle.ecma_escape.specs.declared.escape.Answer.TheVariants as answer
+use Rattle.ecma_escape.specs.declared.escape.Meaning.{Meaning}
+use Rattle.ecma_escape.specs.declared.escape.Meaning.TheVariants as answer
 use Rattle.ecma_grammar.specs.declared.found.Blame.TheVariants.{Strict}
 use Rattle.ecma_grammar.specs.Found.{error_over, error_at}
 use Rattle.ecma_grammar.specs.Fronts.{front, next_is}
-use Rattle.ecma_grammar.specs.Escapes as grammar
+use Rattle.ecma_grammar.specs.Escapes as escapes
 
 -- a backslash stands at the front
 abbrev pub opens_escape : Text → Bool
 opens_escape text = next_is 92 text
 
-abbrev pub use_of : Use → grammar.Use
-use_of place.InString = grammar.InString
-use_of place.InTemplate = grammar.InTemplate
-use_of place.InWord = grammar.InWord
+abbrev pub use_of : Use → escapes.Use
+use_of place.InString = escapes.InString
+use_of place.InTemplate = escapes.InTemplate
+use_of place.InWord = escapes.InWord
 
 abbrev pub is_word : Use → Bool
 is_word place.InWord = true
@@ -37,31 +37,31 @@ digit_front radix n text = take n (front (is_digit_in radix) text)
 
 -- what is wrong
 abbrev pub refusal_kind : Refusal → KindView
-refusal_kind because.TwoDigits = grammar.two_digits_wanted
-refusal_kind because.FourDigits = grammar.four_digits_wanted
-refusal_kind because.NoDigits = grammar.some_digits_wanted
-refusal_kind because.OutOfRange = grammar.code_point_wanted
+refusal_kind because.TwoDigits = escapes.two_digits_wanted
+refusal_kind because.FourDigits = escapes.four_digits_wanted
+refusal_kind because.NoDigits = escapes.some_digits_wanted
+refusal_kind because.OutOfRange = escapes.code_point_wanted
 refusal_kind because.NoBrace = plain InvalidUnicodeEscape
 refusal_kind because.NoCodePoint = plain ExpectedUnicodeEscape
 refusal_kind because.AtEnd = plain InvalidStrEscape
 refusal_kind because.Octal = plain LegacyOctal
 
 -- the error of an escape that is refused behind n characters
-abbrev pub refusal_error : grammar.Use → Refusal → ℕ → ErrorView
-refusal_error within because.TwoDigits n = error_over grammar.two_digits_wanted n
-refusal_error within because.FourDigits n = grammar.unicode_refusal within grammar.four_digits_wanted n n
-refusal_error within because.NoDigits n = grammar.unicode_refusal within grammar.some_digits_wanted n n
-refusal_error within because.OutOfRange n = grammar.unicode_refusal within grammar.code_point_wanted n n
-refusal_error within because.NoBrace n = grammar.unicode_refusal within (plain InvalidUnicodeEscape) 3 n
+abbrev pub refusal_error : escapes.Use → Refusal → ℕ → ErrorView
+refusal_error within because.TwoDigits n = error_over escapes.two_digits_wanted n
+refusal_error within because.FourDigits n = escapes.unicode_refusal within escapes.four_digits_wanted n n
+refusal_error within because.NoDigits n = escapes.unicode_refusal within escapes.some_digits_wanted n n
+refusal_error within because.OutOfRange n = escapes.unicode_refusal within escapes.code_point_wanted n n
+refusal_error within because.NoBrace n = escapes.unicode_refusal within (plain InvalidUnicodeEscape) 3 n
 refusal_error within because.NoCodePoint n = error_at (plain ExpectedUnicodeEscape) 0
 refusal_error within because.AtEnd n = error_at (plain InvalidStrEscape) 0
 refusal_error within because.Octal n = error_over (plain LegacyOctal) n
 
 -- the escape that is written so and answered so
-abbrev pub answered : grammar.Use → Text → Answer → grammar.Escape
-answered within spelling answer.Nothing = grammar.Accepted spelling [] []
-answered within spelling (answer.Character c) = grammar.Accepted spelling (c ∷ []) []
+abbrev pub answered : escapes.Use → Text → Meaning → escapes.Escape
+answered within spelling answer.Nothing = escapes.Accepted spelling [] []
+answered within spelling (answer.Character c) = escapes.Accepted spelling (c ∷ []) []
 answered within spelling (answer.Octal c) =
-    grammar.Accepted spelling (c ∷ []) (record { blame = Strict; error = error_over (plain LegacyOctal) 2 } ∷ [])
-answered within spelling answer.Spelling = grammar.Accepted spelling spelling (grammar.surrogate_faults within (length spelling))
-answered within spelling (answer.Refused refusal) = grammar.Refused spelling (refusal_error within refusal (length spelling))
+    escapes.Accepted spelling (c ∷ []) (record { blame = Strict; error = error_over (plain LegacyOctal) 2 } ∷ [])
+answered within spelling answer.Spelling = escapes.Accepted spelling spelling (escapes.surrogate_faults within (length spelling))
+answered within spelling (answer.Refused refusal) = escapes.Refused spelling (refusal_error within refusal (length spelling))

@@ -15,9 +15,9 @@ may_stand TplQuasi around = true
 may_stand JSXExpr around = false
 may_stand top around = not (tpl_on_top around)
 
-abbrev pub are_plain : Contexts → Bool
-are_plain [] = true
-are_plain (top ∷ around) = may_stand top around && are_plain around
+abbrev pub are_own : Contexts → Bool
+are_own [] = true
+are_own (top ∷ around) = may_stand top around && are_own around
 
 -- template text may come on top behind these
 abbrev pub opens_text : TokenKind → Bool
@@ -29,15 +29,15 @@ opens_text kind = false
 -- Laws
 
 -- In plain contexts every token that is no template's leaves plain contexts, and so do a back quote and `${` in a template.
-abbrev pub ContextsStayPlain : Type 0
-ContextsStayPlain =
-    ((before : Before) (contexts : Contexts) (kind : TokenKind) (flag : Bool) → are_plain contexts ≡ true → tpl_on_top contexts ≡ false
-    → are_plain (transition before contexts kind flag).contexts ≡ true)
-    × ((before : Before) (contexts : Contexts) (flag : Bool) → are_plain contexts ≡ true → are_plain (transition before contexts BackQuote flag).contexts ≡ true)
-    × ((before : Before) (contexts : Contexts) (flag : Bool) → are_plain contexts ≡ true → are_plain (transition before contexts DollarLBrace flag).contexts ≡ true)
+abbrev pub ContextsStayOwn : Type 0
+ContextsStayOwn =
+    ((before : Before) (contexts : Contexts) (kind : TokenKind) (flag : Bool) → are_own contexts ≡ true → tpl_on_top contexts ≡ false
+    → are_own (transition before contexts kind flag).contexts ≡ true)
+    × ((before : Before) (contexts : Contexts) (flag : Bool) → are_own contexts ≡ true → are_own (transition before contexts BackQuote flag).contexts ≡ true)
+    × ((before : Before) (contexts : Contexts) (flag : Bool) → are_own contexts ≡ true → are_own (transition before contexts DollarLBrace flag).contexts ≡ true)
 
 -- Template text comes on top behind a back quote, `}` and `)` alone.
 abbrev pub TemplatesAreOpened : Type 0
 TemplatesAreOpened =
-    (before : Before) (contexts : Contexts) (kind : TokenKind) (flag : Bool) → are_plain contexts ≡ true → tpl_on_top contexts ≡ false
+    (before : Before) (contexts : Contexts) (kind : TokenKind) (flag : Bool) → are_own contexts ≡ true → tpl_on_top contexts ≡ false
     → tpl_on_top (transition before contexts kind flag).contexts ≡ true → opens_text kind ≡ true

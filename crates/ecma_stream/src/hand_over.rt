@@ -10,7 +10,7 @@ use std::alloc::AllocError;
 
 /// What gathers comments while a text is read: the lexer. Callers can't name it, so that nothing but [`hand_comments`] takes
 /// comments out.
-pub trait Commented<'a> {
+pub trait HandsOver<'a> {
     ghost shown: { Self → LexerState };
 
     /// The comments, where the last answer was the end and memory was never refused. None is kept then.
@@ -34,7 +34,7 @@ pub trait Commented<'a> {
 ///
 /// `AllocError` where the store has no memory for a comment. Those before it were handed over, and it and those behind it are
 /// kept, in order.
-pub fn hand_comments<'a, L: Commented<'a>, C: Comments<'a>>(
+pub fn hand_comments<'a, L: HandsOver<'a>, C: Comments<'a>>(
     lexer: &mut L,
     to: &mut C,
 ) -> Result<bool, AllocError>

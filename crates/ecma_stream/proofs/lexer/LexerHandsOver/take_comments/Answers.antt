@@ -1,6 +1,6 @@
 use Rattle.std.proofs.Common.{◌∙◌, ap, refl}
 use Rattle.ecma_stream.proofs.SlashLemmas.{kept-lexer}
-use Rattle.ecma_stream.proofs.lexer.LexerCommented.take_comments.Goals as goal
+use Rattle.ecma_stream.proofs.lexer.LexerHandsOver.take_comments.Goals as goal
 
 pub invariant_of-self : goal.invariant_of-self
 invariant_of-self c = kept-lexer c.self.inside _ _ c.self-inside.view_is c.self.invariant refl refl refl refl (ap (λ b. b.pending_leading) (c.replace.ensures.after ∙ c.new-none.ensures))

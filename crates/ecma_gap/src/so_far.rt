@@ -4,9 +4,9 @@ ghost use Rattle.ecma_place.specs.Cursor.{rest};
 ghost use Rattle.ecma_token.specs.View.{kind_view};
 ghost use Rattle.ecma_grammar.specs.Found.{fault_view};
 ghost use Rattle.ecma_grammar.specs.Gaps.{pending_fault};
-ghost use Rattle.ecma_gap.specs.Readings.{reading_view, place_of_opening, nothing_read, with_comment, with_fault, with_opening};
+ghost use Rattle.ecma_gap.specs.GapRecords.{gap_so_far, place_of_opening, nothing_read, with_comment, with_fault, with_opening};
 
-use crate::attachment::is_for_next;
+use crate::for_next::is_for_next;
 use crate::gap::Gap;
 use ecma_grammar::found::{Blame, push_fault};
 use ecma_grammar::gap_mode::GapMode;
@@ -16,7 +16,7 @@ use std::alloc::{AllocError, Global};
 
 /// What was read of a gap so far.
 #[derive(Drop)]
-pub(crate) struct Reading<'a> {
+pub(crate) struct GapSoFar<'a> {
     /// Whether no token came before, or a line terminator was read.
     pub(crate) line_break: bool,
     /// Where the `<!--` stands whose fault is still to come.
@@ -27,12 +27,12 @@ pub(crate) struct Reading<'a> {
     pub(crate) faults: Vec<(Blame, Error<'a>)>,
 }
 
-impl<'a> Reading<'a> {
+impl<'a> GapSoFar<'a> {
     /// Nothing read.
-    pub(crate) fn new(alloc: Global, line_break: bool) -> Reading<'a>
-        ensures { reading_view result ≡ nothing_read line_break }
+    pub(crate) fn new(alloc: Global, line_break: bool) -> GapSoFar<'a>
+        ensures { gap_so_far result ≡ nothing_read line_break }
     {
-        Reading {
+        GapSoFar {
             line_break,
             opening: None,
             comments: Vec::new(alloc),
@@ -48,8 +48,8 @@ impl<'a> Reading<'a> {
         span: Span,
         kind: SyntaxError<'a>,
     ) -> Result<(), AllocError>
-        ensures { OnOk result (reading_view self.new ≡
-            with_fault (record { blame = blame; error = record { kind = kind_view kind.entry; span = span } }) (reading_view self.old)) }
+        ensures { OnOk result (gap_so_far self.new ≡
+            with_fault (record { blame = blame; error = record { kind = kind_view kind.entry; span = span } }) (gap_so_far self.old)) }
     {
         push_fault(alloc, &mut self.faults, blame, span, kind)
     }
@@ -61,8 +61,8 @@ impl<'a> Reading<'a> {
         behind: &StringInput,
         comment: Comment<'a>,
     ) -> Result<(), AllocError>
-        ensures reading { OnOk result (reading_view self.new ≡
-            with_comment mode.now (rest behind.now) comment.entry (reading_view self.old)) }
+        ensures so_far { OnOk result (gap_so_far self.new ≡
+            with_comment mode.now (rest behind.now) comment.entry (gap_so_far self.old)) }
         ensures free { mode.now.collect ≡ false → IsOk result }
     {
         if mode.collect {
@@ -79,9 +79,9 @@ impl<'a> Reading<'a> {
         end: BytePos,
         opening: Option<BytePos>,
     ) -> Result<(), AllocError>
-        ensures reading { OnOk result (reading_view self.new ≡
-            with_opening end.0 (place_of_opening opening) (reading_view self.old)) }
-        ensures free { pending_fault (reading_view self.old).pending end.0 ≡ [] → IsOk result }
+        ensures so_far { OnOk result (gap_so_far self.new ≡
+            with_opening end.0 (place_of_opening opening) (gap_so_far self.old)) }
+        ensures free { pending_fault (gap_so_far self.old).pending end.0 ≡ [] → IsOk result }
     {
         if let Some(start) = self.opening {
             let span = Span { lo: start, hi: end };
@@ -98,14 +98,14 @@ impl<'a> Reading<'a> {
 
     /// The gap, which ends at `end`.
     pub(crate) fn into_gap(mut self, alloc: Global, end: BytePos) -> Result<Gap<'a>, AllocError>
-        ensures line_break { IfOk result (λ gap. gap.line_break ≡ (reading_view self.entry).flag) }
-        ensures comments { IfOk result (λ gap. gap.comments.items ≡ (reading_view self.entry).comments) }
+        ensures line_break { IfOk result (λ gap. gap.line_break ≡ (gap_so_far self.entry).flag) }
+        ensures comments { IfOk result (λ gap. gap.comments.items ≡ (gap_so_far self.entry).comments) }
         ensures faults { IfOk result (λ gap. map fault_view gap.faults.items ≡
-            (reading_view self.entry).faults ++ pending_fault (reading_view self.entry).pending end.0) }
-        ensures free { pending_fault (reading_view self.entry).pending end.0 ≡ [] → IsOk result }
+            (gap_so_far self.entry).faults ++ pending_fault (gap_so_far self.entry).pending end.0) }
+        ensures free { pending_fault (gap_so_far self.entry).pending end.0 ≡ [] → IsOk result }
     {
         self.open_at(alloc, end, None)?;
-        let Reading {
+        let GapSoFar {
             line_break,
             opening: _,
             comments,

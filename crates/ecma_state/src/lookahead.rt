@@ -4,14 +4,14 @@ ghost use Rattle.ecma_place.specs.Character.{is_ident_start};
 ghost use Rattle.ecma_place.specs.Cursor.{rest};
 ghost use Rattle.ecma_grammar.specs.Bars.{opens_bars};
 ghost use Rattle.ecma_grammar.specs.Numbers.{opens_number};
-ghost use Rattle.ecma_state.specs.TokenAt as grammar;
+ghost use Rattle.ecma_state.specs.TokenAt as tokens;
 
 use crate::mode::Mode;
 use ecma_place::{CharExt, StringInput};
 
 /// What the first characters of a text open.
 #[derive(Debug, Clone, Copy, PartialEq, Eq)]
-pub enum Opening {
+pub enum Lookahead {
     /// What stands in a template: its text, or a sign behind that.
     Template,
     Number,
@@ -54,25 +54,25 @@ fn stands_bars(input: &StringInput, c: char) -> bool
     c == '|' && input.is_str("||||||| ")
 }
 
-impl Opening {
+impl Lookahead {
     /// What stands at the cursor, which stands before the character `c`, behind a gap whose flag stands or not.
     #[inline(always)]
-    pub fn at(input: &StringInput, mode: &Mode, flag: bool, c: char) -> Opening
+    pub fn at(input: &StringInput, mode: &Mode, flag: bool, c: char) -> Lookahead
         requires { slice_get (rest input.now) 0 ≡ Some c }
-        ensures { result ≡ grammar.opening mode.now flag (rest input.now) }
+        ensures { result ≡ tokens.lookahead mode.now flag (rest input.now) }
     {
         if mode.is_in_template() {
-            Opening::Template
+            Lookahead::Template
         } else if stands_number(input, c) {
-            Opening::Number
+            Lookahead::Number
         } else if c == '"' || c == '\'' {
-            Opening::String
+            Lookahead::String
         } else if begins_word(c) {
-            Opening::Word
+            Lookahead::Word
         } else if flag && stands_bars(input, c) {
-            Opening::Bars
+            Lookahead::Bars
         } else {
-            Opening::Other
+            Lookahead::Other
         }
     }
 }

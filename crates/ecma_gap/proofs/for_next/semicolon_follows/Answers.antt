@@ -1,8 +1,8 @@
 use Rattle.std.proofs.Common.{arith, ap, ◌∙◌}
 use Rattle.ecma_place.specs.Cursor.{Cursor, rest}
 use Rattle.ecma_grammar.specs.Comments.{semicolon_follows}
-use Rattle.ecma_grammar.proofs.AttachmentLemmas.{semicolon-seen}
-use Rattle.ecma_gap.proofs.attachment.semicolon_follows.Goals as goal
+use Rattle.ecma_grammar.proofs.ForNextLemmas.{semicolon-seen}
+use Rattle.ecma_gap.proofs.for_next.semicolon_follows.Goals as goal
 
 pub returns-in-Ok : goal.returns-in-Ok
 returns-in-Ok c =
