@@ -12,7 +12,7 @@ use ecma_state::kept::Kept;
 use ecma_token::TokenKind;
 use std::alloc::{AllocError, Global};
 
-/// What stands between the token of a kind, where there is one, and the token behind it.
+/// What comes between the token of a kind, where there is one, and the token behind it.
 fn between(before: Option<TokenKind>, token: &Kept) -> &'static str
     ensures { result.now ≡ between_behind before token.now }
 {
@@ -36,7 +36,7 @@ fn before_token(token: &Kept) -> &'static str
 }
 
 /// Joins the tokens that were kept of a text which starts at a place, in order: each by its own characters, and between
-/// two of them nothing where one is template text, else a line feed where the second's flag stands, else one space.
+/// two of them nothing where one is template text, else a line feed where the second's flag is set, else one space.
 ///
 /// This is a function of what is kept alone. That the text is read to the same tokens holds where they were kept by a clean
 /// run of plain steps, as [`canonical`](crate::clean_text::canonical) says.

@@ -1,4 +1,4 @@
-//! Whether the steps of a run are plain and take no error, told by what they answered.
+//! Whether the steps of a run are plain and take no error, as their answers show.
 ghost use Rattle.std.specs.Prelude.{◌≡◌, length, map, if◌then◌else◌, slice_get, IfOk, OnOk};
 ghost use Rattle.ecma_replay.specs.Replay.{answer_view};
 ghost use Rattle.ecma_canonical.specs.Watching as told;
@@ -32,7 +32,7 @@ fn is_done(answer: &Answer) -> bool
     matches!(answer, Answer::Done)
 }
 
-/// Whether the answer tells of no error that was taken.
+/// Whether the answer shows that no error was taken.
 fn took_none(answer: &Answer) -> bool
     ensures { result ≡ told.took_none (answer_view answer.now) }
 {
@@ -106,7 +106,7 @@ impl Watch {
     }
 }
 
-/// The watch over a list of steps, with those that stood at its saves.
+/// The watch over a list of steps, with those at its saves.
 #[derive(Drop)]
 struct Watcher {
     watch: Watch,
@@ -131,7 +131,7 @@ impl Watcher {
         }
     }
 
-    /// Goes back to what stood at a save, if it was made.
+    /// Goes back to what was at a save, if it was made.
     fn go_back(&mut self, save: usize)
         ensures { self.new ≡ back_to self.old (slice_get self.old.saves save) }
     {

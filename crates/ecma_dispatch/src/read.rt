@@ -24,10 +24,10 @@ pub struct Reading<'a> {
     pub besides: Besides<'a>,
 }
 
-/// What a read found besides the token.
+/// What a read found beside the token.
 #[derive(Drop)]
 pub struct Besides<'a> {
-    /// Whether no token came before, or a line terminator stands in the gap.
+    /// Whether no token came before, or there is a line terminator in the gap.
     pub end_flag: bool,
     /// What is wrong in the gap.
     pub gap_faults: Vec<(Blame, Error<'a>)>,
@@ -49,7 +49,7 @@ fn token_of<'a>(value: Result<Token<'a>, Error<'a>>) -> Token<'a>
     }
 }
 
-/// What was found as a token, behind a gap whose flag stands or not, and what is wrong with it besides.
+/// What was found as a token, behind a gap with this flag, and what else is wrong with it.
 fn spanned_token<'a>(
     found: Found<'a, Token<'a>>,
     flag: bool,
@@ -93,7 +93,7 @@ fn shebang_at<'a>(
     }
 }
 
-/// Reads from the cursor on, where no shebang stands.
+/// Reads from the cursor on, where there is no shebang.
 #[tactic(auto, unfolding(ecma_state::specs::Reading::reading_code))]
 fn read_code<'a>(
     alloc: Global,
@@ -134,7 +134,7 @@ fn read_code<'a>(
     })
 }
 
-/// Reads the regular expression at the cursor, which stands at a slash with this flag.
+/// Reads the regular expression at the cursor, which is at a slash with this flag.
 pub fn read_again<'a>(
     alloc: Global,
     input: &mut StringInput<'a>,

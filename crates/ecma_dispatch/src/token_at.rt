@@ -123,7 +123,7 @@ fn punctuator_at<'a>(
 /// What was found at a place.
 #[derive(Drop)]
 pub struct Taken<'a> {
-    /// A token, or why what stands there is refused.
+    /// A token, or why what is there is refused.
     pub found: Found<'a, Token<'a>>,
     /// The comments in it, each with whether it is for the next token.
     pub comments: Vec<(Comment<'a>, bool)>,
@@ -157,7 +157,7 @@ fn bars_at<'a>(
     })
 }
 
-/// The token at the cursor, which stands before the character `c`, where no marker of bars stands.
+/// The token at the cursor, which is before the character `c`, where there is no marker of bars.
 fn plain_at<'a>(
     alloc: Global,
     input: &mut StringInput<'a>,
@@ -186,7 +186,7 @@ fn plain_at<'a>(
     }
 }
 
-/// The token at the cursor, which stands before the character `c`, behind a gap whose flag stands or not.
+/// The token at the cursor, which is before the character `c`, behind a gap with this flag.
 pub fn token_at<'a>(
     alloc: Global,
     input: &mut StringInput<'a>,

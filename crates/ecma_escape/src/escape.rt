@@ -19,7 +19,7 @@ use ecma_place::{Atom, BytePos, CharExt, Span, StringInput};
 use ecma_token::{Error, SyntaxError};
 use std::alloc::{AllocError, Global};
 
-/// Where an escape stands.
+/// Where an escape is.
 #[derive(Clone, Copy)]
 pub enum Use {
     /// In a string.
@@ -66,7 +66,7 @@ pub enum Meaning {
     Refused(Refusal),
 }
 
-/// Whether a digit stands at the cursor.
+/// Whether a digit is at the cursor.
 fn is_at_digit(input: &StringInput, radix: u32) -> bool
     requires lower { 2 ≤ radix }
     requires upper { radix ≤ 36 }
@@ -122,7 +122,7 @@ fn code_escape(code: u32) -> Meaning
     }
 }
 
-/// The escape whose `\x` stands before the cursor.
+/// The escape whose `\x` is just before the cursor.
 fn hex_escape(input: &mut StringInput) -> Meaning
     ensures answer { (within : escapes.Use) → let e = escapes.hex_escape (digit_front 16 2 (rest input.old)) in
         answered within (escapes.escape_spelling e) result ≡ e }
@@ -136,7 +136,7 @@ fn hex_escape(input: &mut StringInput) -> Meaning
     }
 }
 
-/// The escape whose `\u` stands before the cursor, without braces.
+/// The escape whose `\u` is just before the cursor, without braces.
 fn four_escape(input: &mut StringInput) -> Meaning
     ensures answer { (within : escapes.Use) → let e = escapes.four_escape within (digit_front 16 4 (rest input.old)) in
         answered within (escapes.escape_spelling e) result ≡ e }
@@ -162,7 +162,7 @@ fn code_point(digits: &str) -> Option<u32>
     }
 }
 
-/// The escape whose `\u{` stands before the cursor.
+/// The escape whose `\u{` is just before the cursor.
 fn braced_escape(input: &mut StringInput) -> Meaning
     ensures answer { (within : escapes.Use) → let e = escapes.braced_escape within (escapes.hex_front (rest input.old)) (after escapes.is_hex_digit (rest input.old)) in
         answered within (escapes.escape_spelling e) result ≡ e }
@@ -185,7 +185,7 @@ fn braced_escape(input: &mut StringInput) -> Meaning
     }
 }
 
-/// The escape whose `\u` stands before the cursor.
+/// The escape whose `\u` is just before the cursor.
 fn unicode_escape(input: &mut StringInput) -> Meaning
     ensures answer { (within : escapes.Use) → let e = escapes.unicode_escape within (rest input.old) in
         answered within (escapes.escape_spelling e) result ≡ e }
@@ -212,7 +212,7 @@ fn octal_character(input: &mut StringInput, first: char) -> char
     char::from(u8::from_str_radix(digits, 8).unwrap())
 }
 
-/// Whether an octal digit stands behind the first character.
+/// Whether an octal digit follows the first character.
 fn octal_digit_follows(input: &StringInput) -> bool
     ensures { result ≡ next_passes escapes.is_octal_digit (drop 1 (rest input.now)) }
 {
@@ -222,7 +222,7 @@ fn octal_digit_follows(input: &StringInput) -> bool
     }
 }
 
-/// The escape whose backslash stands before the cursor and whose octal digit at it.
+/// The escape whose backslash is just before the cursor and whose octal digit at it.
 fn octal_escape(input: &mut StringInput, within: Use, first: char) -> Meaning
     requires first { slice_get (rest input.old) 0 ≡ Some first }
     requires digit { escapes.is_octal_digit first ≡ true }
@@ -268,7 +268,7 @@ fn single_value(c: char) -> char
     }
 }
 
-/// The escape whose backslash stands before the cursor, which is none of a code point, in a string or a template.
+/// The escape whose backslash is just before the cursor, which is none of a code point, in a string or a template.
 fn escape_at(input: &mut StringInput, within: Use, first: char) -> Meaning
     requires first { slice_get (rest input.old) 0 ≡ Some first }
     requires other { (first == 117) ≡ false }
@@ -292,7 +292,7 @@ fn escape_at(input: &mut StringInput, within: Use, first: char) -> Meaning
     }
 }
 
-/// Whether it stands in a word.
+/// Whether it is in a word.
 fn is_word(within: Use) -> bool
     ensures { result ≡ is_word within }
 {
@@ -301,7 +301,7 @@ fn is_word(within: Use) -> bool
 
 /// Moves behind the escape at the cursor, and answers what it stands for.
 ///
-/// A backslash stands at the cursor. No memory is taken.
+/// A backslash is at the cursor. No memory is taken.
 pub fn read_escape(input: &mut StringInput, within: Use) -> Meaning
     requires { opens_escape (rest input.old) ≡ true }
     ensures answer { let e = escapes.escape (use_of within) (rest input.old) in
@@ -346,7 +346,7 @@ pub fn refusal_kind<'a>(refusal: Refusal) -> SyntaxError<'a>
     }
 }
 
-/// Whether a backslash stands at the cursor.
+/// Whether a backslash is at the cursor.
 pub fn at_escape(input: &StringInput) -> bool
     ensures { result ≡ opens_escape (rest input.now) }
 {
@@ -418,7 +418,7 @@ fn push_octal_fault<'a>(
 /// Moves behind the escape at the cursor. What it stands for is added to the text, and what is wrong with it to the
 /// faults; the error of one that is refused is answered.
 ///
-/// A backslash stands at the cursor, in a string or a template. An escape that stands for nothing takes no memory.
+/// A backslash is at the cursor, in a string or a template. An escape that stands for nothing takes no memory.
 pub fn push_escape<'a>(
     alloc: Global,
     input: &mut StringInput<'a>,
@@ -461,7 +461,7 @@ fn value_atom<'a>(text: String) -> Option<Atom<'a>>
     }
 }
 
-/// Where an escape by itself stands.
+/// Where an escape by itself is.
 fn use_in(in_template: bool) -> Use
     ensures place { use_of result ≡ use_in in_template }
     ensures other { is_word result ≡ false }
@@ -476,7 +476,7 @@ fn use_in(in_template: bool) -> Use
 /// Reads the escape at the cursor (ECMA-262 EscapeSequence, 12.9.4, with LegacyOctalEscapeSequence of Annex B), in a
 /// string or in a template.
 ///
-/// A backslash stands at the cursor. The value is the text that the escape stands for: nothing for a line terminator,
+/// A backslash is at the cursor. The value is the text that the escape stands for: nothing for a line terminator,
 /// and for a surrogate, which is no character, all that is written of the escape (our own choice). An octal escape in
 /// a string is a fault of strict code. A refused escape is read up to where reading goes on: `\x` without two
 /// hexadecimal digits and `\u` without four, or without one to 10FFFF in braces, up to behind the digits that are
@@ -485,7 +485,7 @@ fn use_in(in_template: bool) -> Use
 ///
 /// # Errors
 ///
-/// `AllocError` where there is no memory for the value or an error; the cursor then stands where it stood.
+/// `AllocError` where there is no memory for the value or an error; the cursor is then where it was.
 pub fn scan_escape<'a>(
     alloc: Global,
     input: &mut StringInput<'a>,

@@ -1,4 +1,4 @@
-//! Readers of escapes, and of words, in which they stand.
+//! Readers of escapes, and of words, in which they occur.
 #![tactic(auto)]
 
 pub mod escape;

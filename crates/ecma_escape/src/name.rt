@@ -106,7 +106,7 @@ fn push_name_fault<'a>(
 /// Moves behind the escape at the cursor. What it stands for is added to the text, and what is wrong with it to the
 /// faults; the error of one that is refused is answered.
 ///
-/// A backslash stands at the cursor.
+/// A backslash is at the cursor.
 fn push_name_escape<'a>(
     alloc: Global,
     input: &mut StringInput<'a>,
@@ -140,7 +140,7 @@ fn push_name_escape<'a>(
 }
 
 /// Moves behind the pieces of a name at the cursor, and answers their text behind `before`, or the error of a refused
-/// escape. No part character stands at the cursor; `is_first` says that nothing of the name stands before it.
+/// escape. No part character is at the cursor; `is_first` says that nothing of the name comes before it.
 fn escaped_name<'a>(
     alloc: Global,
     input: &mut StringInput<'a>,

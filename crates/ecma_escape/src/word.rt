@@ -127,7 +127,7 @@ fn eat_long_kind(input: &mut StringInput) -> Option<WordKind>
 }
 
 /// Moves behind the word at the cursor, where it is written with no escape, and answers its kind: that of the row of the
-/// table of words for the part characters that stand there, which are passed, and are all of the word.
+/// table of words for the part characters that are there, which are passed, and are all of the word.
 ///
 /// Where a backslash follows them there is no answer. No memory is taken. Our own, for speed.
 #[inline(always)]
@@ -145,7 +145,7 @@ pub fn eat_plain_kind(input: &mut StringInput) -> Option<WordKind>
 }
 
 /// Moves behind the word at the cursor, where it is written with no escape, and answers it: what [`scan_word`] finds, without
-/// its extent. It is the row of the table of words for the part characters that stand there, which are passed.
+/// its extent. It is the row of the table of words for the part characters that are there, which are passed.
 ///
 /// Where a backslash follows them there is no answer. No memory is taken. Our own, for speed.
 #[inline(always)]
@@ -160,7 +160,7 @@ pub fn eat_plain_word<'a>(input: &mut StringInput<'a>) -> Option<Word<'a>>
     Some(Word::of_kind(kind, input.slice(start, input.cur_pos())))
 }
 
-/// The word at the cursor, behind which the cursor then stands.
+/// The word at the cursor, behind which the cursor then is.
 fn word_at<'a>(
     alloc: Global,
     input: &mut StringInput<'a>,
@@ -191,15 +191,15 @@ fn word_at<'a>(
 /// Reads the word at the cursor (ECMA-262 IdentifierName, 12.7): part characters and escapes of code points, as many
 /// as there are.
 ///
-/// The cursor stands at a start character or a backslash. The word is the row of the table of words for its unescaped
+/// The cursor is at a start character or a backslash. The word is the row of the table of words for its unescaped
 /// text, which an other name borrows from the source where it holds no escape. A word that is written with an escape
-/// and is reserved in the context is refused (12.7.2). An escaped character that may not stand in a name, or not first,
+/// and is reserved in the context is refused (12.7.2). An escaped character that is not allowed in a name, or not first in it,
 /// is a fault over its escape, and stays (our own choice). A refused escape refuses all from the word's start up to
 /// where reading goes on. A word without an escape takes no memory.
 ///
 /// # Errors
 ///
-/// `AllocError` where there is no memory for the text or an error; the cursor then stands where it stood.
+/// `AllocError` where there is no memory for the text or an error; the cursor is then where it was.
 pub fn scan_word<'a>(
     alloc: Global,
     input: &mut StringInput<'a>,

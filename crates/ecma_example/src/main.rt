@@ -1,4 +1,4 @@
-//! Reads a text and writes where each of its tokens stands: how a program stands on the lexer, and no more.
+//! Reads a text and writes where each of its tokens is: how a program uses the lexer, and no more.
 #![tactic(auto)]
 
 use ecma_lexer::Lexer;

@@ -62,16 +62,16 @@ fn read_bars<'a>(
     Ok(Bars { gap, error })
 }
 
-/// Reads the marker of bars at the cursor, if seven bars and a space stand there: with the line, and the white space, line
-/// and block comments behind it. Where none stands there the cursor stays, and nothing takes memory.
+/// Reads the marker of bars at the cursor, if seven bars and a space are there: with the line, and the white space, line
+/// and block comments behind it. Where there is none the cursor stays, and nothing takes memory.
 ///
-/// The caller has seen that no token came before, or that a line terminator stands before the bars. So each comment is for
+/// The caller has seen that no token came before, or that a line terminator comes before the bars. So each comment is for
 /// the token of the bars, but a block comment before a semicolon is not.
 ///
 /// # Errors
 ///
-/// `AllocError` where there is no memory for a fault, a comment or the error; the cursor then stands where it
-/// stood.
+/// `AllocError` where there is no memory for a fault, a comment or the error; the cursor is then where it
+/// was.
 pub fn scan_bars<'a>(
     alloc: Global,
     input: &mut StringInput<'a>,

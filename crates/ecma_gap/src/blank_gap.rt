@@ -1,4 +1,4 @@
-//! Gaps of which nothing is to be told but the flag, before most tokens: our own, for speed.
+//! Gaps with nothing to report but the flag, before most tokens: our own, for speed.
 ghost use Rattle.std.specs.Prelude.{◌≡◌, ◌<◌, ◌||◌, ℕ, true, Some, drop, length, slice_get, IfSome};
 ghost use Rattle.std.specs.List.{list_any, prefix_len};
 ghost use Rattle.ecma_place.specs.Character.{is_line_terminator, is_white_space};
@@ -10,16 +10,16 @@ use crate::plain_comments::pass_comments;
 use crate::white_space::skip_white_space;
 use ecma_place::StringInput;
 
-/// A gap of which nothing is to be told but the flag.
+/// A gap with nothing to report but the flag.
 #[derive(Debug, Clone, Copy, PartialEq, Eq)]
 pub struct BlankGap {
-    /// Whether no token came before, or a line terminator stands in the gap.
+    /// Whether no token came before, or there is a line terminator in the gap.
     pub line_break: bool,
     /// The character behind it, which is ASCII.
     pub next: u8,
 }
 
-/// Whether behind the character at the cursor, which is ASCII, one of two stands that are ASCII, too.
+/// Whether behind the character at the cursor, which is ASCII, one of two follows that are ASCII, too.
 #[inline(always)]
 fn goes_on(input: &StringInput, one: u8, other: u8) -> bool
     requires first { IfSome (slice_get (rest input.now) 0) (λ c. c < 128) }
@@ -32,7 +32,7 @@ fn goes_on(input: &StringInput, one: u8, other: u8) -> bool
     }
 }
 
-/// Whether a comment or a conflict marker may begin at the cursor, where this character stands and the flag stands or not.
+/// Whether a comment or a conflict marker may begin at the cursor, where this character is, with this flag.
 #[inline(always)]
 fn may_begin(input: &StringInput, flag: bool, b: u8) -> bool
     requires { slice_get (rest input.now) 0 ≡ Some b }
@@ -51,7 +51,7 @@ fn may_begin(input: &StringInput, flag: bool, b: u8) -> bool
     }
 }
 
-/// What is told at a cursor behind white space: nothing where another element may begin there, at the end, and before a
+/// What is answered at a cursor behind white space: nothing where another element may begin there, at the end, and before a
 /// character that isn't ASCII.
 #[inline(always)]
 pub(crate) fn told_at(input: &StringInput, line_break: bool) -> Option<BlankGap>
@@ -63,13 +63,13 @@ pub(crate) fn told_at(input: &StringInput, line_break: bool) -> Option<BlankGap>
     }
 }
 
-/// Passes the gap at the cursor, where nothing is to be told of it but the flag, and answers that; `first` says that no
+/// Passes the gap at the cursor, where there is nothing to report of it but the flag, and answers that; `first` says that no
 /// token came before, `collect` that comments are collected. [`scan_gap`](crate::scan_gap) finds the same where white space
 /// may be passed.
 ///
 /// Such a gap is white space, and where comments are not collected, line comments and closed block comments. Where another
-/// element may stand behind it, at the end, and before a character that isn't ASCII, there is no answer, and the cursor
-/// stands somewhere ahead; where comments are collected, behind the white space. No memory is taken.
+/// element may come behind it, at the end, and before a character that isn't ASCII, there is no answer, and the cursor
+/// is somewhere ahead; where comments are collected, behind the white space. No memory is taken.
 #[inline(always)]
 pub fn scan_blank_gap(input: &mut StringInput, first: bool, collect: bool) -> Option<BlankGap>
     ensures gap { IfSome result (IsTold first collect input.old input.new) }

@@ -8,7 +8,7 @@ ghost use Rattle.ecma_grammar.specs.Gaps as gaps;
 
 use ecma_place::{ByteClass, CharExt, StringInput};
 
-/// Whether these two characters, which are ASCII, stand at the cursor. None is decoded.
+/// Whether these two characters, which are ASCII, are at the cursor. None is decoded.
 #[inline(always)]
 pub(crate) fn stands_pair(input: &StringInput, one: u8, other: u8) -> bool
     requires { (one < 128) × (other < 128) }

@@ -120,7 +120,7 @@ fn read_block_comment<'a>(
     Ok(())
 }
 
-/// Reads the comment at the cursor, if `//` or `/*` stands there.
+/// Reads the comment at the cursor, if there is `//` or `/*`.
 pub(crate) fn read_comment<'a>(
     alloc: Global,
     input: &mut StringInput<'a>,
@@ -196,14 +196,14 @@ fn read_html_closing<'a>(
     read_comment_line(input, mode, so_far, behind)
 }
 
-/// How many characters of a marker stand before its comment.
+/// How many characters of a marker come before its comment.
 fn marker_margin(first: char) -> u32
     ensures { result ≡ marker_margin first }
 {
     if first == '=' || first == '>' { 3 } else { 2 }
 }
 
-/// How many characters of a marker's line stand before its comment's text.
+/// How many characters of a marker's line come before its comment's text.
 fn space_before_text(first: char) -> u32
     ensures { result ≡ (if first == 62 then 1 else 0) }
 {
@@ -211,7 +211,7 @@ fn space_before_text(first: char) -> u32
 }
 
 /// Reads the marker at the cursor, which is seven times this ASCII character, and before a space where it is `>`. Answers
-/// where the seven characters stand.
+/// where the seven characters are.
 pub(crate) fn read_marker<'a>(
     alloc: Global,
     input: &mut StringInput<'a>,
@@ -241,7 +241,7 @@ pub(crate) fn read_marker<'a>(
     Ok(span)
 }
 
-/// Reads the conflict marker at the cursor, if one stands there.
+/// Reads the conflict marker at the cursor, if there is one.
 fn read_conflict<'a>(
     alloc: Global,
     input: &mut StringInput<'a>,
@@ -268,14 +268,14 @@ fn read_conflict<'a>(
     }
 }
 
-/// Whether an HTML-like comment that begins with `<!--` stands at the cursor; among types none does.
+/// Whether an HTML-like comment that begins with `<!--` is at the cursor; among types none is.
 pub(crate) fn stands_html_opening(input: &StringInput, type_mode: bool) -> bool
     ensures { result ≡ (begins_with (codes "<!--") (rest input.now) && not type_mode) }
 {
     !type_mode && input.is_str("<!--")
 }
 
-/// Reads the HTML-like comment or the conflict marker at the cursor, if one stands there. `-->` and markers do so only
+/// Reads the HTML-like comment or the conflict marker at the cursor, if there is one. `-->` and markers do so only
 /// where no token came before, or a line terminator was read.
 fn read_special<'a>(
     alloc: Global,
@@ -305,7 +305,7 @@ fn read_special<'a>(
     }
 }
 
-/// Reads the element at the cursor, if one stands there. It is not white space, and is told by its first byte.
+/// Reads the element at the cursor, if there is one. It is not white space, and its first byte says which it is.
 pub(crate) fn read_element<'a>(
     alloc: Global,
     input: &mut StringInput<'a>,

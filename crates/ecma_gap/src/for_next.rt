@@ -7,7 +7,7 @@ use crate::white_space::skip_white_space;
 use ecma_place::{CommentKind, StringInput};
 use ecma_token::TokenKind;
 
-/// Whether a semicolon stands behind white space alone.
+/// Whether a semicolon follows, behind white space alone.
 fn semicolon_follows(input: &StringInput) -> bool
     ensures { result ≡ semicolon_follows (rest input.now) }
 {
@@ -40,8 +40,8 @@ fn can_trail_block(prev: Option<TokenKind>) -> bool
     }
 }
 
-/// Whether a comment is for the next token: `flag` says whether a line terminator stands before it, or no token came
-/// before, and the cursor stands behind it.
+/// Whether a comment is for the next token: `flag` says whether a line terminator comes before it, or no token came
+/// before, and the cursor is behind it.
 pub(crate) fn is_for_next(
     prev: Option<TokenKind>,
     flag: bool,

@@ -1,4 +1,4 @@
-//! Gaps: what stands before a token.
+//! Gaps: what comes before a token.
 ghost use Rattle.std.specs.Prelude.{◌≡◌, [], false, length, map, is_some, if◌then◌else◌, IfOk, IsOk, OnErr, OnOk};
 ghost use Rattle.ecma_place.specs.Cursor.{rest, place, passed};
 ghost use Rattle.ecma_grammar.specs.Comments.{comments_at};
@@ -17,10 +17,10 @@ use ecma_place::{Comment, StringInput};
 use ecma_token::Error;
 use std::alloc::{AllocError, Global};
 
-/// What stands before a token.
+/// What comes before a token.
 #[derive(Drop)]
 pub struct Gap<'a> {
-    /// Whether no token came before, or a line terminator stands in the gap.
+    /// Whether no token came before, or there is a line terminator in the gap.
     pub line_break: bool,
     /// The comments, and whether each is for the next token.
     pub comments: Vec<(Comment<'a>, bool)>,
@@ -28,7 +28,7 @@ pub struct Gap<'a> {
     pub faults: Vec<(Blame, Error<'a>)>,
 }
 
-/// Whether an HTML-like comment or a conflict marker stands at the cursor. `flag` says whether `-->` and markers may.
+/// Whether an HTML-like comment or a conflict marker is at the cursor. `flag` says whether `-->` and markers may.
 fn stands_special(input: &StringInput, type_mode: bool, flag: bool) -> bool
     ensures { result ≡ is_some (gaps.special_element type_mode flag (rest input.now)) }
 {
@@ -36,7 +36,7 @@ fn stands_special(input: &StringInput, type_mode: bool, flag: bool) -> bool
         || (flag && (input.is_str("-->") || stands_conflict(input, type_mode)))
 }
 
-/// Whether there is a gap at all: none stands before the text of a template, nor, where space is kept, before what is
+/// Whether there is a gap at all: none comes before the text of a template, nor, where space is kept, before what is
 /// neither an HTML-like comment nor a marker.
 fn may_stand(input: &StringInput, mode: &GapMode) -> bool
     ensures { gaps.gap mode.now (rest input.now) ≡ (if result then gaps.elements mode.now (rest input.now) else []) }
@@ -66,14 +66,14 @@ fn read_elements<'a>(
     so_far.into_gap(alloc, input.cur_pos())
 }
 
-/// Reads what stands before the next token (ECMA-262 WhiteSpace, LineTerminator and Comment, 12.2 to 12.4, and the
+/// Reads what comes before the next token (ECMA-262 WhiteSpace, LineTerminator and Comment, 12.2 to 12.4, and the
 /// HTML-like comments of Annex B.1.1). Conflict markers, and which spans faults have, are our own choice.
 ///
-/// The cursor then stands behind the gap. A gap without faults and collected comments takes no memory.
+/// The cursor is then behind the gap. A gap without faults and collected comments takes no memory.
 ///
 /// # Errors
 ///
-/// `AllocError` where there is no memory for a fault or a comment; the cursor then stands where it stood.
+/// `AllocError` where there is no memory for a fault or a comment; the cursor is then where it was.
 pub fn scan_gap<'a>(
     alloc: Global,
     input: &mut StringInput<'a>,

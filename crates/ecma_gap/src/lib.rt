@@ -1,4 +1,4 @@
-//! Readers of what stands between tokens: white space, comments, conflict markers, and markers of bars.
+//! Readers of what comes between tokens: white space, comments, conflict markers, and markers of bars.
 #![tactic(auto)]
 
 pub mod bars;

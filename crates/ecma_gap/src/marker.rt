@@ -5,7 +5,7 @@ ghost use Rattle.ecma_grammar.specs.Gaps.{is_marker, marker};
 
 use ecma_place::StringInput;
 
-/// Whether a marker of the character stands at the cursor: seven times `=`, or, outside of types, seven times `<` or
+/// Whether a marker of the character is at the cursor: seven times `=`, or, outside of types, seven times `<` or
 /// `>` before a space.
 #[tactic(auto, using(crate::proofs::MarkerLemmas::markers))]
 pub(crate) fn stands_marker(input: &StringInput, type_mode: bool, first: char) -> bool
@@ -19,7 +19,7 @@ pub(crate) fn stands_marker(input: &StringInput, type_mode: bool, first: char) -
     }
 }
 
-/// Whether a marker stands at the cursor.
+/// Whether a marker is at the cursor.
 pub(crate) fn stands_conflict(input: &StringInput, type_mode: bool) -> bool
     ensures { result ≡ is_some (marker type_mode (rest input.now)) }
 {

@@ -1,4 +1,4 @@
-//! Comments of which none is collected, where they begin a gap of which nothing is to be told but the flag: our own, for
+//! Comments of which none is collected, where they begin a gap with nothing to report but the flag: our own, for
 //! speed.
 ghost use Rattle.std.specs.Prelude.{◌≡◌, ◌||◌, ℕ, true, false, codes, drop, length, slice_get, Some, IfNone, IfSome};
 ghost use Rattle.std.specs.List.{list_any};
@@ -26,7 +26,7 @@ fn pass_line_comment(input: &mut StringInput)
 }
 
 /// Passes the block comment at the cursor (ECMA-262 MultiLineComment, 12.4), and answers whether it holds a line
-/// terminator; nothing is answered where nothing ends it, and the cursor then stands at the end.
+/// terminator; nothing is answered where nothing ends it, and the cursor is then at the end.
 fn pass_block_comment(input: &mut StringInput) -> Option<bool>
     requires opening { begins_with (codes "/*") (rest input.old) ≡ true }
     requires stands { next_passes is_white_space (rest input.old) ≡ false }
@@ -44,8 +44,8 @@ fn pass_block_comment(input: &mut StringInput) -> Option<bool>
     }
 }
 
-/// Passes the comment at the cursor, and answers whether it holds a line terminator. Nothing is answered where none stands,
-/// and where nothing ends it: the cursor then stands at the end.
+/// Passes the comment at the cursor, and answers whether it holds a line terminator. Nothing is answered where there is none,
+/// and where nothing ends it: the cursor is then at the end.
 fn pass_comment(input: &mut StringInput) -> Option<bool>
     requires { next_passes is_white_space (rest input.old) ≡ false }
     ensures comment { IfSome result (PassesComment input.old input.new) }
@@ -62,8 +62,8 @@ fn pass_comment(input: &mut StringInput) -> Option<bool>
     }
 }
 
-/// Passes the comments at the cursor and the white space behind each, and answers what is to be told of them, as
-/// [`scan_blank_gap`](crate::scan_blank_gap) does; `flag` says whether a line terminator stands before them, or no token.
+/// Passes the comments at the cursor and the white space behind each, and answers what is to be reported of them, as
+/// [`scan_blank_gap`](crate::scan_blank_gap) does; `flag` says whether a line terminator comes before them, or no token.
 #[inline(never)]
 pub(crate) fn pass_comments(input: &mut StringInput, flag: bool) -> Option<BlankGap>
     requires { next_passes is_white_space (rest input.old) ≡ false }

@@ -22,7 +22,7 @@ pub struct SkipWhitespace<'a> {
 impl<'a> SkipWhitespace<'a> {
     /// Moves the offset behind the longest run of white space that begins there, and notes a line terminator in it.
     ///
-    /// The offset stands between two characters (`str::is_char_boundary` tests it), and the text is at most
+    /// The offset is between two characters (`str::is_char_boundary` tests it), and the text is at most
     /// 4,294,967,295 bytes long. No memory is taken.
     pub fn scan(&mut self)
         requires cut { IsCharBoundary self.old.input.now self.old.offset }

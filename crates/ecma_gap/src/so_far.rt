@@ -19,7 +19,7 @@ use std::alloc::{AllocError, Global};
 pub(crate) struct GapSoFar<'a> {
     /// Whether no token came before, or a line terminator was read.
     pub(crate) line_break: bool,
-    /// Where the `<!--` stands whose fault is still to come.
+    /// Where the `<!--` is whose fault is still to come.
     pub(crate) opening: Option<BytePos>,
     /// The comments, and whether each is for the next token.
     pub(crate) comments: Vec<(Comment<'a>, bool)>,
@@ -54,7 +54,7 @@ impl<'a> GapSoFar<'a> {
         push_fault(alloc, &mut self.faults, blame, span, kind)
     }
 
-    /// Adds a comment behind which the cursor stands, where comments are collected.
+    /// Adds a comment behind which the cursor is, where comments are collected.
     pub(crate) fn add_comment(
         &mut self,
         mode: &GapMode,
@@ -72,7 +72,7 @@ impl<'a> GapSoFar<'a> {
         Ok(())
     }
 
-    /// Adds the fault of the `<!--` whose fault is still to come, up to `end`, and notes where the next one stands.
+    /// Adds the fault of the `<!--` whose fault is still to come, up to `end`, and notes where the next one is.
     pub(crate) fn open_at(
         &mut self,
         alloc: Global,

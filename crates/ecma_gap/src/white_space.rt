@@ -19,7 +19,7 @@ fn is_white_byte(b: u8) -> bool
     matches!(b, b'\t'..=b'\r' | b' ')
 }
 
-/// The white space character at the cursor, if one stands there. Only past ASCII a character is decoded.
+/// The white space character at the cursor, if there is one. Only past ASCII a character is decoded.
 #[inline(always)]
 fn white_space_at(input: &StringInput) -> Option<char>
     ensures first { IfSome result (λ c. slice_get (rest input.now) 0 ≡ Some c) }
@@ -87,7 +87,7 @@ fn pass_white_space(input: &mut StringInput) -> bool
     }
 }
 
-/// Moves behind the white space at the cursor, if any stands there, and says whether it held a line terminator.
+/// Moves behind the white space at the cursor, if there is any, and says whether it held a line terminator.
 #[inline(always)]
 fn pass_if_any(input: &mut StringInput) -> bool
     ensures terminator { result ≡ list_any is_line_terminator (take_while is_white_space (rest input.old)) }

@@ -23,11 +23,11 @@ pub enum Blame {
 pub struct Found<'a, T> {
     /// The value, or the refusal.
     pub value: Result<T, Error<'a>>,
-    /// What is wrong besides, in the order in which it stands.
+    /// What else is wrong, in the order in which it was found.
     pub faults: Vec<(Blame, Error<'a>)>,
     /// From the first character that was read to behind the last, in places.
     pub extent: Span,
-    /// Whether a line terminator stands in the text as itself.
+    /// Whether a line terminator is in the text as itself.
     pub line_break: bool,
 }
 

@@ -1,12 +1,12 @@
 //! What the reading of a gap goes by.
 use ecma_token::TokenKind;
 
-/// What the reading of a gap goes by, besides the text.
+/// What the reading of a gap goes by, beside the text.
 #[derive(Debug, Clone, Copy, PartialEq, Eq)]
 pub struct GapMode {
     /// Whether no token but a shebang was given.
     pub first: bool,
-    /// Whether `<` and `>` stand among types.
+    /// Whether `<` and `>` are read as in types.
     pub type_mode: bool,
     /// Whether the innermost context keeps space, so that no white space is passed.
     pub keeps_space: bool,

@@ -6,7 +6,7 @@ ghost use Rattle.ecma_grammar.specs.Fronts.{next_passes};
 
 use ecma_place::{CharExt, StringInput};
 
-/// Whether a start character stands at the cursor.
+/// Whether a start character is at the cursor.
 pub fn begins_name(input: &StringInput) -> bool
     ensures { result ≡ next_passes is_ident_start (rest input.now) }
 {

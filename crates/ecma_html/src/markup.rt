@@ -92,7 +92,7 @@ fn push_pieces(
     Ok(())
 }
 
-/// A text as HTML: an element `pre` of class `ecma`, in which each piece of the text stands in a span that names its class,
+/// A text as HTML: an element `pre` of class `ecma`, in which each piece of the text is in a span that names its class,
 /// if it has one. `classes` are those of the tokens that hold a byte, in order; a token for which there is none has none.
 ///
 /// Where the markup is taken away again, what is left is the text, with U+FFFD for each NUL; so it is in a browser, whose

@@ -38,8 +38,8 @@ fn told(stage: Stage, part: Part) -> Option<Form>
 /// The specifiers among the tokens of a text, in order: each string behind `import` at top level, behind `from` of an `import`
 /// or `export` there, and first in `import(` anywhere, never behind `.` or `#`.
 ///
-/// Not told are `require(..)`, `import x = require(..)`, declarations inside a namespace or module of TypeScript, and a
-/// specifier that begins with no string; of `import("a" + b)` the string is told.
+/// Not found are `require(..)`, `import x = require(..)`, declarations inside a namespace or module of TypeScript, and a
+/// specifier that begins with no string; of `import("a" + b)` the string is found.
 ///
 /// # Errors
 ///

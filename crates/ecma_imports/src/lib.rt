@@ -1,4 +1,4 @@
-//! What a text imports: the strings that name modules, told by its tokens.
+//! What a text imports: the strings that name modules, read off its tokens.
 #![tactic(auto)]
 
 mod imported;

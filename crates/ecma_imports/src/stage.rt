@@ -25,7 +25,7 @@ pub(crate) enum Part {
     EndBrace,
     Star,
     Comma,
-    /// `.` or `#`, behind which a name stands.
+    /// `.` or `#`, behind which a name comes.
     Member,
     Other,
 }
@@ -154,7 +154,7 @@ impl Stage {
         }
     }
 
-    /// Behind a token that stands so many brackets deep.
+    /// Behind a token so many brackets deep.
     pub(crate) fn next(self, depth: usize, part: Part) -> Stage
         ensures { result ≡ table.next_stage self depth part }
     {

@@ -21,7 +21,7 @@ pub mod words;
 
 /// From where a run began each piece begins where the one before it ends: the gap that a read reads in its mode, own
 /// bytes, the next read's gap, own bytes and so on, the last a gap once the end was answered. Joined they are the text up
-/// to where the run stands; once the end was answered, all of the text.
+/// to where the run is; once the end was answered, all of the text.
 pub fn kept_and_gaps_tile()
     ensures { Tiles }
 {}
@@ -51,7 +51,7 @@ pub fn tokens_run_out()
     ensures { TokensRunOut }
 {}
 
-/// No two tokens without characters stand one after the other.
+/// No two tokens without characters come one after the other.
 pub fn empty_tokens_stand_alone()
     ensures { EmptyTokensStandAlone }
 {}
@@ -91,14 +91,14 @@ pub fn comments_are_kept()
     ensures { CommentsAreKept }
 {}
 
-/// A read takes no memory, where fewer than 128 contexts stand, that finds no fault and no comment that is collected, and a
+/// A read takes no memory, where fewer than 128 contexts are on the stack, that finds no fault and no comment that is collected, and a
 /// token that means what is written of it: no error, with no backslash in its spelling, a number with no `_`, a template's
 /// text with no CR.
 pub fn reads_are_free()
     ensures { ReadsAreFree }
 {}
 
-/// The elements of the gaps that a run reads, and of its markers of bars, tell which comments it keeps: the line comments,
+/// The elements of the gaps that a run reads, and of its markers of bars, decide which comments it keeps: the line comments,
 /// closed block comments, `<!--`, `-->` and markers, each once, with its kind, span and text.
 pub fn comments_are_told()
     ensures { CommentsAreTold }

@@ -67,7 +67,7 @@ fn skip_class(input: &mut StringInput)
     'letters: while skip_class_letter(input) {}
 }
 
-/// Moves behind the class whose bracket stands at the cursor, and answers whether another closes it. Where none does,
+/// Moves behind the class whose bracket is at the cursor, and answers whether another closes it. Where none does,
 /// the cursor stays in its line.
 fn skip_bracketed(input: &mut StringInput) -> bool
     requires { slice_get (rest input.old) 0 ≡ Some 91 }
@@ -82,7 +82,7 @@ fn skip_bracketed(input: &mut StringInput) -> bool
 }
 
 /// Moves behind the piece of a body at the cursor, and answers whether there is one. Where there is none, the cursor
-/// stays in its line, and at a slash where one stands.
+/// stays in its line, and at a slash where there is one.
 fn skip_piece(input: &mut StringInput) -> bool
     ensures value { result ≡ is_some (expressions.body_piece (rest input.old)) }
     ensures moved { result ≡ true → input.new ≡ passed (length (body_if (expressions.body_piece (rest input.old)))) input.old }
@@ -123,7 +123,7 @@ fn skip_body(input: &mut StringInput) -> bool
     false
 }
 
-/// Reads the flags at the cursor: a name, where a start character stands there, else nothing.
+/// Reads the flags at the cursor: a name, where a start character is there, else nothing.
 fn read_flags<'a>(
     alloc: Global,
     input: &mut StringInput<'a>,
@@ -168,7 +168,7 @@ fn regex_token<'a>(
     }
 }
 
-/// Reads the flags of an expression with this body, which started at the place and whose last slash stands at the
+/// Reads the flags of an expression with this body, which started at the place and whose last slash is at the
 /// cursor.
 fn scan_closed<'a>(
     alloc: Global,
@@ -194,7 +194,7 @@ fn scan_closed<'a>(
     })
 }
 
-/// The regular expression at the cursor, behind which the cursor then stands.
+/// The regular expression at the cursor, behind which the cursor then is.
 fn expression_at<'a>(
     alloc: Global,
     input: &mut StringInput<'a>,
@@ -226,19 +226,19 @@ fn expression_at<'a>(
 /// Reads the regular expression at the cursor (ECMA-262 RegularExpressionLiteral, 12.9.5), and moves behind it: the body
 /// between two slashes, and flags where a start character follows.
 ///
-/// The cursor stands at a slash. The answer is a `Regex` with the body and the unescaped flags, or why it is refused:
+/// The cursor is at a slash. The answer is a `Regex` with the body and the unescaped flags, or why it is refused:
 ///
 /// - `UnterminatedRegExp` over the expression, which then reaches up to a line terminator or the end;
 /// - the refusal of an escape in the flags.
 ///
-/// A character that an escape of the flags names and that may not stand there is a fault, `InvalidIdentChar` over the
+/// A character that an escape of the flags names and that is not allowed there is a fault, `InvalidIdentChar` over the
 /// escape. That flags are checked no further, and the spans of errors, are our own choice.
 ///
 /// An expression that is not refused and has no escape in its flags takes no memory.
 ///
 /// # Errors
 ///
-/// `AllocError` where there is no memory for the flags or an error; the cursor then stands where it stood.
+/// `AllocError` where there is no memory for the flags or an error; the cursor is then where it was.
 pub fn scan_regexp<'a>(
     alloc: Global,
     input: &mut StringInput<'a>,

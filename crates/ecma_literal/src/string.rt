@@ -82,7 +82,7 @@ fn plain_text<'a>(input: &mut StringInput<'a>, quote: Quote) -> &'a str
 }
 
 /// Moves behind the pieces of a string at the cursor, and answers their text behind `before`, or the error of a
-/// refused escape. No character that stands for itself stands at the cursor.
+/// refused escape. No character that stands for itself is at the cursor.
 fn escaped_text<'a>(
     alloc: Global,
     input: &mut StringInput<'a>,
@@ -106,7 +106,7 @@ fn escaped_text<'a>(
     Ok(Ok(text))
 }
 
-/// Moves behind the pieces of a string, whose quote stands before the cursor, and answers their value: a slice where
+/// Moves behind the pieces of a string, whose quote is just before the cursor, and answers their value: a slice where
 /// they hold no escape, which takes no memory.
 fn string_value<'a>(
     alloc: Global,
@@ -186,14 +186,14 @@ fn string_token<'a>(
 
 /// Reads the string at the cursor (ECMA-262 StringLiteral, 12.9.4, with the octal escapes of Annex B).
 ///
-/// The cursor stands at a quote. The value borrows from the source where the string holds no escape, the raw text
+/// The cursor is at a quote. The value borrows from the source where the string holds no escape, the raw text
 /// always does. CR, LF or the end of the text end a string that is not closed, which is a fault from its quote on (our
 /// own choice); U+2028 and U+2029 do not. Octal escapes are faults of strict code. A refused escape refuses all from
 /// the quote up to where reading goes on. A string without an escape and without a fault takes no memory.
 ///
 /// # Errors
 ///
-/// `AllocError` where there is no memory for the value or an error; the cursor then stands where it stood.
+/// `AllocError` where there is no memory for the value or an error; the cursor is then where it was.
 pub fn scan_string<'a>(
     alloc: Global,
     input: &mut StringInput<'a>,
@@ -222,9 +222,9 @@ pub fn scan_string<'a>(
 }
 
 /// Reads the string at the cursor (ECMA-262 StringLiteral, 12.9.4), and moves behind it, where it is closed and holds no
-/// escape: its token is what [`scan_string`] finds, with nothing to be told of besides.
+/// escape: its token is what [`scan_string`] finds, with nothing else to report.
 ///
-/// The cursor stands at a quote. Where the string holds an escape or is not closed there is no answer, and the cursor
+/// The cursor is at a quote. Where the string holds an escape or is not closed there is no answer, and the cursor
 /// stays. No memory is taken: value and raw text borrow from the source. Our own, for speed.
 #[inline(always)]
 pub fn eat_plain_string<'a>(input: &mut StringInput<'a>) -> Option<Token<'a>>

@@ -20,7 +20,7 @@ use ecma_place::{BytePos, Span, StringInput};
 use ecma_token::{Error, SyntaxError, Token};
 use std::alloc::{AllocError, Global};
 
-/// Whether a back quote or `${` stands at the cursor.
+/// Whether a back quote or `${` is at the cursor.
 fn is_at_mark(input: &StringInput) -> bool
     ensures { result ≡ ends_template (rest input.now) }
 {
@@ -93,21 +93,21 @@ fn scan_text<'a>(
     })
 }
 
-/// Reads what stands at the cursor in a template (ECMA-262 TemplateCharacters, 12.9.6), and moves behind it: text up to
-/// a back quote, `${` or the end, or, where no text stands behind template text, the back quote or `${`.
+/// Reads what is at the cursor in a template (ECMA-262 TemplateCharacters, 12.9.6), and moves behind it: text up to
+/// a back quote, `${` or the end, or, where there is no text behind template text, the back quote or `${`.
 ///
-/// The cursor does not stand at the end. `opened` is the place of the last back quote that opened a template, or the
+/// The cursor is not at the end. `opened` is the place of the last back quote that opened a template, or the
 /// lexer's start place, and not behind the cursor; `after_template` says that the last token was template text. The
-/// answer is a `Template`, a `BackQuote` or a `DollarLBrace`. An escape that is refused is the error that stands in the
+/// answer is a `Template`, a `BackQuote` or a `DollarLBrace`. An escape that is refused is the error that is in the
 /// `Template` for what the text means, the last one where there are several. Text that meets the end is refused with
 /// `UnterminatedTpl`, from `opened` to the end: our own choice. There are no faults. The flag says whether a line
-/// terminator stands in the text outside an escape.
+/// terminator is in the text outside an escape.
 ///
 /// Text without escape, CR and refusal takes no memory.
 ///
 /// # Errors
 ///
-/// `AllocError` where there is no memory for what the text means or an error; the cursor then stands where it stood.
+/// `AllocError` where there is no memory for what the text means or an error; the cursor is then where it was.
 pub fn scan_template<'a>(
     alloc: Global,
     input: &mut StringInput<'a>,

@@ -28,7 +28,7 @@ use ecma_syntax::NumberRule;
 use ecma_token::Token;
 use std::alloc::{AllocError, Global};
 
-/// What is found of a number with these parts and this text, behind which the cursor stands.
+/// What is found of a number with these parts and this text, behind which the cursor is.
 fn found_number<'a>(
     alloc: Global,
     number: WrittenNumber<'a>,
@@ -69,16 +69,16 @@ fn found_number<'a>(
 
 /// Reads the number at the cursor (ECMA-262 NumericLiteral, 12.9.3, with the legacy forms), and moves behind it.
 ///
-/// The cursor stands at a digit, or at a point and a digit. `ts1085` says that a legacy octal is told of as TypeScript
+/// The cursor is at a digit, or at a point and a digit. `ts1085` says that a legacy octal is reported as TypeScript
 /// does, and `rule` which rule numbers are read by. The answer is a `Num` or a `BigInt`, or why the number is refused:
 ///
 /// - `ExpectedDigit` over the run of a radix or an exponent that has no digit;
 /// - `NumLitTerminatedWithExp`, empty behind a mark of an exponent that ends the text;
-/// - `IdentAfterNum`, empty behind the number: by the crate's rule where it is no big integer and a character stands there
+/// - `IdentAfterNum`, empty behind the number: by the crate's rule where it is no big integer and a character is there
 ///   with which a name begins; by the standard's, behind a big integer too, also where a decimal digit or a backslash does.
 ///
 /// The faults are `NumericSeparatorIsAllowedOnlyBetweenTwoDigits` from the start of a run to each separator in it that
-/// does not stand between two digits, and by the standard's rule to each in a decimal run that begins the number, begins
+/// is not between two digits, and by the standard's rule to each in a decimal run that begins the number, begins
 /// with `0` and is longer; and, of a number that is not refused, `LegacyDecimal` over the run, or `TS1085`
 /// and `LegacyOctal` over the number. Which errors there are, and their spans, is our own choice.
 ///
@@ -86,7 +86,7 @@ fn found_number<'a>(
 ///
 /// # Errors
 ///
-/// `AllocError` where there is no memory for digits or an error; the cursor then stands where it stood.
+/// `AllocError` where there is no memory for digits or an error; the cursor is then where it was.
 pub fn scan_number<'a>(
     alloc: Global,
     input: &mut StringInput<'a>,

@@ -7,7 +7,7 @@ pub fn runs_may_be_covered()
     ensures { RunsMayBeCovered }
 {}
 
-/// So do the tokens and comments that a replay tells.
+/// So do the tokens and comments that a replay answers.
 pub fn replays_may_be_covered()
     ensures { ReplaysMayBeCovered }
 {}

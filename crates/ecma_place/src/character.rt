@@ -91,7 +91,7 @@ impl CharExt for char {
     }
 }
 
-/// Whether the character is white space or a line terminator: what may stand between two tokens
+/// Whether the character is white space or a line terminator: what may come between two tokens
 /// beside comments.
 ///
 /// WhiteSpace and LineTerminator of ECMA-262, 12.2 and 12.3, and U+0085, which

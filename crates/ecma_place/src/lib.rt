@@ -1,8 +1,8 @@
-//! Texts, places and characters: what every layer of the lexer stands on.
+//! Texts, places and characters: what every layer of the lexer is built on.
 //!
 //! A text is a list of characters, and a place in it is the place where the text starts plus an
 //! offset in bytes. [`StringInput`] is a cursor in a text, [`Atom`] a text that is a slice of the
-//! source or owned, [`CharExt`] tells the classes of characters of ECMA-262, and [`Comments`] is
+//! source or owned, [`CharExt`] has the classes of characters of ECMA-262, and [`Comments`] is
 //! what comments are handed to. Only a copy of an owned text takes memory.
 #![tactic(auto)]
 

@@ -10,7 +10,7 @@ pub enum Answer<'a> {
     Token(TokenAndSpan<'a>),
     /// A read came to the end.
     End,
-    /// The step was taken, and there is nothing to tell.
+    /// The step was taken, and there is nothing to answer.
     Done,
     /// The errors that were taken.
     Errors(ErrorList<'a>),

@@ -17,7 +17,7 @@ use std::marker::Model;
 /// The tokens that are kept, which contracts see as a list, the newest first.
 #[derive(Drop)]
 pub struct KeptTokens {
-    /// The newest stands last.
+    /// The newest is last.
     items: Vec<Kept>,
 }
 
@@ -109,7 +109,7 @@ impl<'a> Player<'a> {
         })
     }
 
-    /// Goes back to where a copy stands.
+    /// Goes back to where a copy is.
     pub fn go_back(&mut self, copy: Player<'a>)
         ensures { self.new ≡ copy.entry }
     {

@@ -10,7 +10,7 @@ use ecma_state::kept::Kept;
 pub struct Replay<'a> {
     /// One answer for each step.
     pub answers: Vec<Answer<'a>>,
-    /// The tokens that are kept, in order: one that was read again stands in the place of its slash.
+    /// The tokens that are kept, in order: one that was read again takes the place of its slash.
     pub kept: Vec<Kept>,
     /// The errors that were recorded and not taken, in order.
     pub errors: ErrorList<'a>,

@@ -129,8 +129,8 @@ impl<'a> Runner<'a> {
 
 /// Takes steps over a text that starts at a place.
 ///
-/// One answer stands for each step. `Reread` has the next reads begin at the slash that was answered last, and `Withdraw`
-/// takes that back; `Back(n)` puts all but the answers and the saves as it stood right after save `n`, which are numbered
+/// There is one answer for each step. `Reread` has the next reads begin at the slash that was answered last, and `Withdraw`
+/// takes that back; `Back(n)` puts all but the answers and the saves as it was right after save `n`, which are numbered
 /// from 0 over the whole list. Steps that are refused change nothing: `NoSlash`, `NoSave`, `NoContext`.
 ///
 /// The caller knows that the text fits its places ([`StringInput::fits`]).

@@ -63,7 +63,7 @@ fn eat_three(input: &mut StringInput, first: u8, second: u8, third: u8) -> bool
     }
 }
 
-/// The punctuator that begins with `.`, which stands before the cursor.
+/// The punctuator that begins with `.`, which is just before the cursor.
 #[tactic(auto, using(ecma_grammar::proofs::PunctuatorLemmas::eating))]
 fn behind_dot(input: &mut StringInput) -> PunctuatorKind
     ensures token { token_in (first_of punctuators (46 ∷ rest input.old)) ≡ Some (kind_token result) }
@@ -76,7 +76,7 @@ fn behind_dot(input: &mut StringInput) -> PunctuatorKind
     }
 }
 
-/// The punctuator that begins with `=`, which stands before the cursor.
+/// The punctuator that begins with `=`, which is just before the cursor.
 #[tactic(auto, using(ecma_grammar::proofs::PunctuatorLemmas::eating))]
 fn behind_equals(input: &mut StringInput) -> PunctuatorKind
     ensures token { token_in (first_of punctuators (61 ∷ rest input.old)) ≡ Some (kind_token result) }
@@ -93,7 +93,7 @@ fn behind_equals(input: &mut StringInput) -> PunctuatorKind
     }
 }
 
-/// The punctuator that begins with `!`, which stands before the cursor.
+/// The punctuator that begins with `!`, which is just before the cursor.
 #[tactic(auto, using(ecma_grammar::proofs::PunctuatorLemmas::eating))]
 fn behind_bang(input: &mut StringInput) -> PunctuatorKind
     ensures token { token_in (first_of punctuators (33 ∷ rest input.old)) ≡ Some (kind_token result) }
@@ -108,7 +108,7 @@ fn behind_bang(input: &mut StringInput) -> PunctuatorKind
     }
 }
 
-/// The punctuator that begins with `<`, which stands before the cursor.
+/// The punctuator that begins with `<`, which is just before the cursor.
 #[tactic(auto, using(ecma_grammar::proofs::PunctuatorLemmas::eating))]
 fn behind_less(input: &mut StringInput) -> PunctuatorKind
     ensures token { token_in (first_of punctuators (60 ∷ rest input.old)) ≡ Some (kind_token result) }
@@ -125,7 +125,7 @@ fn behind_less(input: &mut StringInput) -> PunctuatorKind
     }
 }
 
-/// The punctuator that begins with `>`, which stands before the cursor.
+/// The punctuator that begins with `>`, which is just before the cursor.
 #[tactic(auto, using(ecma_grammar::proofs::PunctuatorLemmas::eating))]
 fn behind_greater(input: &mut StringInput) -> PunctuatorKind
     ensures token { token_in (first_of punctuators (62 ∷ rest input.old)) ≡ Some (kind_token result) }
@@ -146,7 +146,7 @@ fn behind_greater(input: &mut StringInput) -> PunctuatorKind
     }
 }
 
-/// The punctuator that begins with `+`, which stands before the cursor.
+/// The punctuator that begins with `+`, which is just before the cursor.
 #[tactic(auto, using(ecma_grammar::proofs::PunctuatorLemmas::eating))]
 fn behind_plus(input: &mut StringInput) -> PunctuatorKind
     ensures token { token_in (first_of punctuators (43 ∷ rest input.old)) ≡ Some (kind_token result) }
@@ -161,7 +161,7 @@ fn behind_plus(input: &mut StringInput) -> PunctuatorKind
     }
 }
 
-/// The punctuator that begins with `-`, which stands before the cursor.
+/// The punctuator that begins with `-`, which is just before the cursor.
 #[tactic(auto, using(ecma_grammar::proofs::PunctuatorLemmas::eating))]
 fn behind_minus(input: &mut StringInput) -> PunctuatorKind
     ensures token { token_in (first_of punctuators (45 ∷ rest input.old)) ≡ Some (kind_token result) }
@@ -176,7 +176,7 @@ fn behind_minus(input: &mut StringInput) -> PunctuatorKind
     }
 }
 
-/// The punctuator that begins with `*`, which stands before the cursor.
+/// The punctuator that begins with `*`, which is just before the cursor.
 #[tactic(auto, using(ecma_grammar::proofs::PunctuatorLemmas::eating))]
 fn behind_star(input: &mut StringInput) -> PunctuatorKind
     ensures token { token_in (first_of punctuators (42 ∷ rest input.old)) ≡ Some (kind_token result) }
@@ -193,7 +193,7 @@ fn behind_star(input: &mut StringInput) -> PunctuatorKind
     }
 }
 
-/// The punctuator that begins with `/`, which stands before the cursor.
+/// The punctuator that begins with `/`, which is just before the cursor.
 #[tactic(auto, using(ecma_grammar::proofs::PunctuatorLemmas::eating))]
 fn behind_slash(input: &mut StringInput) -> PunctuatorKind
     ensures token { token_in (first_of punctuators (47 ∷ rest input.old)) ≡ Some (kind_token result) }
@@ -206,7 +206,7 @@ fn behind_slash(input: &mut StringInput) -> PunctuatorKind
     }
 }
 
-/// The punctuator that begins with `%`, which stands before the cursor.
+/// The punctuator that begins with `%`, which is just before the cursor.
 #[tactic(auto, using(ecma_grammar::proofs::PunctuatorLemmas::eating))]
 fn behind_percent(input: &mut StringInput) -> PunctuatorKind
     ensures token { token_in (first_of punctuators (37 ∷ rest input.old)) ≡ Some (kind_token result) }
@@ -219,7 +219,7 @@ fn behind_percent(input: &mut StringInput) -> PunctuatorKind
     }
 }
 
-/// The punctuator that begins with `|`, which stands before the cursor.
+/// The punctuator that begins with `|`, which is just before the cursor.
 #[tactic(auto, using(ecma_grammar::proofs::PunctuatorLemmas::eating))]
 fn behind_bar(input: &mut StringInput) -> PunctuatorKind
     ensures token { token_in (first_of punctuators (124 ∷ rest input.old)) ≡ Some (kind_token result) }
@@ -236,7 +236,7 @@ fn behind_bar(input: &mut StringInput) -> PunctuatorKind
     }
 }
 
-/// The punctuator that begins with `&`, which stands before the cursor.
+/// The punctuator that begins with `&`, which is just before the cursor.
 #[tactic(auto, using(ecma_grammar::proofs::PunctuatorLemmas::eating))]
 fn behind_ampersand(input: &mut StringInput) -> PunctuatorKind
     ensures token { token_in (first_of punctuators (38 ∷ rest input.old)) ≡ Some (kind_token result) }
@@ -253,7 +253,7 @@ fn behind_ampersand(input: &mut StringInput) -> PunctuatorKind
     }
 }
 
-/// The punctuator that begins with `^`, which stands before the cursor.
+/// The punctuator that begins with `^`, which is just before the cursor.
 #[tactic(auto, using(ecma_grammar::proofs::PunctuatorLemmas::eating))]
 fn behind_caret(input: &mut StringInput) -> PunctuatorKind
     ensures token { token_in (first_of punctuators (94 ∷ rest input.old)) ≡ Some (kind_token result) }
@@ -266,7 +266,7 @@ fn behind_caret(input: &mut StringInput) -> PunctuatorKind
     }
 }
 
-/// The punctuator that begins with `?`, which stands before the cursor.
+/// The punctuator that begins with `?`, which is just before the cursor.
 #[tactic(auto, using(ecma_grammar::proofs::PunctuatorLemmas::eating))]
 fn behind_question(input: &mut StringInput) -> PunctuatorKind
     ensures token { token_in (first_of punctuators (63 ∷ rest input.old)) ≡ Some (kind_token result) }
@@ -319,7 +319,7 @@ fn begins_more(first: char) -> bool
     )
 }
 
-/// The punctuator whose first character stands before the cursor.
+/// The punctuator whose first character is just before the cursor.
 #[tactic(auto, unfolding(ecma_grammar::specs::Punctuators::begins_more))]
 fn behind_first(input: &mut StringInput, first: char) -> PunctuatorKind
     requires { begins_more first ≡ true }
@@ -344,7 +344,7 @@ fn behind_first(input: &mut StringInput, first: char) -> PunctuatorKind
     }
 }
 
-/// `<` or `>`, which stand alone among types.
+/// `<` or `>`, which are single characters among types.
 fn angle(type_mode: bool, first: char) -> Option<PunctuatorKind>
     ensures { option_map kind_token result ≡ angle_in type_mode first }
 {
@@ -355,7 +355,7 @@ fn angle(type_mode: bool, first: char) -> Option<PunctuatorKind>
     }
 }
 
-/// Whether a point and a digit stand at the cursor, with which a number begins.
+/// Whether a point and a digit is at the cursor, with which a number begins.
 fn opens_fraction(input: &StringInput) -> bool
     ensures { result ≡ opens_fraction (rest input.now) }
 {

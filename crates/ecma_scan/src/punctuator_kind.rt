@@ -6,7 +6,7 @@ ghost use Rattle.ecma_token.specs.Kinds.{token_kind};
 use ecma_syntax::{AssignOp, BinOpToken};
 use ecma_token::{Token, TokenKind};
 
-/// Which punctuator stands at a place: what its token is, in two bytes. Our own, for speed.
+/// Which punctuator is at a place: what its token is, in two bytes. Our own, for speed.
 #[derive(Debug, Clone, Copy, PartialEq, Eq)]
 pub enum PunctuatorKind {
     Arrow,

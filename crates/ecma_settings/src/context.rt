@@ -6,7 +6,7 @@ use ecma_word::keyword::Keyword;
 use ecma_word::known_ident::KnownIdent;
 use ecma_word::word::{IdentLike, Word};
 
-/// Where an expression stands in the head of a `for`.
+/// Where an expression is in the head of a `for`.
 #[derive(Debug, Clone, Copy, Default)]
 pub struct ExpressionContext {
     /// The first part of the head of a `for` (ECMA-262, 14.7.4).
@@ -29,7 +29,7 @@ pub struct Context {
     pub can_be_module: bool,
     /// Strict mode code (ECMA-262, 11.2.2).
     pub strict: bool,
-    /// Where in the head of a `for` an expression stands.
+    /// Where in the head of a `for` an expression is.
     pub expr_ctx: ExpressionContext,
     /// `in` is an operator here: the parameter In of the grammar (ECMA-262, 13.10).
     pub include_in_expr: bool,
@@ -39,9 +39,9 @@ pub struct Context {
     pub in_generator: bool,
     /// In a static block of a class, where `await` is reserved (ECMA-262, 15.7).
     pub in_static_block: bool,
-    /// `continue` may stand here (ECMA-262, 14.8).
+    /// `continue` is allowed here (ECMA-262, 14.8).
     pub is_continue_allowed: bool,
-    /// `break` may stand here (ECMA-262, 14.9).
+    /// `break` is allowed here (ECMA-262, 14.9).
     pub is_break_allowed: bool,
     /// In a type of TypeScript, where `<` and `>` are tokens by themselves.
     pub in_type: bool,
@@ -69,11 +69,11 @@ pub struct Context {
     pub in_property_name: bool,
     /// The parser reads JSX here.
     pub in_forced_jsx_context: bool,
-    /// `super` with a property may stand here (ECMA-262, 13.3.7).
+    /// `super` with a property is allowed here (ECMA-262, 13.3.7).
     pub allow_direct_super: bool,
     /// An `if` leaves its `else` to the caller (ECMA-262, 14.6).
     pub ignore_else_clause: bool,
-    /// No conditional type of TypeScript may stand here.
+    /// No conditional type of TypeScript is allowed here.
     pub disallow_conditional_types: bool,
     /// `using` may begin a declaration here.
     pub allow_using_decl: bool,

@@ -97,7 +97,7 @@ impl Syntax {
         }
     }
 
-    /// Whether decorators may stand before `export`.
+    /// Whether decorators are allowed before `export`.
     pub fn decorators_before_export(self) -> bool
         ensures { result ≡ question.decorators_before_export self }
     {
@@ -107,7 +107,7 @@ impl Syntax {
         }
     }
 
-    /// Whether `super` may stand outside a method.
+    /// Whether `super` is allowed outside a method.
     pub fn allow_super_outside_method(self) -> bool
         ensures { result ≡ question.allow_super_outside_method self }
     {
@@ -147,7 +147,7 @@ impl Syntax {
         }
     }
 
-    /// Whether `return` may stand outside a function.
+    /// Whether `return` is allowed outside a function.
     pub fn allow_return_outside_function(self) -> bool
         ensures { result ≡ question.allow_return_outside_function self }
     {
@@ -204,7 +204,7 @@ impl Syntax {
         }
     }
 
-    /// Whether early errors are told.
+    /// Whether early errors are reported.
     pub fn early_errors(self) -> bool
         ensures { result ≡ question.early_errors self }
     {
@@ -261,7 +261,7 @@ pub enum NumberRule {
     /// any decimal run may hold separators.
     #[serde(rename = "crate")]
     Crate,
-    /// That of ECMA-262 (12.9.3). Behind no number a name may begin or a decimal digit stand, and a decimal integer run that
+    /// That of ECMA-262 (12.9.3). Behind no number a name may begin or a decimal digit follow, and a decimal integer run that
     /// begins with `0` and goes on holds no separator.
     #[serde(rename = "standard")]
     Standard,

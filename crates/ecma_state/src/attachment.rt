@@ -1,4 +1,4 @@
-//! Which token each comment of a read belongs to, and on which side of it the comment stands: our own choice.
+//! Which token each comment of a read belongs to, and on which side of it the comment is: our own choice.
 ghost use Rattle.std.specs.Prelude.{◌≡◌, ◌++◌, ◌∷◌, [], IsOk, IfOk, OnOk};
 ghost use Rattle.ecma_state.specs.Attachment.{attachment, for_next, of_next, of_previous};
 

@@ -7,7 +7,7 @@ use std::alloc::{AllocError, Global};
 use std::marker::Model;
 use std::mem;
 
-/// On which side of a token a comment stands: our own choice of words.
+/// On which side of a token a comment is: our own choice of words.
 #[derive(Clone, Copy)]
 pub enum BufferedCommentKind {
     /// Before the token that starts at the place.

@@ -14,7 +14,7 @@ use ecma_token::{TokenAndSpan, TokenKind};
 pub struct Kept {
     pub kind: TokenKind,
     pub span: Span,
-    /// Whether a line terminator stands before the token.
+    /// Whether a line terminator comes before the token.
     pub flag: bool,
 }
 
@@ -111,7 +111,7 @@ impl Seen {
         self.last.map(|token| token.kind)
     }
 
-    /// Where the slash stands that was answered last, if the last answer was one.
+    /// Where the slash is that was answered last, if the last answer was one.
     pub fn last_slash(self) -> Option<BytePos>
         ensures { result ≡ last_slash self }
     {

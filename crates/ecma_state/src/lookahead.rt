@@ -12,7 +12,7 @@ use ecma_place::{CharExt, StringInput};
 /// What the first characters of a text open.
 #[derive(Debug, Clone, Copy, PartialEq, Eq)]
 pub enum Lookahead {
-    /// What stands in a template: its text, or a sign behind that.
+    /// What is in a template: its text, or a sign behind that.
     Template,
     Number,
     String,
@@ -23,7 +23,7 @@ pub enum Lookahead {
     Other,
 }
 
-/// Whether a number stands at the cursor, which stands before the character `c`.
+/// Whether a number is at the cursor, which is before the character `c`.
 #[inline(always)]
 fn stands_number(input: &StringInput, c: char) -> bool
     requires { slice_get (rest input.now) 0 ≡ Some c }
@@ -45,7 +45,7 @@ fn begins_word(c: char) -> bool
     }
 }
 
-/// Whether a marker of bars stands at the cursor, which stands before the character `c`.
+/// Whether a marker of bars is at the cursor, which is before the character `c`.
 #[inline(always)]
 fn stands_bars(input: &StringInput, c: char) -> bool
     requires { slice_get (rest input.now) 0 ≡ Some c }
@@ -55,7 +55,7 @@ fn stands_bars(input: &StringInput, c: char) -> bool
 }
 
 impl Lookahead {
-    /// What stands at the cursor, which stands before the character `c`, behind a gap whose flag stands or not.
+    /// What is at the cursor, which is before the character `c`, behind a gap with this flag.
     #[inline(always)]
     pub fn at(input: &StringInput, mode: &Mode, flag: bool, c: char) -> Lookahead
         requires { slice_get (rest input.now) 0 ≡ Some c }

@@ -1,4 +1,4 @@
-//! What a read goes by besides the text.
+//! What a read goes by, beside the text.
 ghost use Rattle.std.specs.Prelude.{◌≡◌};
 ghost use Rattle.ecma_state.specs.Mode.{type_mode, gap_mode, is_template, is_tpl_element, passes_space};
 ghost use Rattle.ecma_state.specs.TokenAt.{ts1085};
@@ -10,7 +10,7 @@ use ecma_place::BytePos;
 use ecma_syntax::{Context, EsVersion, Syntax};
 use ecma_token::TokenKind;
 
-/// What a read goes by besides the text.
+/// What a read goes by, beside the text.
 #[derive(Debug, Clone, Copy)]
 pub struct Mode {
     pub settings: Settings,
@@ -19,16 +19,16 @@ pub struct Mode {
     pub top: Option<TokenContext>,
     /// Whether no token but a shebang was given.
     pub first: bool,
-    /// Whether no token at all was given, so that a shebang may stand.
+    /// Whether no token at all was given, so that a shebang is allowed.
     pub shebang_allowed: bool,
     /// The kind of the token before.
     pub previous: Option<TokenKind>,
-    /// Where the back quote stands that opened a template last; the start place where none did.
+    /// Where the back quote is that opened a template last; the start place where none did.
     pub opened: BytePos,
 }
 
 impl Mode {
-    /// Whether `<` and `>` stand among types.
+    /// Whether `<` and `>` are read as in types.
     pub fn type_mode(&self) -> bool
         ensures { result ≡ type_mode self.now }
     {
@@ -37,7 +37,7 @@ impl Mode {
             && !self.context.should_not_lex_lt_or_gt_as_type
     }
 
-    /// Whether legacy octals are told of as TypeScript does: for targets from the fifth edition on.
+    /// Whether legacy octals are reported as TypeScript does: for targets from the fifth edition on.
     pub fn ts1085(&self) -> bool
         ensures { result ≡ ts1085 self.now }
     {
@@ -53,7 +53,7 @@ impl Mode {
         matches!(self.top, Some(TokenContext::Tpl))
     }
 
-    /// Whether template text stands before.
+    /// Whether template text comes before.
     pub fn is_after_template(&self) -> bool
         ensures { result ≡ is_tpl_element self.now.previous }
     {

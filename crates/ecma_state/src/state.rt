@@ -25,7 +25,7 @@ pub struct State {
     pub expr_allowed: bool,
     /// Where the text begins.
     pub start: BytePos,
-    /// Where the back quote stands that opened a template last; the start place where none did.
+    /// Where the back quote is that opened a template last; the start place where none did.
     pub opened: BytePos,
     pub seen: Seen,
 }
@@ -166,7 +166,7 @@ impl State {
         Ok(())
     }
 
-    /// Begins the context of `{`, before which a line terminator stands or not.
+    /// Begins the context of `{`, with or without a line terminator before it.
     #[inline(never)]
     fn open_brace(&mut self, flag: bool) -> Result<(), AllocError>
         ensures ok { OnOk result (self.new ≡ record self.old { contexts = brace_behind (state.before_of self.old) self.old.contexts flag ∷ self.old.contexts; expr_allowed = true }) }

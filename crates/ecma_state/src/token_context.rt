@@ -1,6 +1,6 @@
 //! What encloses the place that is read.
 
-/// What encloses the place that is read, as far as the lexer tells by itself.
+/// What encloses the place that is read, as far as the lexer knows by itself.
 #[derive(Debug, Clone, Copy, PartialEq, Eq, Default)]
 pub enum TokenContext {
     /// A block, and what encloses a whole text.

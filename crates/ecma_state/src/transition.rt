@@ -10,14 +10,14 @@ use ecma_syntax::{BinOpToken, IdentKind, Keyword, KnownIdent, WordKind};
 use ecma_token::TokenKind;
 use std::alloc::AllocError;
 
-/// What stands before a token, besides the contexts.
+/// What comes before a token, beside the contexts.
 #[derive(Debug, Clone, Copy)]
 pub struct Before {
     /// Whether an expression may begin.
     pub expr_allowed: bool,
     /// The kind of the token before.
     pub previous: Option<TokenKind>,
-    /// Whether a line terminator stands before that token; false where there is no token.
+    /// Whether a line terminator comes before that token; false where there is no token.
     pub previous_flag: bool,
 }
 
@@ -126,7 +126,7 @@ fn declares(previous: Option<TokenKind>) -> bool
     )
 }
 
-/// Whether `of` in the head of a `for` stands behind what is iterated with, so that it isn't itself a name.
+/// Whether `of` in the head of a `for` comes behind what is iterated with, so that it isn't itself a name.
 fn is_not_before_expr(previous: Option<TokenKind>) -> bool
     ensures { result ≡ transitions.not_before_expr previous }
 {
@@ -254,8 +254,8 @@ impl Before {
         }
     }
 
-    /// Changes the contexts as a token of this kind does, before which a line terminator stands or not (`flag`); whether
-    /// an expression may begin behind it. This takes no memory where fewer than 128 contexts stand, nor where no context is
+    /// Changes the contexts as a token of this kind does, with or without a line terminator before it (`flag`); whether
+    /// an expression may begin behind it. This takes no memory where fewer than 128 contexts are on the stack, nor where no context is
     /// begun.
     ///
     /// # Errors

@@ -1,4 +1,4 @@
-//! What ends a run before its text is made, and how it is told.
+//! What ends a run before its text is made, and how it is reported.
 ghost use Rattle.std.specs.Prelude.{◌≡◌};
 ghost use Rattle.ecma_stdio.specs.Faults.{fault_status, fault_line};
 
@@ -18,7 +18,7 @@ pub enum Fault {
 }
 
 impl Fault {
-    /// The exit status that tells of the fault.
+    /// The exit status that reports the fault.
     pub fn status(self) -> u8
         ensures { result ≡ fault_status self }
     {
@@ -30,7 +30,7 @@ impl Fault {
         }
     }
 
-    /// The line that tells of the fault, with its line feed.
+    /// The line that reports the fault, with its line feed.
     pub fn line(self) -> &'static [u8]
         ensures { result.now ≡ fault_line self }
     {

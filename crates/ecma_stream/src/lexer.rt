@@ -115,7 +115,7 @@ impl<'a> Lexer<'a> {
         }
     }
 
-    /// Whether a line terminator stands before the last token, or, where the last answer was the end, before that.
+    /// Whether a line terminator comes before the last token, or, where the last answer was the end, before that.
     ///
     /// Before any answer there is none.
     pub fn had_line_break_before_last(&self) -> bool
@@ -187,7 +187,7 @@ impl<'a> Lexer<'a> {
         })
     }
 
-    /// Goes back to where a copy stands.
+    /// Goes back to where a copy is.
     pub fn go_back(&mut self, copy: Lexer<'a>)
         ensures { self.new ≡ copy.entry }
     {
@@ -247,7 +247,7 @@ impl<'a> Lexer<'a> {
 }
 
 impl<'a> Lexer<'a> {
-    /// What the next read finds, behind which this cursor then stands, which stands where the lexer does.
+    /// What the next read finds, behind which this cursor then is, which is where the lexer is.
     fn read_on(&self, input: &mut StringInput<'a>) -> Result<Reading<'a>, AllocError>
         requires { input.old ≡ self.now.input }
         ensures found { IfOk result (λ r. option_map spanned_view r.found ≡ (reading_of (lexer_state self.now)).found) }
@@ -264,7 +264,7 @@ impl<'a> Lexer<'a> {
         }
     }
 
-    /// What the next read finds, behind which the cursor then stands. Nothing is changed where memory is refused.
+    /// What the next read finds, behind which the cursor then is. Nothing is changed where memory is refused.
     fn find(&mut self) -> Result<Reading<'a>, AllocError>
         ensures found { IfOk result (λ r. option_map spanned_view r.found ≡ (reading_of (lexer_state self.old)).found) }
         ensures besides { IfOk result (λ r. IsBeside r.besides (reading_of (lexer_state self.old))) }
@@ -303,7 +303,7 @@ impl<'a> Lexer<'a> {
             .take_read(&self.context, gap_faults, token_faults)
     }
 
-    /// Takes in a token that was found with nothing besides: the contexts change. Nothing does where memory is refused.
+    /// Takes in a token that was found with nothing else to report: the contexts change. Nothing does where memory is refused.
     #[inline(always)]
     fn take_plain(&mut self, token: Kept) -> Result<(), AllocError>
         requires { IsAnswer self.old (Some token) }
@@ -315,7 +315,7 @@ impl<'a> Lexer<'a> {
         Ok(())
     }
 
-    /// Reads with all that is found besides the token.
+    /// Reads with all that is found beside the token.
     #[inline(never)]
     #[tactic(auto, using(crate::proofs::SlashLemmas::free_read_faults, crate::proofs::SlashLemmas::free_read_comments, crate::proofs::EndingLemmas::end_found, crate::proofs::EndingLemmas::end_faults, crate::proofs::EndingLemmas::end_comments, crate::proofs::EndingLemmas::end_free))]
     fn next_with_besides(&mut self) -> Result<Option<TokenAndSpan<'a>>, AllocError>
@@ -331,7 +331,7 @@ impl<'a> Lexer<'a> {
         Ok(found)
     }
 
-    /// Reads with all that is found besides the token, which it puts into the slot.
+    /// Reads with all that is found beside the token, which it puts into the slot.
     #[inline(never)]
     fn besides_into(&mut self, slot: &mut Option<TokenAndSpan<'a>>) -> Result<(), AllocError>
         ensures done { OnOk result (Gives self.old self.new slot.old slot.new true) }
@@ -423,7 +423,7 @@ impl<'a> Lexer<'a> {
         }
     }
 
-    /// Reads into a slot that is kept: what [`Lexer::read`] answers takes the place of what stands in it. Where tokens are
+    /// Reads into a slot that is kept: what [`Lexer::read`] answers takes the place of what is in it. Where tokens are
     /// kept this is the cheaper of the two, since the token is made in its place. Our own.
     ///
     /// # Errors
@@ -454,9 +454,9 @@ impl<'a> Lexer<'a> {
 
     /// The next token, or nothing at the end.
     ///
-    /// What is wrong besides is recorded, waits or is dropped, as the context says; the comments before it are attached,
+    /// What else is wrong is recorded, waits or is dropped, as the context says; the comments before it are attached,
     /// where they are collected. A read takes no memory where nothing is wrong, no comment is collected, the token's
-    /// value is its spelling, and fewer than 128 contexts stand.
+    /// value is its spelling, and fewer than 128 contexts are on the stack.
     ///
     /// # Errors
     ///

@@ -1,4 +1,4 @@
-//! Reads of tokens of which nothing is to be told besides: most reads, without lists. Our own, for speed.
+//! Reads of tokens with nothing else to report: most reads, without lists. Our own, for speed.
 ghost use Rattle.std.specs.Prelude.{◌≡◌, ◌≤◌, true, false, Some, length, slice_get, IfOk, IfSome, IsOk, OnErr, OnOk};
 ghost use Rattle.ecma_place.specs.Cursor.{Cursor, HasPlace, rest, place, passed};
 ghost use Rattle.ecma_token.specs.View.{spanned_view, token_view};
@@ -24,7 +24,7 @@ use ecma_syntax::{Word, WordKind};
 use ecma_token::{Token, TokenAndSpan, TokenKind};
 use std::alloc::{AllocError, Global};
 
-/// A token that was found, behind a gap whose flag stands or not, where nothing is to be told besides.
+/// A token that was found, behind a gap with this flag, where there is nothing else to report.
 #[inline(always)]
 fn plain_found<'a>(found: Found<'a, Token<'a>>, flag: bool) -> Option<TokenAndSpan<'a>>
     ensures token { IfSome result (λ t. found_view token_view found.entry ≡ plain_view (spanned_view t)) }
@@ -49,7 +49,7 @@ fn plain_found<'a>(found: Found<'a, Token<'a>>, flag: bool) -> Option<TokenAndSp
     }
 }
 
-/// A token, of which nothing is to be told besides, and what is kept of it.
+/// A token, with nothing else to report, and what is kept of it.
 #[derive(Drop)]
 pub struct Plain<'a> {
     pub token: TokenAndSpan<'a>,
@@ -162,7 +162,7 @@ pub fn plain_alone<'a>(
     }
 }
 
-/// The punctuator at the cursor, behind a gap whose flag stands or not, if there is one.
+/// The punctuator at the cursor, behind a gap with this flag, if there is one.
 #[inline(always)]
 pub fn plain_punctuator<'a>(
     input: &mut StringInput<'a>,
@@ -184,7 +184,7 @@ pub fn plain_punctuator<'a>(
     }))
 }
 
-/// The number at the cursor, behind a gap whose flag stands or not, where nothing is wrong with it.
+/// The number at the cursor, behind a gap with this flag, where nothing is wrong with it.
 #[inline(always)]
 pub fn plain_number<'a>(
     alloc: Global,
@@ -212,7 +212,7 @@ pub fn plain_number<'a>(
     Ok(plain_found(found, flag))
 }
 
-/// The string at the cursor, behind a gap whose flag stands or not, where nothing is wrong with it and it holds no line
+/// The string at the cursor, behind a gap with this flag, where nothing is wrong with it and it holds no line
 /// terminator.
 #[inline(always)]
 pub fn plain_string<'a>(
@@ -240,7 +240,7 @@ pub fn plain_string<'a>(
     Ok(plain_found(found, flag))
 }
 
-/// The gap at the cursor with which a read begins, where nothing is to be told of it but the flag.
+/// The gap at the cursor with which a read begins, where there is nothing to report of it but the flag.
 #[inline(always)]
 pub fn plain_gap(input: &mut StringInput, mode: &Mode) -> Option<BlankGap>
     ensures { IfSome result (λ gap. StandsPlain mode.now input.old input.new gap) }

@@ -23,7 +23,7 @@ pub enum SyntaxError<'a> {
     LegacyDecimal,
     /// A legacy octal in strict mode code (ECMA-262, 12.9.3, 12.9.4), or as an escape in a template (12.9.6).
     LegacyOctal,
-    /// An escape in a name, of what cannot stand there (ECMA-262, 12.7).
+    /// An escape in a name, of what cannot be there (ECMA-262, 12.7).
     InvalidIdentChar,
     /// A number that lacks its digits, of this radix.
     ExpectedDigit {
@@ -71,7 +71,7 @@ pub enum SyntaxError<'a> {
     Fixed(FixedError),
     /// A name that is reserved in strict mode code.
     InvalidIdentInStrict(Atom<'a>),
-    /// A unary expression as the base of `**`: its text, and where it stands.
+    /// A unary expression as the base of `**`: its text, and where it is.
     UnaryInExp {
         left: String,
         left_span: Span,
@@ -91,7 +91,7 @@ pub enum SyntaxError<'a> {
     ExpectedSemiForExprStmt {
         expr: Span,
     },
-    /// A second `default`; the first stands here.
+    /// A second `default`; the first is here.
     MultipleDefault {
         previous: Span,
     },
@@ -112,7 +112,7 @@ pub enum SyntaxError<'a> {
     TS1274(Atom<'a>),
     TS1277(Atom<'a>),
     TsNonNullAssertionNotAllowed(Atom<'a>),
-    /// An error that is told of at another place too.
+    /// An error that is reported at another place too.
     WithLabel {
         inner: Box<Error<'a>>,
         span: Span,
@@ -230,7 +230,7 @@ impl<'a> SyntaxError<'a> {
         }
     }
 
-    /// The same, where it holds words. It stands apart from `copy` since each text that may be refused costs a proof for all
+    /// The same, where it holds words. It is apart from `copy` since each text that may be refused costs a proof for all
     /// that recurs beside it.
     fn copy_words(&self, alloc: Global) -> Result<SyntaxError<'a>, AllocError>
         requires { IsTrue (holds_words self.now) }

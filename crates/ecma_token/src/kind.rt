@@ -1,4 +1,4 @@
-//! Kinds of tokens, and what may stand beside them.
+//! Kinds of tokens, and what may come beside them.
 ghost use Rattle.std.specs.Prelude.{◌≡◌};
 ghost use Rattle.ecma_token.specs.Questions as ask;
 
@@ -154,7 +154,7 @@ impl TokenKind {
         }
     }
 
-    /// Whether a block comment behind a token of this kind may be that token's: our own choice. Where no token stands
+    /// Whether a block comment behind a token of this kind may be that token's: our own choice. Where there is no token
     /// before it, it may not.
     pub fn can_have_trailing_comment(self) -> bool
         ensures { result ≡ ask.can_have_trailing_comment self }
@@ -173,7 +173,7 @@ impl TokenKind {
         )
     }
 
-    /// Whether a line comment behind a token of this kind may be that token's: our own choice. Where no token stands
+    /// Whether a line comment behind a token of this kind may be that token's: our own choice. Where there is no token
     /// before it, it may too.
     pub fn can_have_trailing_line_comment(self) -> bool
         ensures { result ≡ ask.can_have_trailing_line_comment self }

@@ -10,6 +10,6 @@ mod quoted;
 pub mod token;
 
 pub use error::{Error, SyntaxError};
-pub use kind::TokenKind;
 pub use fixed::FixedError;
+pub use kind::TokenKind;
 pub use token::{Radix, Token, TokenAndSpan};

@@ -4,7 +4,7 @@ ghost use Rattle.ecma_token.specs.Quoted.{quoted_char};
 use std::fmt;
 
 /// A character whose text is the character in single quotes. A quote or a backslash, NUL, tab, LF and CR are escaped,
-/// another ASCII control character is its number in braces; all else stands as itself.
+/// another ASCII control character is its number in braces; all else is written as itself.
 #[derive(Clone, Copy)]
 pub struct Quoted(pub char);
 

@@ -112,7 +112,7 @@ pub enum Token<'a> {
     JSXTagStart,
     /// `>` of a JSX tag; the lexer never gives it.
     JSXTagEnd,
-    /// A line that begins with `#!` at the very start; its text stands behind these.
+    /// A line that begins with `#!` at the very start; its text is what follows these.
     Shebang(Atom<'a>),
     /// A text that is no token, and why.
     Error(Error<'a>),
@@ -191,7 +191,7 @@ impl<'a> Token<'a> {
         }
     }
 
-    /// The same token, where it holds texts and no error. It stands apart from `copy` since each text that may be refused
+    /// The same token, where it holds texts and no error. It is apart from `copy` since each text that may be refused
     /// costs a proof for all that recurs beside it.
     fn copy_texts(&self, alloc: Global) -> Result<Token<'a>, AllocError>
         requires { IsTrue (has_texts self.now) }
@@ -340,7 +340,7 @@ impl<'a> fmt::Debug for Token<'a> {
     }
 }
 
-/// A token, where it stands, and whether a line terminator stands before it.
+/// A token, where it is, and whether a line terminator comes before it.
 #[derive(Debug, PartialEq, Drop)]
 pub struct TokenAndSpan<'a> {
     pub token: Token<'a>,

@@ -1,4 +1,4 @@
-//! The table of words, laid out for a look-up of a word that stands at the front of 16 bytes.
+//! The table of words, laid out for a look-up of a word at the front of 16 bytes.
 ghost use Rattle.std.specs.Prelude.{◌≡◌, ◌≤◌, ◌<◌, true, map, take, length, nat_eq};
 ghost use Rattle.std.specs.Cmp.Lexicographic.{pointwise};
 ghost use Rattle.std.specs.List.{list_all};
@@ -350,7 +350,7 @@ fn same_front(left: &[u8; 16], right: &[u8; 16], length: u32) -> bool
     (differ | 0x10000).trailing_zeros() >= length
 }
 
-/// What the word is that the first `length` of these 16 bytes spell; what stands behind them doesn't matter. It takes no
+/// What the word is that the first `length` of these 16 bytes spell; what follows them doesn't matter. It takes no
 /// memory, and compares with one row at most.
 ///
 /// Our own, for speed.

@@ -20,12 +20,12 @@ pub fn gap_is_front()
     ensures { GapIsFront }
 {}
 
-/// The gap's flag is the one that stands behind its last element.
+/// The gap's flag is the one behind its last element.
 pub fn flag_is_behind()
     ensures { FlagIsBehind }
 {}
 
-/// A block comment ends at the first `*/`: where one stands in the text the body ends no later.
+/// A block comment ends at the first `*/`: where there is one in the text the body ends no later.
 pub fn comment_body_is_first()
     ensures { CommentBodyIsFirst }
 {}
@@ -40,35 +40,35 @@ pub fn nothing_is_the_gap()
     ensures { NothingIsTheGap }
 {}
 
-/// A space before a text that begins no element of a gap is the whole gap, and the flag stands as before.
+/// A space before a text that begins no element of a gap is the whole gap, and the flag is as before.
 pub fn space_is_the_gap()
     ensures { SpaceIsTheGap }
 {}
 
-/// A line feed before a text that begins no element of a gap under a standing flag is the whole gap, and the flag
-/// stands.
+/// A line feed before a text that begins no element of a gap where the flag is set is the whole gap, and the flag
+/// stays set.
 pub fn line_feed_is_the_gap()
     ensures { LineFeedIsTheGap }
 {}
 
-/// The faults of a gap are the same wherever it stands.
+/// The faults of a gap are the same wherever it is.
 pub fn gap_faults_move()
     ensures { GapFaultsMove }
 {}
 
-/// The fault of a `<!--` comes right behind the faults of the white space, line and block comments that stand directly
+/// The fault of a `<!--` comes right behind the faults of the white space, line and block comments that are directly
 /// behind it, and before those of all that follows.
 pub fn opening_fault_is_next()
     ensures { OpeningFaultIsNext }
 {}
 
-/// The comments of elements in a row are told by the elements alone: one of each that has one, in order, with its kind,
+/// The comments of elements in a row depend on the elements alone: one of each that has one, in order, with its kind,
 /// span and text.
 pub fn elements_tell()
     ensures { ElementsTell }
 {}
 
-/// A semicolon follows a comment where the elements behind it are white space alone and the semicolon stands behind
+/// A semicolon follows a comment where the elements behind it are white space alone and the semicolon comes behind
 /// the gap.
 pub fn semicolon_follows()
     ensures { SemicolonFollows }

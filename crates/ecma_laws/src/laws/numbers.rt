@@ -22,7 +22,7 @@ pub fn number_is_read()
     ensures { NumberIsRead }
 {}
 
-/// A separator in a run is faulty unless the run may hold some, a digit of it stands before, and one comes next.
+/// A separator in a run is faulty unless the run may hold some, a digit of it comes before, and one comes next.
 pub fn separator_is_faulty()
     ensures { SeparatorIsFaulty }
 {}

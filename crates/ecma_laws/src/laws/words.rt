@@ -37,7 +37,7 @@ pub fn name_is_local()
     ensures { NameIsLocal }
 {}
 
-/// The kind and the text of a word are those of the table row of its unescaped text, wherever its escapes stand.
+/// The kind and the text of a word are those of the table row of its unescaped text, wherever its escapes are.
 pub fn word_is_its_row()
     ensures { WordIsItsRow }
 {}

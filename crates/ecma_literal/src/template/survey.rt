@@ -1,4 +1,4 @@
-//! What stands in template text, before anything is made of it.
+//! What is in template text, before anything is made of it.
 ghost use Rattle.std.specs.Prelude.{◌≡◌, ◌≤◌, ◌+◌, None, option_map, length};
 ghost use Rattle.std.specs.List.{list_all, list_any};
 ghost use Rattle.ecma_place.specs.Cursor.{rest, place, passed};
@@ -14,12 +14,12 @@ use crate::template::pieces::{Piece, is_break, is_verbatim, read_piece};
 use ecma_escape::escape::{Meaning, Refusal, Use, refusal_span};
 use ecma_place::{BytePos, Span, StringInput};
 
-/// What stands in template text.
+/// What is in template text.
 #[derive(Clone, Copy)]
 pub(super) struct Survey {
     /// Whether it means what is written: it holds neither an escape nor a CR.
     pub(super) is_verbatim: bool,
-    /// Whether a line terminator stands in it as itself.
+    /// Whether a line terminator is in it as itself.
     pub(super) line_break: bool,
     /// Why the last escape that is refused is so, and where.
     pub(super) refusal: Option<(Refusal, Span)>,
@@ -45,7 +45,7 @@ fn newer(
     }
 }
 
-/// Moves over template text, up to a back quote, `${` or the end, and says what stands in it. No memory is taken.
+/// Moves over template text, up to a back quote, `${` or the end, and says what is in it. No memory is taken.
 pub(super) fn survey_text(input: &mut StringInput) -> Survey
     ensures verbatim { result.is_verbatim ≡ list_all templates.is_verbatim (pieces templates.template_cutter tt (rest input.old)) }
     ensures line_break { result.line_break ≡ list_any templates.is_break (pieces templates.template_cutter tt (rest input.old)) }

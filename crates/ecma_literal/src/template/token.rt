@@ -35,7 +35,7 @@ fn cooked_atom<'a>(
     }
 }
 
-/// The token of the template text at the cursor, of which this is written and the survey tells.
+/// The token of the template text at the cursor, of which this is written and the survey reports.
 pub(super) fn template_token<'a>(
     alloc: Global,
     raw: &'a str,

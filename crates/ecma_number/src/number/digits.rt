@@ -9,7 +9,7 @@ use ecma_place::Atom;
 use ecma_token::Radix;
 use std::alloc::{AllocError, Global};
 
-/// Whether a separator stands in the text.
+/// Whether a separator is in the text.
 pub(super) fn has_separator(text: &str) -> bool
     ensures { result ≡ list_any numbers.is_separator text.now }
 {

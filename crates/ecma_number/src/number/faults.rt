@@ -54,14 +54,14 @@ fn begins_with_digit(bytes: &[u8], radix: Radix) -> bool
     }
 }
 
-/// Whether the byte of a run is a separator that does not stand between two digits, or stands in a run that may hold none.
+/// Whether the byte of a run is a separator that is not between two digits, or is in a run that may hold none.
 fn is_faulty(b: u8, allowed: bool, seen: bool, behind: &[u8], radix: Radix) -> bool
     ensures { result ≡ numbers.is_faulty radix (allowed && seen) b behind.now }
 {
     b == b'_' && !(allowed && seen && begins_with_digit(behind, radix))
 }
 
-/// Adds the faults of the separators of a run that starts at the place, in which some may stand or none.
+/// Adds the faults of the separators of a run that starts at the place, which may hold some or none.
 fn push_separators<'a>(
     alloc: Global,
     faults: &mut Vec<(Blame, Error<'a>)>,
@@ -93,7 +93,7 @@ fn push_separators<'a>(
     Ok(())
 }
 
-/// Adds what is wrong with a run that starts at the place, in which separators may stand or not. A run without a separator takes no memory.
+/// Adds what is wrong with a run that starts at the place, which may hold separators or not. A run without a separator takes no memory.
 pub(super) fn push_run_faults<'a>(
     alloc: Global,
     faults: &mut Vec<(Blame, Error<'a>)>,

@@ -31,7 +31,7 @@ pub(super) enum WrittenNumber<'a> {
     },
 }
 
-/// What stands between a decimal run and an exponent.
+/// What comes between a decimal run and an exponent.
 #[derive(Clone, Copy)]
 pub(super) enum WrittenFraction<'a> {
     Pointless,
@@ -143,7 +143,7 @@ pub(super) fn is_legacy(run: &str) -> bool
     bytes.len() > 1 && bytes[0] == b'0'
 }
 
-/// Whether `8` or `9` stands in the run.
+/// Whether `8` or `9` is in the run.
 fn is_past_octal(run: &str) -> bool
     ensures { result ≡ list_any numbers.is_past_octal run.now }
 {
@@ -182,7 +182,7 @@ fn read_decimal<'a>(input: &mut StringInput<'a>) -> WrittenNumber<'a>
     }
 }
 
-/// Reads a number with a prefix, which stands at the cursor.
+/// Reads a number with a prefix, which is at the cursor.
 fn read_radixed<'a>(input: &mut StringInput<'a>, radix: Radix, letter: char) -> WrittenNumber<'a>
     requires { numbers.prefix (rest input.old) ≡ Some (radix, letter) }
     ensures value { number_of result ≡ numbers.prefixed_number radix letter (drop 2 (rest input.old)) }

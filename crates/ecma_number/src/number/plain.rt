@@ -56,7 +56,7 @@ fn leading_digits(bytes: &[u8]) -> usize
     count
 }
 
-/// Whether more than one digit stands there, and the first is `0`.
+/// Whether there is more than one digit, and the first is `0`.
 #[inline(always)]
 fn is_padded(bytes: &[u8], count: usize) -> bool
     requires { count ≤ length bytes.now }
@@ -82,7 +82,7 @@ fn ends_number(b: u8) -> bool
     b < 128 && !is_start(b)
 }
 
-/// Whether such a byte stands behind so many.
+/// Whether such a byte comes behind so many.
 #[inline(always)]
 fn ends_at(bytes: &[u8], count: usize) -> bool
     ensures { IsTrue result ↔ (count < length bytes.now) × (ends_number (slice_index_or bytes.now count 0) ≡ true) }
@@ -121,12 +121,12 @@ fn plain_extent(bytes: &[u8]) -> Option<(usize, Option<u128>)>
 /// Moves behind the number at the cursor and answers its token, where it is plain: decimal digits with no zero before
 /// others, whose value fits 64 bits, then perhaps a point and digits, if any, and behind them an ASCII character with which
 /// neither a name begins nor an escape (ECMA-262 DecimalLiteral, 12.9.3). By each rule
-/// [`scan_number`](crate::scan_number) finds the same token, and has nothing to tell besides.
+/// [`scan_number`](crate::scan_number) finds the same token, with nothing else to report.
 ///
 /// Each such number with at most 18 digits before its point is answered. Of any other, and of one that ends the text,
-/// there is no answer, and the cursor stands where it stood.
+/// there is no answer, and the cursor is where it was.
 ///
-/// The cursor stands at a digit, or at a point and a digit. No memory is taken.
+/// The cursor is at a digit, or at a point and a digit. No memory is taken.
 #[inline(always)]
 pub fn eat_plain_number<'a>(input: &mut StringInput<'a>) -> Option<Token<'a>>
     requires { numbers.opens_number (rest input.old) ≡ true }

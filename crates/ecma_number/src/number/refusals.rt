@@ -42,7 +42,7 @@ fn ends_at_mark(sign: &str, run: &str, input: &StringInput) -> bool
     sign.is_empty() && run.is_empty() && input.cur().is_none()
 }
 
-/// The refusal of an exponent that starts at the place, behind which the cursor stands.
+/// The refusal of an exponent that starts at the place, behind which the cursor is.
 fn exponent_refusal<'a>(
     alloc: Global,
     exponent: WrittenExponent,
@@ -74,7 +74,7 @@ fn exponent_refusal<'a>(
     }
 }
 
-/// The refusal of the parts of a number that starts at the place, behind which the cursor stands.
+/// The refusal of the parts of a number that starts at the place, behind which the cursor is.
 fn part_refusal<'a>(
     alloc: Global,
     number: WrittenNumber,
@@ -104,7 +104,7 @@ fn part_refusal<'a>(
     }
 }
 
-/// Whether the character may not stand right behind a number, big integer or not.
+/// Whether the character is not allowed right behind a number, big integer or not.
 fn may_not_follow(c: char, big: bool, rule: NumberRule) -> bool
     ensures { result ≡ numbers.may_not_follow rule big c }
 {
@@ -114,7 +114,7 @@ fn may_not_follow(c: char, big: bool, rule: NumberRule) -> bool
     }
 }
 
-/// Whether such a character stands at the cursor.
+/// Whether such a character is at the cursor.
 fn is_followed_wrongly(number: &WrittenNumber, input: &StringInput, rule: NumberRule) -> bool
     ensures { result ≡ next_passes (numbers.may_not_follow rule (numbers.is_big_number (number_of number.now))) (rest input.now) }
 {
@@ -124,7 +124,7 @@ fn is_followed_wrongly(number: &WrittenNumber, input: &StringInput, rule: Number
     }
 }
 
-/// The refusal of the character at the cursor, right behind a number, if it may not stand there.
+/// The refusal of the character at the cursor, right behind a number, if it is not allowed there.
 fn next_refusal<'a>(
     alloc: Global,
     number: &WrittenNumber,
@@ -145,7 +145,7 @@ fn next_refusal<'a>(
 }
 
 /// Why a number that starts at the place is refused, if it is: by its parts, else by the character behind it, where the
-/// cursor stands. A number that is not refused takes no memory.
+/// cursor is. A number that is not refused takes no memory.
 pub(super) fn refusal<'a>(
     alloc: Global,
     number: WrittenNumber,

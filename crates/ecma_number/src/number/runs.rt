@@ -51,7 +51,7 @@ pub(super) fn read_run<'a>(input: &mut StringInput<'a>, radix: Radix) -> &'a str
     input.slice(start, input.cur_pos())
 }
 
-/// Whether a digit of the radix stands in the run.
+/// Whether a digit of the radix is in the run.
 pub(super) fn has_digit(run: &str, radix: Radix) -> bool
     ensures { result ≡ list_any (numbers.digit radix) run.now }
 {

@@ -1,5 +1,5 @@
-//! The arms of a read, which give what stands behind white space: words, punctuators of one character, and all else of which
-//! nothing is to be told besides.
+//! The arms of a read, which give what comes behind white space: words, punctuators of one character, and all else of which
+//! there is nothing else to report.
 ghost use Rattle.std.specs.Prelude.{◌≡◌, ◌<◌, ◌≤◌, true, false, None, Some, length, IfNone, IfOk, IfSome, IsOk, OnOk, OnErr, []};
 ghost use Rattle.ecma_token.specs.View.{spanned_view};
 ghost use Rattle.ecma_place.specs.Cursor.{HasPlace, place, rest};
@@ -23,7 +23,7 @@ use ecma_token::TokenAndSpan;
 use std::alloc::AllocError;
 
 impl<'a> Lexer<'a> {
-    /// Passes the gap with which a read from here begins, where nothing is to be told of it but the flag; else the lexer stays.
+    /// Passes the gap with which a read from here begins, where there is nothing to report of it but the flag; else the lexer stays.
     #[inline(always)]
     pub(super) fn pass_gap(&mut self, before: BytePos) -> Result<Option<BlankGap>, AllocError>
         requires none { self.old.reread ≡ None }
@@ -44,8 +44,8 @@ impl<'a> Lexer<'a> {
         }
     }
 
-    /// Takes in and puts into the slot a token that stands in front of the cursor, and that a read from `before` finds with
-    /// nothing besides.
+    /// Takes in and puts into the slot a token that is just before the cursor, and that a read from `before` finds with
+    /// nothing else to report.
     #[inline(always)]
     fn give(
         &mut self,
@@ -208,7 +208,7 @@ impl<'a> Lexer<'a> {
         }
     }
 
-    /// Gives the punctuator, string or number at the cursor, where nothing is to be told of it besides, and says whether it
+    /// Gives the punctuator, string or number at the cursor, where there is nothing else to report of it, and says whether it
     /// did; else the cursor is put back.
     #[inline(always)]
     pub(super) fn give_other(
