@@ -25,6 +25,7 @@ use Rattle.ecma_state.specs.declared.lookahead.Lookahead.{Lookahead}
 use Rattle.ecma_state.specs.declared.lookahead.Lookahead.TheVariants as opens
 use Rattle.ecma_state.specs.Transition.{tpl_on_top}
 use Rattle.ecma_state.specs.declared.mode.Mode.{Mode}
+use Rattle.ecma_dispatch.proofs.PlacedKinds.{kind-behind, placed-kind}
 use Rattle.ecma_syntax.specs.declared.context.Context.{Context}
 use Rattle.ecma_place.specs.declared.place.BytePos.{BytePos}
 use Rattle.ecma_place.specs.declared.comment.Comment.{Comment}
@@ -35,7 +36,7 @@ use Rattle.ecma_parts.specs.Bearing.{Bearing, bare_mode, mode_at}
 use Rattle.ecma_parts.specs.Instance.{lexer_grammar, lexer_parts}
 use Rattle.ecma_parts.proofs.Cleanly.{reads-cleanly}
 use Rattle.ecma_parts.proofs.TemplateCode.{template_is_code}
-use Rattle.ecma_clean_reads.proofs.TokensRead.{Stands, placed-break, placed-kind, placed-token, kind-behind, stands-found, value-token}
+use Rattle.ecma_clean_reads.proofs.TokensRead.{Stands, placed-break, placed-token, stands-found, value-token}
 
 -- Faults of a gap and of a token
 

@@ -13,6 +13,7 @@ use Rattle.ecma_state.specs.TokenAt.{placed, token_of}
 use Rattle.ecma_state.specs.declared.mode.Mode.{Mode}
 use Rattle.ecma_state.specs.declared.lookahead.Lookahead.{Lookahead}
 use Rattle.ecma_state.specs.declared.lookahead.Lookahead.TheVariants as opens
+use Rattle.ecma_dispatch.proofs.PlacedKinds.{kind-behind}
 use Rattle.ecma_token.specs.Kinds.{kind_of}
 use Rattle.ecma_token.specs.View.{ErrorView, SpannedView, TokenView, error_token, plain_token, refused_template}
 use Rattle.ecma_token.specs.declared.kind.TokenKind.{TokenKind}
@@ -22,29 +23,6 @@ use Rattle.ecma_clean_reads.specs.Stages.{token_from}
 
 abbrev pub own_of : Bare → Own
 own_of p = record { kind = kind_of p.kind; text = p.bytes; flag = p.flag }
-
--- Kinds know no places
-
-pub kind-behind : (n : ℕ) (t : TokenView) → kind_of (token_behind n t) ≡ kind_of t
-kind-behind n (plain_token token) = refl
-kind-behind n (refused_template raw kind span) = refl
-kind-behind n (error_token kind span) = refl
-
-value-kind : (n : ℕ) (v : Result TokenView ErrorView) → kind_of (token_of (value_behind token_behind n v)) ≡ kind_of (token_of v)
-value-kind n (Ok t) = kind-behind n t
-value-kind n (Err error) = refl
-
-template-kind : (opened n : ℕ) (v : Result TokenView ErrorView) → kind_of (token_of (template_value opened n v)) ≡ kind_of (token_of v)
-template-kind opened n (Ok t) = kind-behind n t
-template-kind opened n (Err error) = refl
-
-pub placed-kind : (o : Lookahead) (mode : Mode) (n : ℕ) (s : Scanned TokenView) → kind_of (token_of (placed o mode n s).value) ≡ kind_of (token_of s.value)
-placed-kind opens.Template mode n s = template-kind mode.opened.0 n s.value
-placed-kind opens.Number mode n s = value-kind n s.value
-placed-kind opens.String mode n s = value-kind n s.value
-placed-kind opens.Word mode n s = value-kind n s.value
-placed-kind opens.Bars mode n s = value-kind n s.value
-placed-kind opens.Other mode n s = value-kind n s.value
 
 -- A token that is no error is moved to its place
 

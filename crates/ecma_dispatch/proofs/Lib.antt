@@ -1,3 +1,4 @@
 pub mod FrontLemmas
+pub mod PlacedKinds
 pub mod ReadingLemmas
 pub mod TokenLemmas

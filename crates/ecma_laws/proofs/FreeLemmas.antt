@@ -12,9 +12,9 @@ use Rattle.ecma_place.specs.declared.place.BytePos.{BytePos}
 use Rattle.ecma_syntax.specs.declared.word.Word.{Word}
 use Rattle.ecma_syntax.specs.declared.settings.NumberRule.{NumberRule}
 use Rattle.ecma_token.specs.Kinds.{kind_of}
-use Rattle.ecma_token.specs.View.{ErrorView, TokenView, plain_token, refused_template, error_token}
+use Rattle.ecma_token.specs.View.{ErrorView, TokenView, plain_token}
 use Rattle.ecma_scan.specs.Expressions.{body_cutter, body_pieces, closed_expression, flags, no_flags, open_expression, regex_value, regular_expression, slashed}
-use Rattle.ecma_scan.specs.Found.{Scanned, fault_behind, token_behind, value_behind}
+use Rattle.ecma_scan.specs.Found.{Scanned, fault_behind}
 use Rattle.ecma_scan.specs.Fronts.{next_is, next_passes}
 use Rattle.ecma_scan.specs.Gaps.{has_line_break}
 use Rattle.ecma_scan.specs.GapViews.{GapView}
@@ -27,7 +27,7 @@ use Rattle.ecma_scan.proofs.PieceLemmas.{cut}
 use Rattle.ecma_scan.specs.Strings as strings
 use Rattle.ecma_scan.specs.Strings.{Piece, Plain, Escaped, Ending, Closed, Unclosed, BadEscape, atom_of, ending, found_string, is_escaped, string_cutter, string_literal, string_pieces}
 use Rattle.ecma_scan.specs.Templates as templates
-use Rattle.ecma_scan.specs.Templates.{TemplateEnd, TemplatePiece, AtEnd, AtBackQuote, AtDollarBrace, is_verbatim, last_refusal, template_cutter, template_end, template_of, template_text, template_value, text_of, token_of_refusal}
+use Rattle.ecma_scan.specs.Templates.{TemplateEnd, TemplatePiece, AtEnd, AtBackQuote, AtDollarBrace, is_verbatim, last_refusal, template_cutter, template_end, template_of, template_text, text_of, token_of_refusal}
 use Rattle.ecma_scan.specs.Escapes.{line_end}
 use Rattle.ecma_scan.specs.Words as words
 use Rattle.ecma_scan.specs.Words.{found_name, identifier_name, word_cutter, word_pieces}
@@ -42,6 +42,7 @@ use Rattle.ecma_state.specs.TokenAt.{asks_for_none, is_borrowed, is_borrowed_nam
 use Rattle.ecma_state.specs.declared.mode.Mode.{Mode}
 use Rattle.ecma_state.specs.declared.lookahead.Lookahead.{Lookahead}
 use Rattle.ecma_state.specs.declared.lookahead.Lookahead.TheVariants as opens
+use Rattle.ecma_dispatch.proofs.PlacedKinds.{placed-kind, value-kind}
 use Rattle.ecma_dispatch.proofs.ReadingLemmas.{placed-faults}
 use Rattle.ecma_laws.specs.FreeReads.{MeansItself, ReadsAreFree, spelling_at, spelling_from, turns_meaning}
 
@@ -284,29 +285,6 @@ is-free-at mode flag text ok none h =
     ap (λ b. b && (is_empty s.faults && asks_for_none o text s)) ok
     ∙ ap (λ faults. is_empty faults && asks_for_none o text s) none
     ∙ asks-none o mode text ok h
-
--- what is found says of which kind the token is
-
-behind-kind : (n : ℕ) (token : TokenView) → kind_of (token_behind n token) ≡ kind_of token
-behind-kind n (plain_token token) = refl
-behind-kind n (refused_template raw kind span) = refl
-behind-kind n (error_token kind span) = refl
-
-value-kind : (n : ℕ) (value : Result TokenView ErrorView) → kind_of (token_of (value_behind token_behind n value)) ≡ kind_of (token_of value)
-value-kind n (Ok token) = behind-kind n token
-value-kind n (Err error) = refl
-
-template-kind : (opened n : ℕ) (value : Result TokenView ErrorView) → kind_of (token_of (template_value opened n value)) ≡ kind_of (token_of value)
-template-kind opened n (Ok token) = behind-kind n token
-template-kind opened n (Err error) = refl
-
-placed-kind : (o : Lookahead) (mode : Mode) (n : ℕ) (s : Scanned TokenView) → kind_of (token_of (placed o mode n s).value) ≡ kind_of (token_of s.value)
-placed-kind opens.Template mode n s = template-kind mode.opened.0 n s.value
-placed-kind opens.Number mode n s = value-kind n s.value
-placed-kind opens.String mode n s = value-kind n s.value
-placed-kind opens.Word mode n s = value-kind n s.value
-placed-kind opens.Bars mode n s = value-kind n s.value
-placed-kind opens.Other mode n s = value-kind n s.value
 
 no-error : (value : Result TokenView ErrorView) → is_error (kind_of (token_of value)) ≡ false → is_ok value ≡ true
 no-error (Ok token) h = refl

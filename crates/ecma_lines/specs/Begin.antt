@@ -2,13 +2,14 @@
 use Rattle.std.specs.Prelude.{ℕ, Bool, true, false, ◌||◌, List, if◌then◌else◌}
 use Rattle.std.specs.Str.{chars}
 use Rattle.ecma_place.specs.Cursor.{Cursor}
+use Rattle.ecma_syntax.specs.Defaults.{no_context}
 use Rattle.ecma_syntax.specs.Defaults as default_of
 use Rattle.ecma_syntax.specs.declared.context.Context.{Context}
 use Rattle.ecma_syntax.specs.declared.settings.NumberRule.{NumberRule}
 use Rattle.ecma_syntax.specs.declared.settings.NumberRule.TheVariants.{Standard}
 use Rattle.ecma_syntax.specs.declared.settings.Syntax.{Syntax}
 use Rattle.ecma_syntax.specs.declared.settings.Syntax.TheVariants.{Typescript}
-use Rattle.ecma_lexer.specs.Run.{act_on, no_context, start_of}
+use Rattle.ecma_lexer.specs.Run.{act_on, start_of}
 use Rattle.ecma_lexer.specs.Session.{Session}
 use Rattle.ecma_lexer.specs.declared.settings.Settings.{Settings}
 use Rattle.ecma_lexer.specs.declared.step.Step.TheVariants.{SetCtx}

@@ -8,6 +8,7 @@ use Rattle.ecma_place.specs.Character.{is_ident_start, is_ident_part, is_line_te
 use Rattle.ecma_syntax.specs.Keyword.{keyword_of}
 use Rattle.ecma_syntax.specs.KnownIdent.{known_of}
 use Rattle.ecma_syntax.specs.Word.{word_of}
+use Rattle.ecma_syntax.specs.Defaults.{no_context}
 use Rattle.ecma_syntax.specs.declared.context.Context.{Context}
 use Rattle.ecma_syntax.specs.declared.keyword.Keyword.TheVariants.{Let}
 use Rattle.ecma_syntax.specs.declared.known_ident.KnownIdent.TheVariants.{Type_}
@@ -30,36 +31,7 @@ bad_character low high = record { blame = Always; error = error (plain InvalidId
 
 -- no context flag is set, apart from `strict`
 abbrev under : Bool → Context
-under strict = record {
-  ignore_error = false;
-  «module» = false;
-  can_be_module = false;
-  strict = strict;
-  expr_ctx = record { for_loop_init = false; for_await_loop_init = false };
-  include_in_expr = false;
-  in_async = false;
-  in_generator = false;
-  in_static_block = false;
-  is_continue_allowed = false;
-  is_break_allowed = false;
-  in_type = false;
-  should_not_lex_lt_or_gt_as_type = false;
-  in_declare = false;
-  in_cond_expr = false;
-  will_expect_colon_for_cond = false;
-  in_class = false;
-  in_class_field = false;
-  in_function = false;
-  inside_non_arrow_function_scope = false;
-  in_parameters = false;
-  has_super_class = false;
-  in_property_name = false;
-  in_forced_jsx_context = false;
-  allow_direct_super = false;
-  ignore_else_clause = false;
-  disallow_conditional_types = false;
-  allow_using_decl = false;
-}
+under strict = record no_context { strict = strict }
 
 abbrev read : Text → Scanned Word
 read text = word (under false) text

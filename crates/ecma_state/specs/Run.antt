@@ -4,6 +4,7 @@ use Rattle.ecma_place.specs.Cursor.{Cursor, index_of, moved_to, place, rest}
 use Rattle.ecma_place.specs.declared.comment.Comment.{Comment}
 use Rattle.ecma_place.specs.declared.place.BytePos.{BytePos}
 use Rattle.ecma_token.specs.View.{SpannedView, ErrorView}
+use Rattle.ecma_syntax.specs.Defaults.{no_context}
 use Rattle.ecma_syntax.specs.declared.context.Context.{Context}
 use Rattle.ecma_state.specs.Attachment.{attachment}
 use Rattle.ecma_state.specs.Contexts.{Contexts, innermost}
@@ -170,40 +171,6 @@ act s Withdraw = done (record s { reread = None })
 act s TakeErrors = record { after = record s { errors = none_recorded s.errors }; answer = Errors' s.errors.recorded }
 act s Save = done s
 act s (Back n) = done s
-
--- no flag is set
-abbrev pub no_context : Context
-no_context =
-    record {
-      ignore_error = false;
-      «module» = false;
-      can_be_module = false;
-      strict = false;
-      expr_ctx = record { for_loop_init = false; for_await_loop_init = false };
-      include_in_expr = false;
-      in_async = false;
-      in_generator = false;
-      in_static_block = false;
-      is_continue_allowed = false;
-      is_break_allowed = false;
-      in_type = false;
-      should_not_lex_lt_or_gt_as_type = false;
-      in_declare = false;
-      in_cond_expr = false;
-      will_expect_colon_for_cond = false;
-      in_class = false;
-      in_class_field = false;
-      in_function = false;
-      inside_non_arrow_function_scope = false;
-      in_parameters = false;
-      has_super_class = false;
-      in_property_name = false;
-      in_forced_jsx_context = false;
-      allow_direct_super = false;
-      ignore_else_clause = false;
-      disallow_conditional_types = false;
-      allow_using_decl = false;
-    }
 
 -- the session that begins at a cursor
 abbrev pub start_of : Settings → Cursor → Session
