@@ -12,7 +12,7 @@ use Rattle.ecma_place.specs.declared.place.BytePos.{BytePos}
 use Rattle.ecma_syntax.specs.declared.word.Word.{Word}
 use Rattle.ecma_syntax.specs.declared.settings.NumberRule.{NumberRule}
 use Rattle.ecma_token.specs.Kinds.{kind_of}
-use Rattle.ecma_token.specs.View.{ErrorView, TokenView, plain_token}
+use Rattle.ecma_token.specs.View.{ErrorView, TokenView}
 use Rattle.ecma_scan.specs.Expressions.{body_cutter, body_pieces, closed_expression, flags, no_flags, open_expression, regex_value, regular_expression, slashed}
 use Rattle.ecma_scan.specs.Found.{Scanned, fault_behind}
 use Rattle.ecma_scan.specs.Fronts.{next_is, next_passes}
