@@ -152,10 +152,10 @@ holds_words (TS1243 left right) = true
 holds_words _ = false
 
 -- it holds nothing that owns memory
-abbrev pub owns_nothing : SyntaxError → Bool
-owns_nothing (UnaryInExp left at) = false
-owns_nothing (Unexpected got wanted) = false
-owns_nothing (UnexpectedTokenWithSuggestions all) = false
-owns_nothing (Expected' p token got) = false
-owns_nothing (WithLabel' p q kind at span note) = false
-owns_nothing kind = not (holds_words kind)
+abbrev pub can_own_nothing : SyntaxError → Bool
+can_own_nothing (UnaryInExp left at) = false
+can_own_nothing (Unexpected got wanted) = false
+can_own_nothing (UnexpectedTokenWithSuggestions all) = false
+can_own_nothing (Expected' p token got) = false
+can_own_nothing (WithLabel' p q kind at span note) = false
+can_own_nothing kind = not (holds_words kind)

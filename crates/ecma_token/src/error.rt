@@ -1,6 +1,6 @@
 //! What a text can have wrong.
 ghost use Rattle.std.specs.Prelude.{◌≡◌, IfOk, IsOk, IsTrue};
-ghost use Rattle.ecma_token.specs.View.{IsErrorAt, error_kind, error_span, error_view, holds_words, owns_nothing, kind_owns_nothing, kind_view};
+ghost use Rattle.ecma_token.specs.View.{IsErrorAt, error_kind, error_span, error_view, holds_words, can_own_nothing, kind_owns_nothing, kind_view};
 
 use crate::fixed::FixedError;
 use crate::token::{Radix, Token};
@@ -279,7 +279,7 @@ impl<'a> SyntaxError<'a> {
 
     /// The same, where it holds no memory at all.
     fn copy_unowned(&self) -> SyntaxError<'a>
-        requires { IsTrue (owns_nothing self.now) }
+        requires { IsTrue (can_own_nothing self.now) }
         ensures { kind_view result ≡ kind_view self.now }
     {
         match self {
