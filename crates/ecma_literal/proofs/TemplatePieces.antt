@@ -19,7 +19,7 @@ use Rattle.ecma_grammar.specs.Templates.{TemplatePiece, Break, Escaped, Template
 use Rattle.ecma_literal.specs.declared.template.pieces.Piece.{Piece}
 use Rattle.ecma_literal.specs.declared.template.pieces.Piece.TheVariants as written
 use Rattle.ecma_escape.specs.declared.escape.Refusal.{Refusal}
-use Rattle.ecma_escape.specs.declared.escape.Meaning.{Answer}
+use Rattle.ecma_escape.specs.declared.escape.Meaning.{Meaning}
 use Rattle.ecma_escape.specs.declared.escape.Meaning.TheVariants as answer
 use Rattle.ecma_literal.specs.WrittenTemplates.{piece_of, first_text}
 use Rattle.ecma_escape.proofs.EscapeBytes.{IsAsciiIfRefused, refused_ascii}
@@ -178,14 +178,14 @@ piece-slice piece old now from to e moved f t =
     text-passed old now _ from to moved f t ∙ ap encode_utf8_all (ap (λ l. take (length l) (rest old)) same ∙ is.taken ∙ sym same)
 
 -- what an escape stands for that is answered so, as it is added behind these bytes
-cooked-answer : (text : Text) (a : Answer) → answer_value (encode_utf8_all text) a ≡ encode_utf8_all (cooked_piece (piece_of text (written.Escaped a)))
+cooked-answer : (text : Text) (a : Meaning) → answer_value (encode_utf8_all text) a ≡ encode_utf8_all (cooked_piece (piece_of text (written.Escaped a)))
 cooked-answer text answer.Nothing = refl
 cooked-answer text (answer.Character c) = refl
 cooked-answer text (answer.Octal c) = refl
 cooked-answer text answer.Spelling = refl
 cooked-answer text (answer.Refused refusal) = refl
 
-pub cooked-push : (old new spelling : List ℕ) (text : Text) (a : Answer) → new ≡ old ++ answer_value spelling a → spelling ≡ encode_utf8_all text
+pub cooked-push : (old new spelling : List ℕ) (text : Text) (a : Meaning) → new ≡ old ++ answer_value spelling a → spelling ≡ encode_utf8_all text
     → new ≡ old ++ encode_utf8_all (cooked_piece (piece_of text (written.Escaped a)))
 cooked-push old new spelling text a e is = e ∙ ap (λ bytes. old ++ answer_value bytes a) is ∙ ap (λ bytes. old ++ bytes) (cooked-answer text a)
 
