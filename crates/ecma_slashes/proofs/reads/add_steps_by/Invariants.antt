@@ -3,7 +3,7 @@ use Rattle.std.proofs.Common.{◌≡◌, None}
 use Rattle.ecma_state.specs.Session.{Session, lexer_state, state_of}
 use Rattle.ecma_stream.specs.Ending.{most_tokens}
 use Rattle.ecma_slashes.proofs.RunLemmas.{SoFar}
-use Rattle.ecma_slashes.proofs.by_flag.add_steps_to_end.Given as goal
+use Rattle.ecma_slashes.proofs.reads.add_steps_by.Given as goal
 
 abbrev pub invariant-tokens : goal.invariant-tokens
 invariant-tokens l =

@@ -2,7 +2,7 @@ use Rattle.std.proofs.Common.{◌∙◌, sym}
 use Rattle.ecma_token.specs.View.{spanned_view}
 use Rattle.ecma_state.specs.Session.{lexer_state}
 use Rattle.ecma_slashes.proofs.FlagLemmas.{end-no-slash, fewer-seen, fewer-twice}
-use Rattle.ecma_slashes.proofs.by_flag.read_telling.Goals as goal
+use Rattle.ecma_slashes.proofs.reads.read_telling.Goals as goal
 
 pub returns-then-not-allowed-clause-fewer : goal.returns-then-not-allowed-clause-fewer
 returns-then-not-allowed-clause-fewer c =

@@ -2,7 +2,7 @@ use Rattle.std.proofs.Common.{◌∙◌, Bool, ap, subst, sym}
 use Rattle.ecma_state.specs.Session.{lexer_state}
 use Rattle.ecma_slashes.specs.ByFlag.{StepsOn}
 use Rattle.ecma_slashes.proofs.RunLemmas.{so-far-end, so-far-next, so-far-start}
-use Rattle.ecma_slashes.proofs.by_flag.add_steps_to_end.Goals as goal
+use Rattle.ecma_slashes.proofs.reads.add_steps_by.Goals as goal
 
 pub tokens-init : goal.tokens-init
 tokens-init c =
