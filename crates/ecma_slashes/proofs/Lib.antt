@@ -1,3 +1,4 @@
 pub mod FewerLemmas
-pub mod FlagLemmas
 pub mod RunLemmas
+pub mod SlashLemmas
+pub mod TokenLemmas

@@ -1,6 +1,6 @@
 -- Reading with no parser above: each slash that begins a regular expression, as a rule says, is read again.
-use Rattle.std.specs.Prelude.{ℕ, zero, suc, ◌≡◌, ◌==◌, Bool, true, false, not, ◌&&◌, ◌||◌, List, [], ◌∷◌, ◌++◌, Option, Some, None, is_some, length}
-use Rattle.std.specs.List.{count_by, list_any, nat_lt}
+use Rattle.std.specs.Prelude.{ℕ, zero, suc, ◌≡◌, ◌==◌, nat_lt, Bool, true, false, ◌&&◌, List, [], ◌∷◌, ◌++◌, Option, Some, None, is_some, length}
+use Rattle.std.specs.List.{count_by, list_any}
 use Rattle.ecma_place.specs.Cursor.{Cursor}
 use Rattle.ecma_place.specs.declared.place.BytePos.{BytePos}
 use Rattle.ecma_syntax.specs.declared.context.Context.{Context}
