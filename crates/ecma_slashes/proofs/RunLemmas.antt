@@ -3,13 +3,15 @@ use Rattle.std.proofs.Common.{◌≡◌, ◌∙◌, ℕ, zero, suc, ◌+◌, ◌
 use Rattle.std.specs.Prelude.{is_some}
 use Rattle.std.proofs.lemmas.List.Sums.{fold-append}
 use Rattle.std.proofs.lemmas.Str.{length-le-encodes}
-use Rattle.ecma_place.specs.Cursor.{rest}
+use Rattle.ecma_place.specs.Cursor.{Cursor, rest}
 use Rattle.ecma_place.specs.Text.{byte_len}
+use Rattle.ecma_syntax.specs.declared.context.Context.{Context}
 use Rattle.ecma_token.specs.View.{SpannedView}
 use Rattle.ecma_state.specs.Counting.{Counted, count_all, count_step, counting, none_yet}
 use Rattle.ecma_state.specs.Run.{act_all, act_on, session, start_of}
 use Rattle.ecma_state.specs.Session.{LexerState, Session, has_ended, seen_of, state_of}
 use Rattle.ecma_state.specs.State.{previous}
+use Rattle.ecma_state.specs.declared.settings.Settings.{Settings}
 use Rattle.ecma_state.specs.declared.step.Step.{Step}
 use Rattle.ecma_state.specs.declared.step.Step.TheVariants.{SetCtx}
 use Rattle.ecma_stream.specs.Ending.{enough, most_tokens}
@@ -94,6 +96,14 @@ runs_by_rule_are_runs rule settings input before =
     let all : counting (before ++ steps) ≡ counting before ++ steps =
     ap (λ c. c.steps) (fold-append count_step none_yet before steps ∙ counts rule (enough there.input) there (count_all none_yet before)) in
     ap (act_all begun) all ∙ fold-append act_on begun (counting before) steps
+
+-- the steps by which a text is read all count
+pub text-counts : (rule : SlashRule) (settings : Settings) (context : Context) (input : Cursor)
+    → counting (text_steps_by rule settings context input) ≡ text_steps_by rule settings context input
+unfolding count_step steps_to_end_by
+text-counts rule settings context input =
+    let first : Session = entered settings context input in
+    ap (λ c. c.steps) (counts rule (enough first.input) first (count_step none_yet (SetCtx context)))
 
 pub texts_are_read_out : TextsAreReadOut
 unfolding count_step
