@@ -7,7 +7,10 @@ pub use ecma_canonical::{Canon, canonical, canonical_text, clean_text, joined};
 pub use ecma_classes::{Class, Piece, classes, piece};
 pub use ecma_pieces::classes_of_steps;
 pub use ecma_replay::{Answer, Replay, answer, replay, replayed, runner};
-pub use ecma_slashes::{add_steps_to_end, read_by_flag, steps_by_flag};
+pub use ecma_slashes::{
+    Slashes, add_steps_by, add_steps_to_end, ascend, count_rereads, read_by, read_by_flag,
+    steps_by, steps_by_flag,
+};
 pub use ecma_state::{
     BufferedComment, BufferedCommentKind, CommentsBuffer, ErrorList, Kept, Settings, State, Step,
     TokenContext, TokenContexts, comments_buffer, error_list, kept, mode, settings, state, step,

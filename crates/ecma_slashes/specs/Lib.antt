@@ -1,4 +1,5 @@
 pub mod ByFlag
+pub mod Rereads
 pub use Rattle.ecma_state.specs.Counting
 pub use Rattle.ecma_state.specs.Run
 pub use Rattle.ecma_state.specs.Session

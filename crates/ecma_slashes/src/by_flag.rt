@@ -7,46 +7,18 @@ ghost use Rattle.ecma_state.specs.Run.{act_all};
 ghost use Rattle.ecma_state.specs.Session.{Session, lexer_state, state_of};
 ghost use Rattle.ecma_stream.specs.View.{IsGivenAs};
 ghost use Rattle.ecma_stream.specs.Ending.{most_tokens};
-ghost use Rattle.ecma_slashes.specs.ByFlag.{PassesByFlag, ReadsByFlag, StepsOn, meets_expression, steps_to_end, text_steps};
+ghost use Rattle.ecma_slashes.specs.ByFlag.{ReadsByFlag, steps_to_end, text_steps};
+ghost use Rattle.ecma_slashes.specs.Rereads.{are_free_by, by_flag};
 
+use crate::reads::{add_steps_by, read_by, steps_by};
+use crate::slashes::Slashes;
 use ecma_place::{BytePos, StringInput};
 use ecma_state::settings::Settings;
 use ecma_state::step::Step;
 use ecma_stream::lexer::Lexer;
-use ecma_stream::tokens::Tokens;
 use ecma_syntax::Context;
 use ecma_token::TokenAndSpan;
 use std::alloc::{AllocError, Global};
-
-/// Reads the next token into a slot as [`read_by_flag`] does, and says whether a slash was read again.
-fn read_telling<'a>(
-    lexer: &mut Lexer<'a>,
-    slot: &mut Option<TokenAndSpan<'a>>,
-) -> Result<bool, AllocError>
-    requires plain { lexer.old.reread ≡ None }
-    ensures steps { (s : Session) → state_of s ≡ lexer_state lexer.old → IfOk result (λ again.
-        ReadsByFlag s (option_map spanned_view slot.new) (lexer_state lexer.new) × (again ≡ meets_expression s)) }
-    ensures fewer { OnOk result (is_some slot.new ≡ true → most_tokens (lexer_state lexer.new) < most_tokens (lexer_state lexer.old)) }
-    ensures plain { OnOk result (lexer.new.reread ≡ None) }
-    ensures refused { lexer.old.refused ≡ true → (result ≡ Err alloc_error) × (lexer.new ≡ lexer.old) }
-    ensures refusal { OnErr result (lexer.new.refused ≡ true) }
-    ensures given { OnErr result (IsGivenAs lexer.old lexer.new) }
-    ensures ended { lexer.old.refused ≡ false → rest lexer.old.input ≡ [] → IsOk result }
-{
-    let allowed = lexer.expr_allowed();
-    lexer.read_into(slot)?;
-    if !allowed {
-        return Ok(false);
-    }
-    let Some(slash) = lexer.last_slash() else {
-        return Ok(false);
-    };
-    lexer.set_next_regexp(Some(slash));
-    let again = lexer.read_into(slot);
-    lexer.set_next_regexp(None);
-    again?;
-    Ok(true)
-}
 
 /// The next token, or nothing at the end, with no parser to say what a slash is: where `/` or `/=` was read and an
 /// expression was allowed before it ([`Lexer::expr_allowed`]), it is read again as a regular expression, whose token, or
@@ -71,55 +43,12 @@ pub fn read_by_flag<'a>(lexer: &mut Lexer<'a>) -> Result<Option<TokenAndSpan<'a>
     ensures refused { lexer.old.refused ≡ true → (result ≡ Err alloc_error) × (lexer.new ≡ lexer.old) }
     ensures refusal { OnErr result (lexer.new.refused ≡ true) }
     ensures given { OnErr result (IsGivenAs lexer.old lexer.new) }
-    // The end takes no memory.
+    // It takes no memory where neither of its reads does.
+    ensures free { (s : Session) → state_of s ≡ lexer_state lexer.old → lexer.old.refused ≡ false → are_free_by by_flag s ≡ true → IsOk result }
+    // Nor does the end.
     ensures ended { lexer.old.refused ≡ false → rest lexer.old.input ≡ [] → IsOk result }
 {
-    let mut answer = None;
-    read_telling(lexer, &mut answer)?;
-    Ok(answer)
-}
-
-/// What was read by the flag.
-#[derive(Clone, Copy)]
-struct Passed {
-    /// Whether there was a token.
-    more: bool,
-    /// Whether a slash was read again.
-    again: bool,
-}
-
-/// Passes the next token by the flag.
-fn pass_token(lexer: &mut Lexer) -> Result<Passed, AllocError>
-    requires plain { lexer.old.reread ≡ None }
-    ensures steps { (s : Session) → state_of s ≡ lexer_state lexer.old → IfOk result (λ passed.
-        PassesByFlag s passed.more passed.again (lexer_state lexer.new)) }
-    ensures fewer { IfOk result (λ passed. passed.more ≡ true → most_tokens (lexer_state lexer.new) < most_tokens (lexer_state lexer.old)) }
-    ensures plain { OnOk result (lexer.new.reread ≡ None) }
-{
-    let mut slot = None;
-    let again = read_telling(lexer, &mut slot)?;
-    Ok(Passed {
-        more: slot.is_some(),
-        again,
-    })
-}
-
-/// Reads the next token by the flag, adds the steps by which it was read, and says whether there was one.
-fn add_steps(steps: &mut Vec<Step>, lexer: &mut Lexer) -> Result<bool, AllocError>
-    requires plain { lexer.old.reread ≡ None }
-    ensures steps { (s : Session) → state_of s ≡ lexer_state lexer.old → IfOk result (λ more.
-        StepsOn s steps.old.items steps.new.items more (lexer_state lexer.new)) }
-    ensures fewer { IfOk result (λ more. more ≡ true → most_tokens (lexer_state lexer.new) < most_tokens (lexer_state lexer.old)) }
-    ensures plain { OnOk result (lexer.new.reread ≡ None) }
-{
-    let passed = pass_token(lexer)?;
-    steps.push(Step::Read)?;
-    if passed.again {
-        steps.push(Step::Reread)?;
-        steps.push(Step::Read)?;
-        steps.push(Step::Withdraw)?;
-    }
-    Ok(passed.more)
+    read_by(lexer, Slashes::ByFlag)
 }
 
 /// Reads to the end by the flag ([`read_by_flag`]), and adds the steps by which all was read. Our own.
@@ -134,8 +63,7 @@ pub fn add_steps_to_end(steps: &mut Vec<Step>, lexer: &mut Lexer) -> Result<(), 
     ensures steps { (s : Session) → state_of s ≡ lexer_state lexer.old → OnOk result (steps.new.items ≡ steps.old.items ++ steps_to_end s) }
     ensures after { (s : Session) → state_of s ≡ lexer_state lexer.old → OnOk result (lexer_state lexer.new ≡ state_of (act_all s (steps_to_end s))) }
 {
-    'tokens: while add_steps(steps, lexer)? {}
-    Ok(())
+    add_steps_by(steps, lexer, Slashes::ByFlag)
 }
 
 /// The steps by which a text that starts at a place is read to its end by the flag ([`read_by_flag`]), in a context, which
@@ -156,18 +84,5 @@ pub fn steps_by_flag(
     requires { start.0 + length source.now < 2 ^ 32 }
     ensures { IfOk result (λ v. v.items ≡ text_steps settings.now context record { start = start.0; text = chars source.now; at = 0 }) }
 {
-    let input = StringInput::new(source, start);
-    let mut lexer = Lexer::with_rule(
-        alloc,
-        settings.syntax,
-        settings.target,
-        input,
-        settings.comments,
-        settings.numbers,
-    );
-    lexer.set_ctx(context)?;
-    let mut steps = Vec::new(alloc);
-    steps.push(Step::SetCtx(context))?;
-    add_steps_to_end(&mut steps, &mut lexer)?;
-    Ok(steps)
+    steps_by(alloc, settings, context, source, start, Slashes::ByFlag)
 }

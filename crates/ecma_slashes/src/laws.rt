@@ -1,18 +1,24 @@
-//! Laws of runs in which slashes are read by the flag.
-ghost use Rattle.ecma_slashes.specs.ByFlag.{RunsByFlagAreRuns, RunsByFlagEnd, TextsAreReadOut};
+//! Laws of runs in which the slashes that a rule names are read again.
+ghost use Rattle.ecma_slashes.specs.Rereads.{RunsByRuleAreRuns, RunsByRuleEnd, TextsAreReadOut, TextsAreReadPlainly};
 
-/// Reading by the flag comes to the end of every text.
-pub fn runs_by_flag_end()
-    ensures { RunsByFlagEnd }
+/// Whichever slashes are read again, reading comes to the end of every text.
+pub fn runs_by_rule_end()
+    ensures { RunsByRuleEnd }
 {}
 
-/// Behind any steps of a run, to read by the flag up to the end is to take a list of steps like any other, in which each counts:
-/// so all that holds of what lists of steps come to holds of it.
-pub fn runs_by_flag_are_runs()
-    ensures { RunsByFlagAreRuns }
+/// Behind any steps of a run, to read up to the end is to take a list of steps like any other, in which each counts: so all
+/// that holds of what lists of steps come to holds of it, whichever slashes are read again.
+pub fn runs_by_rule_are_runs()
+    ensures { RunsByRuleAreRuns }
 {}
 
-/// The steps by which a text is read by the flag lead to its end.
+/// The steps by which a text is read lead to its end.
 pub fn texts_are_read_out()
     ensures { TextsAreReadOut }
+{}
+
+/// The steps by which a text is read, in a context in which errors are not ignored, are plain and take no error: so the run
+/// is clean exactly where it leaves nothing wrong, and `canonical` answers that it is not for nothing but errors.
+pub fn texts_are_read_plainly()
+    ensures { TextsAreReadPlainly }
 {}

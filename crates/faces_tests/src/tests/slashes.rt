@@ -1,5 +1,8 @@
-//! Rows of slashes that are read by the flag.
-use ecma_lexer::{Canon, Kept, Lexer, Settings, canonical, read_by_flag, replay, steps_by_flag};
+//! Rows of slashes that are read by the flag, and by their places.
+use ecma_lexer::{
+    Canon, Kept, Lexer, Settings, Slashes, ascend, canonical, count_rereads, read_by, read_by_flag,
+    replay, steps_by, steps_by_flag,
+};
 use ecma_place::{BytePos, Span, StringInput};
 use ecma_syntax::{AssignOp, BinOpToken, Context, EsVersion, NumberRule, Syntax};
 use ecma_token::TokenKind;
@@ -85,5 +88,110 @@ fn slashes_are_told_by_the_flag(rt: HostRuntime) -> Result<(), Fail> {
         };
         assert!(rt; is_read(rt.alloc(), source, wanted)?, "{source}");
     }
+    Ok(())
+}
+
+/// A text, the places of the slashes that begin regular expressions in it, how many of these are met, and a token of it:
+/// where it begins and ends, and its kind.
+const PLACED: &[(&str, &[BytePos], usize, u32, u32, TokenKind)] = &[
+    ("a / b / c", &[], 0, 2, 3, DIVISION),
+    ("a / b / c", &[], 0, 6, 7, DIVISION),
+    ("a / b / c", &[BytePos(2)], 1, 2, 7, TokenKind::Regex),
+    ("a = /b/g", &[], 0, 4, 5, DIVISION),
+    ("a = /b/g", &[BytePos(4)], 1, 4, 8, TokenKind::Regex),
+    // The flag has no say: behind a name it allows no expression.
+    ("a /b/g", &[BytePos(2)], 1, 2, 6, TokenKind::Regex),
+    ("a /= b/", &[BytePos(2)], 1, 2, 7, TokenKind::Regex),
+    (
+        "/a/, /b/",
+        &[BytePos(0), BytePos(5)],
+        2,
+        5,
+        8,
+        TokenKind::Regex,
+    ),
+    // Of the places of a name, of a slash within an expression, and behind the text none is met.
+    ("a / b", &[BytePos(0)], 0, 2, 3, DIVISION),
+    (
+        "/a/, b",
+        &[BytePos(0), BytePos(2)],
+        1,
+        0,
+        3,
+        TokenKind::Regex,
+    ),
+    ("a / b", &[BytePos(2000)], 0, 2, 3, DIVISION),
+];
+
+/// Reads with the slashes at these places, and gives what is kept.
+fn read_placed(
+    alloc: Global,
+    input: StringInput,
+    places: &[BytePos],
+) -> Result<Vec<Kept>, AllocError> {
+    let mut lexer = Lexer::new(alloc, Syntax::default(), EsVersion::default(), input, false);
+    let mut tokens = Vec::new(alloc);
+    for _ in 0..READS {
+        if lexer.reads_again() || !ascend(places) {
+            return Ok(tokens);
+        }
+        if let Some(token) = read_by(&mut lexer, Slashes::At(places))? {
+            tokens.push(Kept::of(&token))?;
+        }
+    }
+    Ok(tokens)
+}
+
+/// Whether the token is among those that were read one by one, and among those that a list of steps keeps, these are the
+/// same, and so many slashes are read again by the steps.
+fn is_placed(
+    alloc: Global,
+    source: &str,
+    places: &[BytePos],
+    met: usize,
+    wanted: Kept,
+) -> Result<bool, AllocError> {
+    let start = BytePos(0);
+    if !StringInput::fits(source, start) || !ascend(places) {
+        return Ok(false);
+    }
+    let kept = read_placed(alloc, StringInput::new(source, start), places)?;
+    let context = Context::default();
+    let slashes = Slashes::At(places);
+    let steps = steps_by(alloc, &settings(), context, source, start, slashes)?;
+    let played = replay(alloc, &settings(), source, start, &steps)?;
+    Ok(
+        kept.as_slice().contains(&wanted)
+            && kept.as_slice() == played.kept.as_slice()
+            && played.ended
+            && count_rereads(&steps) == met,
+    )
+}
+
+#[test]
+fn slashes_are_told_by_their_places(rt: HostRuntime) -> Result<(), Fail> {
+    for (source, places, met, lo, hi, kind) in PLACED {
+        let wanted = Kept {
+            kind: *kind,
+            span: Span {
+                lo: BytePos(*lo),
+                hi: BytePos(*hi),
+            },
+            flag: *lo == 0,
+        };
+        assert!(rt;
+            is_placed(rt.alloc(), source, places, *met, wanted)?,
+            "{source}"
+        );
+    }
+    Ok(())
+}
+
+#[test]
+fn places_ascend_or_not(rt: HostRuntime) -> Result<(), Fail> {
+    assert!(rt; ascend(&[]) && ascend(&[BytePos(7)]) && ascend(&[BytePos(0), BytePos(2)]));
+    assert!(rt;
+        !ascend(&[BytePos(2), BytePos(2)]) && !ascend(&[BytePos(0), BytePos(3), BytePos(1)])
+    );
     Ok(())
 }

@@ -1,5 +1,0 @@
-use Rattle.ecma_slashes.proofs.RunLemmas.{runs_by_flag_are_runs}
-use Rattle.ecma_slashes.proofs.laws.runs_by_flag_are_runs.Goals as goal
-
-pub returns : goal.returns
-returns c = runs_by_flag_are_runs

@@ -1,0 +1,183 @@
+-- Reading with no parser above: each slash that begins a regular expression, as a rule says, is read again.
+use Rattle.std.specs.Prelude.{ℕ, zero, suc, ◌≡◌, ◌==◌, nat_lt, Bool, true, false, ◌&&◌, List, [], ◌∷◌, ◌++◌, Option, Some, None, is_some, length}
+use Rattle.std.specs.List.{count_by, list_any}
+use Rattle.ecma_place.specs.Cursor.{Cursor}
+use Rattle.ecma_place.specs.declared.place.BytePos.{BytePos}
+use Rattle.ecma_syntax.specs.declared.context.Context.{Context}
+use Rattle.ecma_token.specs.View.{SpannedView}
+use Rattle.ecma_state.specs.Counting.{counting}
+use Rattle.ecma_state.specs.Run.{act_all, act_on, is_free_read, reading_of, session, start_of}
+use Rattle.ecma_state.specs.Session.{LexerState, Session, has_ended, seen_of, state_of}
+use Rattle.ecma_state.specs.State.{last_slash}
+use Rattle.ecma_state.specs.declared.settings.Settings.{Settings}
+use Rattle.ecma_state.specs.declared.step.Step.{Step}
+use Rattle.ecma_state.specs.declared.step.Step.TheVariants.{Read, SetCtx, SetExprAllowed, SetContexts, PopContext, Reread, Withdraw, Save, Back, TakeErrors}
+use Rattle.ecma_clean_reads.specs.Clean.{each_step, ends_clean, is_clean, is_plain_step, takes_none}
+use Rattle.ecma_stream.specs.Ending.{enough}
+use Rattle.ecma_slashes.specs.declared.slashes.Slashes.{Slashes}
+use Rattle.ecma_slashes.specs.declared.slashes.Slashes.TheVariants.{ByFlag, At}
+
+-- Which slashes begin regular expressions
+
+-- those before which an expression is allowed, or those at these places
+pub data SlashRule : Type 0 where
+  by_flag : SlashRule
+  at_places : List BytePos → SlashRule
+
+abbrev pub rule_of : Slashes → SlashRule
+rule_of ByFlag = by_flag
+rule_of (At places) = at_places places.now
+
+-- each place is behind the one before it
+abbrev pub ascend_behind : BytePos → List BytePos → Bool
+ascend_behind p [] = true
+ascend_behind p (q ∷ qs) = nat_lt p.0 q.0 && ascend_behind q qs
+
+abbrev pub ascend : List BytePos → Bool
+ascend [] = true
+ascend (p ∷ ps) = ascend_behind p ps
+
+abbrev pub is_in_order : SlashRule → Bool
+is_in_order by_flag = true
+is_in_order (at_places places) = ascend places
+
+-- a place is one of these
+abbrev pub is_among : List BytePos → BytePos → Bool
+is_among places p = list_any (λ q. q.0 == p.0) places
+
+-- a slash before which an expression was allowed or not begins a regular expression
+abbrev pub names : SlashRule → Bool → BytePos → Bool
+names by_flag allowed p = allowed
+names (at_places places) allowed p = is_among places p
+
+abbrev pub names_answer : SlashRule → Bool → Option BytePos → Bool
+names_answer rule allowed None = false
+names_answer rule allowed (Some p) = names rule allowed p
+
+-- One token
+
+-- the next read answers a slash that begins a regular expression
+abbrev pub meets_expression : SlashRule → Session → Bool
+meets_expression rule s = names_answer rule s.expr_allowed (last_slash (seen_of (act_on s Read).past))
+
+-- the steps of a read that tells of a slash, or that tells of the expression which the slash begins
+abbrev pub read_steps : Bool → List Step
+read_steps false = Read ∷ []
+read_steps true = Read ∷ (Reread ∷ (Read ∷ (Withdraw ∷ [])))
+
+-- the steps by which the next token is read
+abbrev pub steps_by : SlashRule → Session → List Step
+steps_by rule s = read_steps (meets_expression rule s)
+
+-- where they lead
+abbrev pub behind_by : SlashRule → Session → Session
+behind_by rule s = act_all s (steps_by rule s)
+
+-- where the last read among them begins
+abbrev pub last_read : Bool → Session → Session
+last_read false s = s
+last_read true s = act_all s (Read ∷ (Reread ∷ []))
+
+-- what that read finds
+abbrev pub found_by : SlashRule → Session → Option SpannedView
+found_by rule s = (reading_of (state_of (last_read (meets_expression rule s) s))).found
+
+-- from a session on this was found, and a lexer shows what the steps come to
+pub record ReadsBy (rule : SlashRule) (s : Session) (found : Option SpannedView) (l : LexerState) : Type 0 where
+  pub finds : found ≡ found_by rule s
+  pub after : l ≡ state_of (behind_by rule s)
+
+-- it is told whether a token was found, and whether by a second read
+pub record PassesBy (rule : SlashRule) (s : Session) (more again : Bool) (l : LexerState) : Type 0 where
+  pub told : more ≡ is_some (found_by rule s)
+  pub twice : again ≡ meets_expression rule s
+  pub after : l ≡ state_of (behind_by rule s)
+
+-- the steps stand behind those before them, it is told whether a token was found, and a lexer shows what they come to
+pub record StepsOn (rule : SlashRule) (s : Session) (before steps : List Step) (more : Bool) (l : LexerState) : Type 0 where
+  pub adds : steps ≡ before ++ steps_by rule s
+  pub told : more ≡ is_some (found_by rule s)
+  pub after : l ≡ state_of (behind_by rule s)
+
+-- a read finds nothing for which memory is taken, while few contexts stand
+abbrev pub is_free : Session → Bool
+is_free s = nat_lt (length s.contexts) 128 && is_free_read (state_of s)
+
+-- so do the reads of a token
+abbrev pub are_free_by : SlashRule → Session → Bool
+are_free_by rule s = is_free s && is_free (last_read (meets_expression rule s) s)
+
+-- Whole runs
+
+-- nothing more once the end was answered
+abbrev pub unless_ended : Bool → List Step → List Step
+unless_ended true steps = []
+unless_ended false steps = steps
+
+-- the steps of so many tokens, or of all up to the end
+abbrev pub all_by : SlashRule → ℕ → Session → List Step
+all_by rule zero s = []
+all_by rule (suc n) s = steps_by rule s ++ unless_ended (has_ended (behind_by rule s).past) (all_by rule n (behind_by rule s))
+
+-- the steps by which a session is read to the end
+unfoldable pub steps_to_end_by : SlashRule → Session → List Step
+steps_to_end_by rule s = all_by rule (enough s.input) s
+
+-- a text in a context
+abbrev pub entered : Settings → Context → Cursor → Session
+entered settings context input = act_on (start_of settings input) (SetCtx context)
+
+-- the steps by which it is read to the end
+abbrev pub text_steps_by : SlashRule → Settings → Context → Cursor → List Step
+text_steps_by rule settings context input = SetCtx context ∷ steps_to_end_by rule (entered settings context input)
+
+-- how many slashes steps read again
+abbrev pub is_reread : Step → Bool
+is_reread Read = false
+is_reread (SetCtx context) = false
+is_reread (SetExprAllowed allowed) = false
+is_reread (SetContexts contexts) = false
+is_reread PopContext = false
+is_reread Reread = true
+is_reread Withdraw = false
+is_reread Save = false
+is_reread (Back save) = false
+is_reread TakeErrors = false
+
+abbrev pub rereads : List Step → ℕ
+rereads steps = count_by is_reread steps
+
+-- Laws
+
+-- They come to the end, where no slash was to be read again, and none is to be then.
+pub record ComesToEnd (rule : SlashRule) (s : Session) : Type 0 where
+  pub ended : has_ended (act_all s (steps_to_end_by rule s)).past ≡ true
+  pub plain : (act_all s (steps_to_end_by rule s)).reread ≡ None
+
+abbrev pub RunsByRuleEnd : Type 0
+RunsByRuleEnd = (rule : SlashRule) (s : Session) → s.reread ≡ None → ComesToEnd rule s
+
+-- Behind any steps of a run the list of these steps is a list of steps like any other, which all count: what holds of every
+-- run holds of such runs.
+abbrev pub RunsByRuleAreRuns : Type 0
+RunsByRuleAreRuns =
+    (rule : SlashRule) (settings : Settings) (input : Cursor) (before : List Step)
+    → session settings input (before ++ steps_to_end_by rule (session settings input before)) ≡ act_all (session settings input before) (steps_to_end_by rule (session settings input before))
+
+-- The steps by which a text is read lead to its end.
+abbrev pub TextsAreReadOut : Type 0
+TextsAreReadOut =
+    (rule : SlashRule) (settings : Settings) (context : Context) (input : Cursor)
+    → has_ended (session settings input (text_steps_by rule settings context input)).past ≡ true
+
+-- The run of these steps takes plain steps alone and no error, so that it is clean where its end is.
+pub record IsPlainRun (settings : Settings) (input : Cursor) (steps : List Step) : Type 0 where
+  pub plain : each_step is_plain_step (start_of settings input) (counting steps) ≡ true
+  pub takes_none : each_step takes_none (start_of settings input) (counting steps) ≡ true
+  pub clean : is_clean settings input steps ≡ ends_clean (session settings input steps)
+
+-- So does each run by which a text is read, in a context in which errors are not ignored.
+abbrev pub TextsAreReadPlainly : Type 0
+TextsAreReadPlainly =
+    (rule : SlashRule) (settings : Settings) (context : Context) (input : Cursor) → context.ignore_error ≡ false
+    → IsPlainRun settings input (text_steps_by rule settings context input)

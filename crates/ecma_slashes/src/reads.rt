@@ -1,0 +1,209 @@
+//! Reading with no parser above: the slashes that are named are read again.
+ghost use Rattle.std.specs.Prelude.{◌≡◌, ◌+◌, ◌++◌, ◌<◌, ◌^◌, false, true, None, Err, [], alloc_error, is_some, length, option_map, IfOk, IsOk, OnOk, OnErr};
+ghost use Rattle.std.specs.Str.{chars};
+ghost use Rattle.ecma_place.specs.Cursor.{rest};
+ghost use Rattle.ecma_token.specs.View.{spanned_view};
+ghost use Rattle.ecma_state.specs.Run.{act_all};
+ghost use Rattle.ecma_state.specs.Session.{Session, lexer_state, state_of};
+ghost use Rattle.ecma_stream.specs.View.{IsGivenAs};
+ghost use Rattle.ecma_stream.specs.Ending.{most_tokens};
+ghost use Rattle.ecma_slashes.specs.Rereads.{PassesBy, ReadsBy, StepsOn, are_free_by, is_in_order, meets_expression, rereads, rule_of, steps_to_end_by, text_steps_by};
+
+use crate::slashes::Slashes;
+use ecma_place::{BytePos, StringInput};
+use ecma_state::settings::Settings;
+use ecma_state::step::Step;
+use ecma_stream::lexer::Lexer;
+use ecma_stream::tokens::Tokens;
+use ecma_syntax::Context;
+use ecma_token::TokenAndSpan;
+use std::alloc::{AllocError, Global};
+
+/// Reads the next token into a slot as [`read_by`] does, and says whether a slash was read again.
+fn read_telling<'a>(
+    lexer: &mut Lexer<'a>,
+    slot: &mut Option<TokenAndSpan<'a>>,
+    slashes: Slashes,
+) -> Result<bool, AllocError>
+    requires plain { lexer.old.reread ≡ None }
+    requires in_order { is_in_order (rule_of slashes) ≡ true }
+    ensures steps { (s : Session) → state_of s ≡ lexer_state lexer.old → IfOk result (λ again.
+        ReadsBy (rule_of slashes.entry) s (option_map spanned_view slot.new) (lexer_state lexer.new) × (again ≡ meets_expression (rule_of slashes.entry) s)) }
+    ensures fewer { OnOk result (is_some slot.new ≡ true → most_tokens (lexer_state lexer.new) < most_tokens (lexer_state lexer.old)) }
+    ensures plain { OnOk result (lexer.new.reread ≡ None) }
+    ensures refused { lexer.old.refused ≡ true → (result ≡ Err alloc_error) × (lexer.new ≡ lexer.old) }
+    ensures refusal { OnErr result (lexer.new.refused ≡ true) }
+    ensures given { OnErr result (IsGivenAs lexer.old lexer.new) }
+    ensures free { (s : Session) → state_of s ≡ lexer_state lexer.old → lexer.old.refused ≡ false → are_free_by (rule_of slashes.entry) s ≡ true → IsOk result }
+    ensures ended { lexer.old.refused ≡ false → rest lexer.old.input ≡ [] → IsOk result }
+{
+    let allowed = lexer.expr_allowed();
+    lexer.read_into(slot)?;
+    let Some(slash) = lexer.last_slash() else {
+        return Ok(false);
+    };
+    if !slashes.name(allowed, slash) {
+        return Ok(false);
+    }
+    lexer.set_next_regexp(Some(slash));
+    let again = lexer.read_into(slot);
+    lexer.set_next_regexp(None);
+    again?;
+    Ok(true)
+}
+
+/// The next token, or nothing at the end, with no parser to say what a slash is: where `/` or `/=` was read and the slash
+/// is among those that begin regular expressions, it is read again, and the token of the expression, or that which says
+/// what is wrong with it, is answered in its place. Our own.
+///
+/// The caller knows that no slash is read again ([`Lexer::reads_again`]), and that the places ascend
+/// ([`ascend`](crate::ascend)).
+///
+/// # Errors
+///
+/// `AllocError` where there is no memory; each later read answers the same.
+pub fn read_by<'a>(
+    lexer: &mut Lexer<'a>,
+    slashes: Slashes,
+) -> Result<Option<TokenAndSpan<'a>>, AllocError>
+    requires plain { lexer.old.reread ≡ None }
+    requires in_order { is_in_order (rule_of slashes) ≡ true }
+    // It answers what these steps of the run answer last, and leads where they do, from any session.
+    ensures steps { (s : Session) → state_of s ≡ lexer_state lexer.old → IfOk result (λ found.
+        ReadsBy (rule_of slashes.entry) s (option_map spanned_view found) (lexer_state lexer.new)) }
+    // Each token leaves fewer that may come, so that a loop ends.
+    ensures fewer { IfOk result (λ found. is_some found ≡ true → most_tokens (lexer_state lexer.new) < most_tokens (lexer_state lexer.old)) }
+    ensures plain { OnOk result (lexer.new.reread ≡ None) }
+    ensures refused { lexer.old.refused ≡ true → (result ≡ Err alloc_error) × (lexer.new ≡ lexer.old) }
+    ensures refusal { OnErr result (lexer.new.refused ≡ true) }
+    ensures given { OnErr result (IsGivenAs lexer.old lexer.new) }
+    // It takes no memory where neither of its reads does.
+    ensures free { (s : Session) → state_of s ≡ lexer_state lexer.old → lexer.old.refused ≡ false → are_free_by (rule_of slashes.entry) s ≡ true → IsOk result }
+    // Nor does the end.
+    ensures ended { lexer.old.refused ≡ false → rest lexer.old.input ≡ [] → IsOk result }
+{
+    let mut answer = None;
+    read_telling(lexer, &mut answer, slashes)?;
+    Ok(answer)
+}
+
+/// What was read.
+#[derive(Clone, Copy)]
+struct Passed {
+    /// Whether there was a token.
+    more: bool,
+    /// Whether a slash was read again.
+    again: bool,
+}
+
+/// Passes the next token.
+fn pass_token(lexer: &mut Lexer, slashes: Slashes) -> Result<Passed, AllocError>
+    requires plain { lexer.old.reread ≡ None }
+    requires in_order { is_in_order (rule_of slashes) ≡ true }
+    ensures steps { (s : Session) → state_of s ≡ lexer_state lexer.old → IfOk result (λ passed.
+        PassesBy (rule_of slashes.entry) s passed.more passed.again (lexer_state lexer.new)) }
+    ensures fewer { IfOk result (λ passed. passed.more ≡ true → most_tokens (lexer_state lexer.new) < most_tokens (lexer_state lexer.old)) }
+    ensures plain { OnOk result (lexer.new.reread ≡ None) }
+{
+    let mut slot = None;
+    let again = read_telling(lexer, &mut slot, slashes)?;
+    Ok(Passed {
+        more: slot.is_some(),
+        again,
+    })
+}
+
+/// Reads the next token, adds the steps by which it was read, and says whether there was one.
+fn add_steps(steps: &mut Vec<Step>, lexer: &mut Lexer, slashes: Slashes) -> Result<bool, AllocError>
+    requires plain { lexer.old.reread ≡ None }
+    requires in_order { is_in_order (rule_of slashes) ≡ true }
+    ensures steps { (s : Session) → state_of s ≡ lexer_state lexer.old → IfOk result (λ more.
+        StepsOn (rule_of slashes.entry) s steps.old.items steps.new.items more (lexer_state lexer.new)) }
+    ensures fewer { IfOk result (λ more. more ≡ true → most_tokens (lexer_state lexer.new) < most_tokens (lexer_state lexer.old)) }
+    ensures plain { OnOk result (lexer.new.reread ≡ None) }
+{
+    let passed = pass_token(lexer, slashes)?;
+    steps.push(Step::Read)?;
+    if passed.again {
+        steps.push(Step::Reread)?;
+        steps.push(Step::Read)?;
+        steps.push(Step::Withdraw)?;
+    }
+    Ok(passed.more)
+}
+
+/// Reads to the end ([`read_by`]), and adds the steps by which all was read. Our own.
+///
+/// The caller knows that no slash is read again ([`Lexer::reads_again`]), and that the places ascend
+/// ([`ascend`](crate::ascend)).
+///
+/// # Errors
+///
+/// `AllocError` where there is no memory; each later read answers the same.
+pub fn add_steps_by(
+    steps: &mut Vec<Step>,
+    lexer: &mut Lexer,
+    slashes: Slashes,
+) -> Result<(), AllocError>
+    requires plain { lexer.old.reread ≡ None }
+    requires in_order { is_in_order (rule_of slashes) ≡ true }
+    ensures steps { (s : Session) → state_of s ≡ lexer_state lexer.old → OnOk result (steps.new.items ≡ steps.old.items ++ steps_to_end_by (rule_of slashes.entry) s) }
+    ensures after { (s : Session) → state_of s ≡ lexer_state lexer.old → OnOk result (lexer_state lexer.new ≡ state_of (act_all s (steps_to_end_by (rule_of slashes.entry) s))) }
+{
+    'tokens: while add_steps(steps, lexer, slashes)? {}
+    Ok(())
+}
+
+/// The steps by which a text that starts at a place is read to its end ([`read_by`]), in a context, which the first step
+/// sets: a list for `replay`, and for all that takes lists of steps. Places are bytes from the text's start, plus its start
+/// place. Our own.
+///
+/// A place that is not that of a `/` or `/=` which is read there changes nothing: all were met where
+/// [`count_rereads`] of the steps is as many as there are places.
+///
+/// The caller knows that the text fits its places ([`StringInput::fits`]), and that the places ascend
+/// ([`ascend`](crate::ascend)).
+///
+/// # Errors
+///
+/// `AllocError` where there is no memory.
+pub fn steps_by(
+    alloc: Global,
+    settings: &Settings,
+    context: Context,
+    source: &str,
+    start: BytePos,
+    slashes: Slashes,
+) -> Result<Vec<Step>, AllocError>
+    requires fits { start.0 + length source.now < 2 ^ 32 }
+    requires in_order { is_in_order (rule_of slashes) ≡ true }
+    ensures { IfOk result (λ v. v.items ≡ text_steps_by (rule_of slashes.entry) settings.now context record { start = start.0; text = chars source.now; at = 0 }) }
+{
+    let input = StringInput::new(source, start);
+    let mut lexer = Lexer::with_rule(
+        alloc,
+        settings.syntax,
+        settings.target,
+        input,
+        settings.comments,
+        settings.numbers,
+    );
+    lexer.set_ctx(context)?;
+    let mut steps = Vec::new(alloc);
+    steps.push(Step::SetCtx(context))?;
+    add_steps_by(&mut steps, &mut lexer, slashes)?;
+    Ok(steps)
+}
+
+/// How many slashes these steps read again. Our own.
+pub fn count_rereads(steps: &[Step]) -> usize
+    ensures { result ≡ rereads steps.now }
+{
+    let mut count = 0;
+    'steps: for step in steps {
+        if matches!(step, Step::Reread) {
+            count += 1;
+        }
+    }
+    count
+}

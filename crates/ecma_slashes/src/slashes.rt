@@ -1,0 +1,53 @@
+//! Which slashes begin regular expressions.
+ghost use Rattle.std.specs.Prelude.{◌≡◌, true};
+ghost use Rattle.ecma_slashes.specs.Rereads.{ascend, is_in_order, is_among, names, rule_of};
+
+use ecma_place::BytePos;
+
+/// Which slashes begin regular expressions, where there is no parser above: each `/` or `/=` that it names is read again
+/// ([`read_by`](crate::read_by)). Our own.
+#[derive(Clone, Copy, Debug, PartialEq, Eq)]
+pub enum Slashes<'a> {
+    /// Those before which an expression is allowed, by the lexer's own flag.
+    ByFlag,
+    /// Those at these places, each behind the one before it ([`ascend`]).
+    At(&'a [BytePos]),
+}
+
+/// Whether each place is behind the one before it. Our own.
+pub fn ascend(places: &[BytePos]) -> bool
+    ensures { result ≡ ascend places.now }
+{
+    let Some((first, behind)) = places.split_first() else {
+        return true;
+    };
+    let mut last = first.0;
+    'places: for place in behind {
+        if place.0 <= last {
+            return false;
+        }
+        last = place.0;
+    }
+    true
+}
+
+/// Whether the slash is at one of these places.
+fn is_among(places: &[BytePos], slash: BytePos) -> bool
+    requires { ascend places.now ≡ true }
+    ensures { result ≡ is_among places.now slash }
+{
+    places.binary_search(&slash).is_ok()
+}
+
+impl<'a> Slashes<'a> {
+    /// Whether this slash begins a regular expression, before which an expression is allowed or not.
+    pub(crate) fn name(self, allowed: bool, slash: BytePos) -> bool
+        requires { is_in_order (rule_of self) ≡ true }
+        ensures { result ≡ names (rule_of self.entry) allowed slash }
+    {
+        match self {
+            Slashes::ByFlag => allowed,
+            Slashes::At(places) => is_among(places, slash),
+        }
+    }
+}
