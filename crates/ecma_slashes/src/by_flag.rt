@@ -33,13 +33,13 @@ use std::alloc::{AllocError, Global};
 ///
 /// `AllocError` where there is no memory; each later read answers the same.
 pub fn read_by_flag<'a>(lexer: &mut Lexer<'a>) -> Result<Option<TokenAndSpan<'a>>, AllocError>
-    requires plain { lexer.old.reread ≡ None }
+    requires no_reread { lexer.old.reread ≡ None }
     // It answers what these steps of the run answer last, and leads where they do, from any session.
     ensures steps { (s : Session) → state_of s ≡ lexer_state lexer.old → IfOk result (λ found.
         ReadsByFlag s (option_map spanned_view found) (lexer_state lexer.new)) }
     // Each token leaves fewer that may come, so that a loop ends.
     ensures fewer { IfOk result (λ found. is_some found ≡ true → most_tokens (lexer_state lexer.new) < most_tokens (lexer_state lexer.old)) }
-    ensures plain { OnOk result (lexer.new.reread ≡ None) }
+    ensures no_reread { OnOk result (lexer.new.reread ≡ None) }
     ensures refused { lexer.old.refused ≡ true → (result ≡ Err alloc_error) × (lexer.new ≡ lexer.old) }
     ensures refusal { OnErr result (lexer.new.refused ≡ true) }
     ensures given { OnErr result (IsGivenAs lexer.old lexer.new) }
@@ -59,7 +59,7 @@ pub fn read_by_flag<'a>(lexer: &mut Lexer<'a>) -> Result<Option<TokenAndSpan<'a>
 ///
 /// `AllocError` where there is no memory; each later read answers the same.
 pub fn add_steps_to_end(steps: &mut Vec<Step>, lexer: &mut Lexer) -> Result<(), AllocError>
-    requires plain { lexer.old.reread ≡ None }
+    requires no_reread { lexer.old.reread ≡ None }
     ensures steps { (s : Session) → state_of s ≡ lexer_state lexer.old → OnOk result (steps.new.items ≡ steps.old.items ++ steps_to_end s) }
     ensures after { (s : Session) → state_of s ≡ lexer_state lexer.old → OnOk result (lexer_state lexer.new ≡ state_of (act_all s (steps_to_end s))) }
 {

@@ -33,12 +33,12 @@ pub fn read_telling<'a>(
     slot: &mut Option<TokenAndSpan<'a>>,
     slashes: Slashes,
 ) -> Result<bool, AllocError>
-    requires plain { lexer.old.reread ≡ None }
+    requires no_reread { lexer.old.reread ≡ None }
     requires in_order { is_in_order (rule_of slashes) ≡ true }
     ensures steps { (s : Session) → state_of s ≡ lexer_state lexer.old → IfOk result (λ again.
         ReadsBy (rule_of slashes.entry) s (option_map spanned_view slot.new) (lexer_state lexer.new) × (again ≡ meets_expression (rule_of slashes.entry) s)) }
     ensures fewer { OnOk result (is_some slot.new ≡ true → most_tokens (lexer_state lexer.new) < most_tokens (lexer_state lexer.old)) }
-    ensures plain { OnOk result (lexer.new.reread ≡ None) }
+    ensures no_reread { OnOk result (lexer.new.reread ≡ None) }
     ensures refused { lexer.old.refused ≡ true → (result ≡ Err alloc_error) × (lexer.new ≡ lexer.old) }
     ensures refusal { OnErr result (lexer.new.refused ≡ true) }
     ensures given { OnErr result (IsGivenAs lexer.old lexer.new) }
@@ -74,14 +74,14 @@ pub fn read_by<'a>(
     lexer: &mut Lexer<'a>,
     slashes: Slashes,
 ) -> Result<Option<TokenAndSpan<'a>>, AllocError>
-    requires plain { lexer.old.reread ≡ None }
+    requires no_reread { lexer.old.reread ≡ None }
     requires in_order { is_in_order (rule_of slashes) ≡ true }
     // It answers what these steps of the run answer last, and leads where they do, from any session.
     ensures steps { (s : Session) → state_of s ≡ lexer_state lexer.old → IfOk result (λ found.
         ReadsBy (rule_of slashes.entry) s (option_map spanned_view found) (lexer_state lexer.new)) }
     // Each token leaves fewer that may come, so that a loop ends.
     ensures fewer { IfOk result (λ found. is_some found ≡ true → most_tokens (lexer_state lexer.new) < most_tokens (lexer_state lexer.old)) }
-    ensures plain { OnOk result (lexer.new.reread ≡ None) }
+    ensures no_reread { OnOk result (lexer.new.reread ≡ None) }
     ensures refused { lexer.old.refused ≡ true → (result ≡ Err alloc_error) × (lexer.new ≡ lexer.old) }
     ensures refusal { OnErr result (lexer.new.refused ≡ true) }
     ensures given { OnErr result (IsGivenAs lexer.old lexer.new) }
@@ -106,12 +106,12 @@ struct Passed {
 
 /// Passes the next token.
 fn pass_token(lexer: &mut Lexer, slashes: Slashes) -> Result<Passed, AllocError>
-    requires plain { lexer.old.reread ≡ None }
+    requires no_reread { lexer.old.reread ≡ None }
     requires in_order { is_in_order (rule_of slashes) ≡ true }
     ensures steps { (s : Session) → state_of s ≡ lexer_state lexer.old → IfOk result (λ passed.
         PassesBy (rule_of slashes.entry) s passed.more passed.again (lexer_state lexer.new)) }
     ensures fewer { IfOk result (λ passed. passed.more ≡ true → most_tokens (lexer_state lexer.new) < most_tokens (lexer_state lexer.old)) }
-    ensures plain { OnOk result (lexer.new.reread ≡ None) }
+    ensures no_reread { OnOk result (lexer.new.reread ≡ None) }
 {
     let mut slot = None;
     let again = read_telling(lexer, &mut slot, slashes)?;
@@ -123,12 +123,12 @@ fn pass_token(lexer: &mut Lexer, slashes: Slashes) -> Result<Passed, AllocError>
 
 /// Reads the next token, adds the steps by which it was read, and says whether there was one.
 fn add_steps(steps: &mut Vec<Step>, lexer: &mut Lexer, slashes: Slashes) -> Result<bool, AllocError>
-    requires plain { lexer.old.reread ≡ None }
+    requires no_reread { lexer.old.reread ≡ None }
     requires in_order { is_in_order (rule_of slashes) ≡ true }
     ensures steps { (s : Session) → state_of s ≡ lexer_state lexer.old → IfOk result (λ more.
         StepsOn (rule_of slashes.entry) s steps.old.items steps.new.items more (lexer_state lexer.new)) }
     ensures fewer { IfOk result (λ more. more ≡ true → most_tokens (lexer_state lexer.new) < most_tokens (lexer_state lexer.old)) }
-    ensures plain { OnOk result (lexer.new.reread ≡ None) }
+    ensures no_reread { OnOk result (lexer.new.reread ≡ None) }
 {
     let passed = pass_token(lexer, slashes)?;
     steps.push(Step::Read)?;
@@ -153,7 +153,7 @@ pub fn add_steps_by(
     lexer: &mut Lexer,
     slashes: Slashes,
 ) -> Result<(), AllocError>
-    requires plain { lexer.old.reread ≡ None }
+    requires no_reread { lexer.old.reread ≡ None }
     requires in_order { is_in_order (rule_of slashes) ≡ true }
     ensures steps { (s : Session) → state_of s ≡ lexer_state lexer.old → OnOk result (steps.new.items ≡ steps.old.items ++ steps_to_end_by (rule_of slashes.entry) s) }
     ensures after { (s : Session) → state_of s ≡ lexer_state lexer.old → OnOk result (lexer_state lexer.new ≡ state_of (act_all s (steps_to_end_by (rule_of slashes.entry) s))) }

@@ -6,7 +6,7 @@ use Rattle.ecma_slashes.proofs.reads.add_steps_by.Goals as goal
 
 pub tokens-init : goal.tokens-init
 tokens-init c =
-    (λ s at. so-far-start (rule_of c.args.slashes) s c.args.steps.now.items (lexer_state c.args.lexer.now) (sym at) (ap (λ l. l.reread) at ∙ c.requires.plain), c.requires.plain)
+    (λ s at. so-far-start (rule_of c.args.slashes) s c.args.steps.now.items (lexer_state c.args.lexer.now) (sym at) (ap (λ l. l.reread) at ∙ c.requires.no_reread), c.requires.no_reread)
 
 pub tokens-preserved : goal.tokens-preserved
 tokens-preserved c = (
@@ -15,7 +15,7 @@ tokens-preserved c = (
       let on = c.in_ok-add_steps.ensures.steps so.here (sym so.shows) in
       so-far-next (rule_of c.args.slashes) s c.args.steps.now.items c.tokens.steps.items c.add_steps.new.steps.items (lexer_state c.tokens.lexer) (lexer_state c.add_steps.new.lexer) so
       (subst (λ (b : Bool). StepsOn (rule_of c.args.slashes) so.here c.tokens.steps.items c.add_steps.new.steps.items b (lexer_state c.add_steps.new.lexer)) c.if-branch.true on),
-  c.in_ok-add_steps.ensures.plain,
+  c.in_ok-add_steps.ensures.no_reread,
 )
 
 pub returns-clause-steps : goal.returns-clause-steps
