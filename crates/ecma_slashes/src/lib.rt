@@ -7,5 +7,5 @@ mod reads;
 mod slashes;
 
 pub use by_flag::{add_steps_to_end, read_by_flag, steps_by_flag};
-pub use reads::{add_steps_by, count_rereads, read_by, steps_by};
+pub use reads::{add_steps_by, count_rereads, read_by, read_telling, steps_by};
 pub use slashes::{Slashes, ascend};

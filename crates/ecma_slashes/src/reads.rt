@@ -20,7 +20,7 @@ use ecma_token::TokenAndSpan;
 use std::alloc::{AllocError, Global};
 
 /// Reads the next token into a slot as [`read_by`] does, and says whether a slash was read again.
-fn read_telling<'a>(
+pub fn read_telling<'a>(
     lexer: &mut Lexer<'a>,
     slot: &mut Option<TokenAndSpan<'a>>,
     slashes: Slashes,
