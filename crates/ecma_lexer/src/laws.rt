@@ -12,4 +12,6 @@ pub use ecma_laws::laws::{
     tokens_are_few, tokens_are_in_order, tokens_run_out, words,
 };
 pub use ecma_pieces::laws::{replays_may_be_covered, runs_may_be_covered};
-pub use ecma_slashes::laws::{runs_by_rule_are_runs, runs_by_rule_end, texts_are_read_out};
+pub use ecma_slashes::laws::{
+    runs_by_rule_are_runs, runs_by_rule_end, texts_are_read_out, texts_are_read_plainly,
+};

@@ -1,3 +1,5 @@
 pub mod FewerLemmas
-pub mod FlagLemmas
+pub mod PlainRuns
 pub mod RunLemmas
+pub mod SlashLemmas
+pub mod TokenLemmas

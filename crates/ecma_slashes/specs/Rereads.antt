@@ -1,16 +1,18 @@
 -- Reading with no parser above: each slash that begins a regular expression, as a rule says, is read again.
-use Rattle.std.specs.Prelude.{ℕ, zero, suc, ◌≡◌, ◌==◌, Bool, true, false, not, ◌&&◌, ◌||◌, List, [], ◌∷◌, ◌++◌, Option, Some, None, is_some, length}
-use Rattle.std.specs.List.{count_by, list_any, nat_lt}
+use Rattle.std.specs.Prelude.{ℕ, zero, suc, ◌≡◌, ◌==◌, nat_lt, Bool, true, false, ◌&&◌, List, [], ◌∷◌, ◌++◌, Option, Some, None, is_some, length}
+use Rattle.std.specs.List.{count_by, list_any}
 use Rattle.ecma_place.specs.Cursor.{Cursor}
 use Rattle.ecma_place.specs.declared.place.BytePos.{BytePos}
 use Rattle.ecma_syntax.specs.declared.context.Context.{Context}
 use Rattle.ecma_token.specs.View.{SpannedView}
+use Rattle.ecma_state.specs.Counting.{counting}
 use Rattle.ecma_state.specs.Run.{act_all, act_on, is_free_read, reading_of, session, start_of}
 use Rattle.ecma_state.specs.Session.{LexerState, Session, has_ended, seen_of, state_of}
 use Rattle.ecma_state.specs.State.{last_slash}
 use Rattle.ecma_state.specs.declared.settings.Settings.{Settings}
 use Rattle.ecma_state.specs.declared.step.Step.{Step}
 use Rattle.ecma_state.specs.declared.step.Step.TheVariants.{Read, SetCtx, SetExprAllowed, SetContexts, PopContext, Reread, Withdraw, Save, Back, TakeErrors}
+use Rattle.ecma_clean_reads.specs.Clean.{each_step, ends_clean, is_clean, is_plain_step, takes_none}
 use Rattle.ecma_stream.specs.Ending.{enough}
 use Rattle.ecma_slashes.specs.declared.slashes.Slashes.{Slashes}
 use Rattle.ecma_slashes.specs.declared.slashes.Slashes.TheVariants.{ByFlag, At}
@@ -167,3 +169,15 @@ abbrev pub TextsAreReadOut : Type 0
 TextsAreReadOut =
     (rule : SlashRule) (settings : Settings) (context : Context) (input : Cursor)
     → has_ended (session settings input (text_steps_by rule settings context input)).past ≡ true
+
+-- The run of these steps takes plain steps alone and no error, so that it is clean where its end is.
+pub record IsPlainRun (settings : Settings) (input : Cursor) (steps : List Step) : Type 0 where
+  pub plain : each_step is_plain_step (start_of settings input) (counting steps) ≡ true
+  pub takes_none : each_step takes_none (start_of settings input) (counting steps) ≡ true
+  pub clean : is_clean settings input steps ≡ ends_clean (session settings input steps)
+
+-- So does each run by which a text is read, in a context in which errors are not ignored.
+abbrev pub TextsAreReadPlainly : Type 0
+TextsAreReadPlainly =
+    (rule : SlashRule) (settings : Settings) (context : Context) (input : Cursor) → context.ignore_error ≡ false
+    → IsPlainRun settings input (text_steps_by rule settings context input)

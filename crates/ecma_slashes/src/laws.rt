@@ -1,5 +1,5 @@
 //! Laws of runs in which the slashes that a rule names are read again.
-ghost use Rattle.ecma_slashes.specs.Rereads.{RunsByRuleAreRuns, RunsByRuleEnd, TextsAreReadOut};
+ghost use Rattle.ecma_slashes.specs.Rereads.{RunsByRuleAreRuns, RunsByRuleEnd, TextsAreReadOut, TextsAreReadPlainly};
 
 /// Whichever slashes are read again, reading comes to the end of every text.
 pub fn runs_by_rule_end()
@@ -15,4 +15,10 @@ pub fn runs_by_rule_are_runs()
 /// The steps by which a text is read lead to its end.
 pub fn texts_are_read_out()
     ensures { TextsAreReadOut }
+{}
+
+/// The steps by which a text is read, in a context in which errors are not ignored, are plain and take no error: so the run
+/// is clean exactly where it leaves nothing wrong, and `canonical` answers that it is not for nothing but errors.
+pub fn texts_are_read_plainly()
+    ensures { TextsAreReadPlainly }
 {}

@@ -1,11 +1,11 @@
 use Rattle.std.proofs.Common.{◌∙◌, sym}
 use Rattle.ecma_token.specs.View.{spanned_view}
 use Rattle.ecma_state.specs.Session.{lexer_state}
-use Rattle.ecma_slashes.proofs.FlagLemmas.{end-no-slash, fewer-seen, fewer-twice}
+use Rattle.ecma_slashes.proofs.TokenLemmas.{end-no-slash, fewer-seen, fewer-twice}
 use Rattle.ecma_slashes.proofs.reads.read_telling.Goals as goal
 
-pub returns-then-not-allowed-clause-fewer : goal.returns-then-not-allowed-clause-fewer
-returns-then-not-allowed-clause-fewer c =
+pub returns-then-not-name-clause-fewer : goal.returns-then-not-name-clause-fewer
+returns-then-not-name-clause-fewer c =
     fewer-seen spanned_view (lexer_state c.args.lexer.now) (lexer_state c.read_into.new.self) c.read_into.new.slot c.requires.plain c.in_ok-read_into.ensures.answer c.in_ok-read_into.ensures.after
 
 pub returns-in_default-clause-fewer : goal.returns-in_default-clause-fewer

@@ -1,5 +1,5 @@
--- One token by the flag.
-use Rattle.std.proofs.Common.{◌≡◌, ◌∙◌, ◌<◌, Bool, true, false, ◌&&◌, [], ◌∷◌, Option, Some, None, refl, sym, subst, ap, cond}
+-- One token, whose slash is read again where a rule names it.
+use Rattle.std.proofs.Common.{◌≡◌, ◌∙◌, ◌<◌, Bool, true, false, [], ◌∷◌, Option, Some, None, refl, sym, subst, ap, cond}
 use Rattle.std.specs.Prelude.{is_some, option_map}
 use Rattle.std.proofs.lemmas.Option.{none-some}
 use Rattle.ecma_place.specs.Cursor.{rest}
@@ -12,7 +12,7 @@ use Rattle.ecma_state.specs.declared.step.Step.TheVariants.{Read}
 use Rattle.ecma_stream.specs.Ending.{most_tokens}
 use Rattle.ecma_stream.specs.Slashes.{slash_answered}
 use Rattle.ecma_stream.proofs.EndingLemmas.{end_found, state-behind, tokens_run_out}
-use Rattle.ecma_slashes.specs.ByFlag.{ReadsByFlag, behind_flag, found_by_flag, last_read, meets_expression, read_steps}
+use Rattle.ecma_slashes.specs.Rereads.{ReadsBy, SlashRule, behind_by, found_by, last_read, meets_expression, names, names_answer, read_steps}
 use Rattle.ecma_slashes.proofs.FewerLemmas.{fewer-again}
 
 -- nothing was found
@@ -25,24 +25,25 @@ ended_by (Some t) = false
 slash-there : (s : Session) (l : LexerState) (o : Option BytePos) → l ≡ state_of (act_on s Read) → o ≡ slash_answered l → last_slash (seen_of (act_on s Read).past) ≡ o
 slash-there s l o at told = sym (told ∙ ap slash_answered at)
 
-pub meets-not-allowed : (s : Session) → s.expr_allowed ≡ false → meets_expression s ≡ false
-meets-not-allowed s e = ap (λ b. b && is_some (last_slash (seen_of (act_on s Read).past))) e
+pub meets-no-slash : (rule : SlashRule) (s : Session) (l : LexerState) → l ≡ state_of (act_on s Read) → None ≡ slash_answered l → meets_expression rule s ≡ false
+meets-no-slash rule s l at told = ap (names_answer rule s.expr_allowed) (slash-there s l None at told)
 
-pub meets-no-slash : (s : Session) (l : LexerState) → l ≡ state_of (act_on s Read) → None ≡ slash_answered l → meets_expression s ≡ false
-meets-no-slash s l at told = ap (λ o. s.expr_allowed && is_some o) (slash-there s l None at told) ∙ never s.expr_allowed
+pub meets-slash : (rule : SlashRule) (s : Session) (l : LexerState) (p : BytePos) → l ≡ state_of (act_on s Read) → Some p ≡ slash_answered l → meets_expression rule s ≡ names rule s.expr_allowed p
+meets-slash rule s l p at told = ap (names_answer rule s.expr_allowed) (slash-there s l (Some p) at told)
+
+-- a slash that is met was answered
+pub met-slash : (rule : SlashRule) (s : Session) → meets_expression rule s ≡ true → is_some (last_slash (seen_of (act_on s Read).past)) ≡ true
+met-slash rule s = go (last_slash (seen_of (act_on s Read).past))
   where
-    never : (b : Bool) → (b && false) ≡ false
-    never true = refl
-    never false = refl
-
-pub meets-slash : (s : Session) (l : LexerState) (p : BytePos) → s.expr_allowed ≡ true → l ≡ state_of (act_on s Read) → Some p ≡ slash_answered l → meets_expression s ≡ true
-meets-slash s l p allowed at told =
-    ap (λ b. b && is_some (last_slash (seen_of (act_on s Read).past))) allowed ∙ ap is_some (slash-there s l (Some p) at told)
+    go : (o : Option BytePos) → names_answer rule s.expr_allowed o ≡ true → is_some o ≡ true
+    go None h = cc
+    go (Some p) h = refl
 
 -- What is read
 
-pub read-once : (s : Session) (found : Option SpannedView) (l : LexerState) → meets_expression s ≡ false → found ≡ (reading_of (state_of s)).found → l ≡ state_of (act_on s Read) → ReadsByFlag s found l
-read-once s found l meets finds at =
+pub read-once : (rule : SlashRule) (s : Session) (found : Option SpannedView) (l : LexerState) → meets_expression rule s ≡ false → found ≡ (reading_of (state_of s)).found → l ≡ state_of (act_on s Read)
+    → ReadsBy rule s found l
+read-once rule s found l meets finds at =
     record {
       finds = finds ∙ ap (λ b. (reading_of (state_of (last_read b s))).found) (sym meets);
       after = at ∙ ap (λ b. state_of (act_all s (read_steps b))) (sym meets);
@@ -53,10 +54,9 @@ again-begins : (s : Session) (l asked : LexerState) (p : BytePos) → l ≡ stat
 again-begins s l asked p at told sets =
     sets ∙ ap (state_rereading (Some p)) at ∙ sym (ap (λ o. state_of (reread_from (act_on s Read) o).after) (slash-there s l (Some p) at told))
 
-pub read-twice : (s : Session) (found : Option SpannedView) (l asked now done : LexerState) (p : BytePos) → s.expr_allowed ≡ true → l ≡ state_of (act_on s Read) → Some p ≡ slash_answered l
-    → asked ≡ state_rereading (Some p) l → found ≡ (reading_of asked).found → now ≡ state_behind asked (reading_of asked) → done ≡ state_rereading None now → ReadsByFlag s found done
-read-twice s found l asked now done p allowed at told sets finds moved withdrawn =
-    let meets = meets-slash s l p allowed at told in
+pub read-twice : (rule : SlashRule) (s : Session) (found : Option SpannedView) (l asked now done : LexerState) (p : BytePos) → meets_expression rule s ≡ true → l ≡ state_of (act_on s Read) → Some p ≡ slash_answered l
+    → asked ≡ state_rereading (Some p) l → found ≡ (reading_of asked).found → now ≡ state_behind asked (reading_of asked) → done ≡ state_rereading None now → ReadsBy rule s found done
+read-twice rule s found l asked now done p meets at told sets finds moved withdrawn =
     let begins = again-begins s l asked p at told sets in
     let read : now ≡ state_of (act_on (last_read true s) Read) = moved ∙ ap (λ x. state_behind x (reading_of x)) begins ∙ sym (state-behind (last_read true s)) in
     record {
@@ -93,16 +93,16 @@ fewer-twice l next asked now done p plain moved told sets again withdrawn =
 
 -- Sessions
 
-pub flag-plain : (s : Session) → s.reread ≡ None → (behind_flag s).reread ≡ None
-flag-plain s plain = go (meets_expression s)
+pub behind-plain : (rule : SlashRule) (s : Session) → s.reread ≡ None → (behind_by rule s).reread ≡ None
+behind-plain rule s plain = go (meets_expression rule s)
   where
     go : (b : Bool) → (act_all s (read_steps b)).reread ≡ None
     go false = plain
     go true = refl
 
 -- whether the end was answered
-pub flag-ended : (s : Session) → has_ended (behind_flag s).past ≡ ended_by (found_by_flag s)
-flag-ended s = go (meets_expression s)
+pub behind-ended : (rule : SlashRule) (s : Session) → has_ended (behind_by rule s).past ≡ ended_by (found_by rule s)
+behind-ended rule s = go (meets_expression rule s)
   where
     told : (again flag : Bool) (found : Option SpannedView) (past : Past) → has_ended (given_in again flag found ∷ past) ≡ ended_by found
     told again flag None past = refl
@@ -115,8 +115,8 @@ flag-ended s = go (meets_expression s)
         let r = last_read true s in
         told (is_some r.reread) (reading_of (state_of r)).end_flag (reading_of (state_of r)).found r.past
 
-pub flag-fewer : (s : Session) → s.reread ≡ None → ended_by (found_by_flag s) ≡ false → most_tokens (state_of (behind_flag s)) < most_tokens (state_of s)
-flag-fewer s plain more = go (meets_expression s) refl more
+pub behind-fewer : (rule : SlashRule) (s : Session) → s.reread ≡ None → ended_by (found_by rule s) ≡ false → most_tokens (state_of (behind_by rule s)) < most_tokens (state_of s)
+behind-fewer rule s plain more = go (meets_expression rule s) refl more
   where
     slash : (o : Option BytePos) → last_slash (seen_of (act_on s Read).past) ≡ o → is_some o ≡ true → most_tokens (state_of (act_all s (read_steps true))) < most_tokens (state_of s)
     slash None e h = cc
@@ -125,17 +125,13 @@ flag-fewer s plain more = go (meets_expression s) refl more
         fewer-twice (state_of s) (state_of (act_on s Read)) (state_of (last_read true s)) (state_of (act_on (last_read true s) Read)) (state_of (act_all s (read_steps true))) p plain
         (state-behind s) (sym e) asked (state-behind (last_read true s)) refl
 
-    met : (b : Bool) → (b && is_some (last_slash (seen_of (act_on s Read).past))) ≡ true → is_some (last_slash (seen_of (act_on s Read).past)) ≡ true
-    met true h = h
-    met false h = cc
-
     once : (found : Option SpannedView) → (reading_of (state_of s)).found ≡ found → ended_by found ≡ false → most_tokens (state_of (act_on s Read)) < most_tokens (state_of s)
     once None e h = cc
     once (Some t) e h = fewer-once (state_of s) (state_of (act_on s Read)) t plain e (state-behind s)
 
-    go : (b : Bool) → meets_expression s ≡ b → ended_by (reading_of (state_of (last_read b s))).found ≡ false → most_tokens (state_of (act_all s (read_steps b))) < most_tokens (state_of s)
+    go : (b : Bool) → meets_expression rule s ≡ b → ended_by (reading_of (state_of (last_read b s))).found ≡ false → most_tokens (state_of (act_all s (read_steps b))) < most_tokens (state_of s)
     go false e h = once (reading_of (state_of s)).found refl h
-    go true e h = slash (last_slash (seen_of (act_on s Read).past)) refl (met s.expr_allowed e)
+    go true e h = slash (last_slash (seen_of (act_on s Read).past)) refl (met-slash rule s e)
 
 -- At the end no slash was answered
 pub end-no-slash : (l next : LexerState) (p : BytePos) → l.reread ≡ None → rest l.input ≡ [] → next ≡ state_behind l (reading_of l) → Some p ≡ slash_answered next → ⊥
@@ -152,15 +148,31 @@ end-no-slash l next p plain left moved told =
 pub lexer-behind : (s : Session) (l next : LexerState) → state_of s ≡ l → next ≡ state_behind l (reading_of l) → next ≡ state_of (act_on s Read)
 lexer-behind s l next at moved = moved ∙ ap (λ x. state_behind x (reading_of x)) (sym at) ∙ sym (state-behind s)
 
-pub lexer-once : (s : Session) (l next : LexerState) (found : Option SpannedView) → state_of s ≡ l → found ≡ (reading_of l).found → next ≡ state_behind l (reading_of l) → meets_expression s ≡ false
-    → ReadsByFlag s found next × (false ≡ meets_expression s)
-lexer-once s l next found at finds moved meets =
-    (read-once s found next meets (finds ∙ ap (λ x. (reading_of x).found) (sym at)) (lexer-behind s l next at moved), sym meets)
+pub lexer-once : (rule : SlashRule) (s : Session) (l next : LexerState) (found : Option SpannedView) → state_of s ≡ l → found ≡ (reading_of l).found → next ≡ state_behind l (reading_of l) → meets_expression rule s ≡ false
+    → ReadsBy rule s found next × (false ≡ meets_expression rule s)
+lexer-once rule s l next found at finds moved meets =
+    (read-once rule s found next meets (finds ∙ ap (λ x. (reading_of x).found) (sym at)) (lexer-behind s l next at moved), sym meets)
 
-pub lexer-twice : (s : Session) (l next asked now done : LexerState) (p : BytePos) (found : Option SpannedView) → state_of s ≡ l → l.state.expr_allowed ≡ true → next ≡ state_behind l (reading_of l)
-    → Some p ≡ slash_answered next → asked ≡ state_rereading (Some p) next → found ≡ (reading_of asked).found → now ≡ state_behind asked (reading_of asked) → done ≡ state_rereading None now
-    → ReadsByFlag s found done × (true ≡ meets_expression s)
-lexer-twice s l next asked now done p found at allowed moved told sets finds again withdrawn =
-    let flag : s.expr_allowed ≡ true = ap (λ x. x.state.expr_allowed) at ∙ allowed in
-    let behind = lexer-behind s l next at moved in
-    (read-twice s found next asked now done p flag behind told sets finds again withdrawn, sym (meets-slash s next p flag behind told))
+-- no slash was answered
+pub lexer-no-slash : (rule : SlashRule) (s : Session) (l next : LexerState) (found : Option SpannedView) → state_of s ≡ l → found ≡ (reading_of l).found → next ≡ state_behind l (reading_of l) → None ≡ slash_answered next
+    → ReadsBy rule s found next × (false ≡ meets_expression rule s)
+lexer-no-slash rule s l next found at finds moved none =
+    lexer-once rule s l next found at finds moved (meets-no-slash rule s next (lexer-behind s l next at moved) none)
+
+-- a slash was answered, and whether it begins an expression was asked with the flag that stood before it
+pub lexer-meets : (rule : SlashRule) (s : Session) (l next : LexerState) (p : BytePos) (b : Bool) → state_of s ≡ l → next ≡ state_behind l (reading_of l) → Some p ≡ slash_answered next → b ≡ names rule l.state.expr_allowed p
+    → meets_expression rule s ≡ b
+lexer-meets rule s l next p b at moved told asked =
+    meets-slash rule s next p (lexer-behind s l next at moved) told ∙ ap (λ x. names rule x.state.expr_allowed p) at ∙ sym asked
+
+pub lexer-not-named : (rule : SlashRule) (s : Session) (l next : LexerState) (p : BytePos) (found : Option SpannedView) → state_of s ≡ l → found ≡ (reading_of l).found → next ≡ state_behind l (reading_of l)
+    → Some p ≡ slash_answered next → false ≡ names rule l.state.expr_allowed p → ReadsBy rule s found next × (false ≡ meets_expression rule s)
+lexer-not-named rule s l next p found at finds moved told asked =
+    lexer-once rule s l next found at finds moved (lexer-meets rule s l next p false at moved told asked)
+
+pub lexer-twice : (rule : SlashRule) (s : Session) (l next asked now done : LexerState) (p : BytePos) (found : Option SpannedView) → state_of s ≡ l → true ≡ names rule l.state.expr_allowed p
+    → next ≡ state_behind l (reading_of l) → Some p ≡ slash_answered next → asked ≡ state_rereading (Some p) next → found ≡ (reading_of asked).found → now ≡ state_behind asked (reading_of asked)
+    → done ≡ state_rereading None now → ReadsBy rule s found done × (true ≡ meets_expression rule s)
+lexer-twice rule s l next asked now done p found at named moved told sets finds again withdrawn =
+    let meets = lexer-meets rule s l next p true at moved told named in
+    (read-twice rule s found next asked now done p meets (lexer-behind s l next at moved) told sets finds again withdrawn, sym meets)
