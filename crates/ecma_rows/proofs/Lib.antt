@@ -1,0 +1,5 @@
+pub mod TokenViews
+pub mod RoomLemmas
+pub mod Telling
+pub mod FewTokens
+pub mod Judging

@@ -1,0 +1,160 @@
+-- A loop that tells of tokens while it reads.
+use Rattle.std.proofs.Common.{◌≡◌, ◌∙◌, ◌+◌, Bool, true, false, List, [], ◌∷◌, ◌++◌, append-nil, cond, Option, Some, None, length, drop, map, reverse, refl, sym, subst, ap, arith}
+use Rattle.std.specs.Prelude.{is_some, option_map}
+use Rattle.std.proofs.lemmas.List.{length-append}
+use Rattle.std.proofs.lemmas.List.Sums.{fold-append, sum_by-append}
+use Rattle.std.proofs.lemmas.Grind.{reverse_onto}
+use Rattle.ecma_place.specs.declared.place.BytePos.{BytePos}
+use Rattle.ecma_token.specs.View.{SpannedView}
+use Rattle.ecma_state.specs.Run.{act_all, act_on, given_in, reading_of, reread_from}
+use Rattle.ecma_state.specs.Session.{LexerState, Past, Session, kept_back, seen_of, state_of}
+use Rattle.ecma_state.specs.State.{last_slash}
+use Rattle.ecma_state.specs.declared.step.Step.{Step}
+use Rattle.ecma_state.specs.declared.step.Step.TheVariants.{Read}
+use Rattle.ecma_slashes.specs.Rereads.{SlashRule, StepsOn, behind_by, found_by, is_reread, last_read, meets_expression, read_steps, rereads, steps_by, steps_to_end_by}
+use Rattle.ecma_slashes.proofs.RunLemmas.{SoFar, so-far-end, so-far-next, so-far-start}
+use Rattle.ecma_slashes.proofs.TokenLemmas.{met-slash}
+use Rattle.ecma_rows.specs.Asked.{read_out}
+use Rattle.ecma_rows.specs.Rows.{token_row, token_rows}
+use Rattle.ecma_rows.specs.Tally.{IsTallied, ReadsRow, TellsOn, one_if, rows_of}
+use Rattle.ecma_rows.specs.Told.{written}
+use Rattle.ecma_rows.specs.declared.tally.ReadRow.{ReadRow}
+use Rattle.ecma_rows.specs.declared.tally.Tally.{Tally}
+use Rattle.ecma_rows.specs.declared.tokens.TokenRow.{TokenRow}
+
+-- What is kept of one token
+
+abbrev kept_with : Option SpannedView → List SpannedView → List SpannedView
+kept_with None ts = ts
+kept_with (Some t) ts = t ∷ ts
+
+-- a read that reads nothing again keeps what it finds
+keeps-first : (again flag : Bool) (found : Option SpannedView) (past : Past) → again ≡ false → kept_back (given_in again flag found ∷ past) ≡ kept_with found (kept_back past)
+keeps-first again flag None past e = refl
+keeps-first true flag (Some t) past e = cc
+keeps-first false flag (Some t) past e = refl
+
+plain-none : (o : Option BytePos) → o ≡ None → is_some o ≡ false
+plain-none o e = ap is_some e
+
+-- behind a slash, that one stood there is forgotten
+keeps-slash : (again flag : Bool) (found : Option SpannedView) (past : Past) (p : BytePos) → again ≡ false → last_slash (seen_of (given_in again flag found ∷ past)) ≡ Some p
+    → drop 1 (kept_back (given_in again flag found ∷ past)) ≡ kept_back past
+keeps-slash again flag None past p e slash = cc
+keeps-slash true flag (Some t) past p e slash = cc
+keeps-slash false flag (Some t) past p e slash = refl
+
+pub kept-by : (rule : SlashRule) (s : Session) → s.reread ≡ None → kept_back (behind_by rule s).past ≡ kept_with (found_by rule s) (kept_back s.past)
+kept-by rule s plain = go (meets_expression rule s) refl
+  where
+    once : Session
+    once = act_on s Read
+
+    twice : (o : Option BytePos) → last_slash (seen_of once.past) ≡ o → is_some o ≡ true
+        → kept_back (act_on (reread_from once o).after Read).past ≡ kept_with (reading_of (state_of (reread_from once o).after)).found (kept_back s.past)
+    twice None e h = cc
+    twice (Some p) e h =
+        let before = keeps-slash (is_some s.reread) (reading_of (state_of s)).end_flag (reading_of (state_of s)).found s.past p (plain-none s.reread plain) e in
+        ap (kept_with (reading_of (state_of (record once { reread = Some p }))).found) before
+
+    go : (b : Bool) → meets_expression rule s ≡ b → kept_back (act_all s (read_steps b)).past ≡ kept_with (reading_of (state_of (last_read b s))).found (kept_back s.past)
+    go false e = keeps-first (is_some s.reread) (reading_of (state_of s)).end_flag (reading_of (state_of s)).found s.past (plain-none s.reread plain)
+    go true e = twice (last_slash (seen_of once.past)) refl (met-slash rule s e)
+
+-- Rows
+
+map-append : {A B : Type 0} → (f : A → B) (xs ys : List A) → map f (xs ++ ys) ≡ map f xs ++ map f ys
+map-append f [] ys = refl
+map-append f (x ∷ xs) ys = ap (λ more. f x ∷ more) (map-append f xs ys)
+
+rows-with : (found : Option SpannedView) (ts : List SpannedView) → map token_row (reverse (kept_with found ts)) ≡ map token_row (reverse ts) ++ rows_of (option_map token_row found)
+rows-with None ts = sym (append-nil (map token_row (reverse ts)))
+rows-with (Some t) ts = ap (map token_row) (reverse_onto ts t []) ∙ map-append token_row (reverse ts) (t ∷ [])
+
+pub rows-behind : (rule : SlashRule) (s : Session) → s.reread ≡ None → token_rows (behind_by rule s) ≡ token_rows s ++ rows_of (option_map token_row (found_by rule s))
+rows-behind rule s plain = ap (λ ts. map token_row (reverse ts)) (kept-by rule s plain) ∙ rows-with (found_by rule s) (kept_back s.past)
+
+-- Counts
+
+count-append : (a b : List Step) → rereads (a ++ b) ≡ rereads a + rereads b
+count-append a b = sum_by-append (λ step. cond (is_reread step) 1 0) a b
+
+counts-one : (b : Bool) → rereads (read_steps b) ≡ one_if b
+counts-one true = refl
+counts-one false = refl
+
+rows-length : (rows : List TokenRow) (o : Option TokenRow) → length (rows ++ rows_of o) ≡ length rows + one_if (is_some o)
+rows-length rows None = ap length (append-nil rows) ∙ (let same : length rows ≡ length rows + 0 = omega arith in same)
+rows-length rows (Some row) = length-append rows (row ∷ [])
+
+some-map : {A B : Type 0} → (f : A → B) (o : Option A) → is_some (option_map f o) ≡ is_some o
+some-map f None = refl
+some-map f (Some x) = refl
+
+-- one more token was told of
+pub tells-on : (rule : SlashRule) (s : Session) (steps : List Step) (before old new : List TokenRow) (was tally : Tally) (read : ReadRow) (more : Bool) (l : LexerState)
+    → s.reread ≡ None → IsTallied steps s before old was → ReadsRow rule s read l → more ≡ is_some read.row
+    → tally.tokens ≡ was.tokens + one_if (is_some read.row) → tally.rereads ≡ was.rereads + one_if read.again
+    → ((rows : List TokenRow) (room : List TokenRow) → was.tokens ≡ length rows → old ≡ written rows room → new ≡ written (rows ++ rows_of read.row) room)
+    → TellsOn rule s steps before new tally more l
+tells-on rule s steps before old new was tally read more l plain so reads told tokens counted writes =
+    let rows : token_rows (behind_by rule s) ≡ token_rows s ++ rows_of read.row = rows-behind rule s plain ∙ ap (λ o. token_rows s ++ rows_of o) (sym reads.finds) in
+    record {
+      told = told ∙ ap is_some reads.finds ∙ some-map token_row (found_by rule s);
+      after = reads.after;
+      tallied =
+          record {
+            tokens = tokens ∙ ap (λ n. n + one_if (is_some read.row)) so.tokens ∙ sym (rows-length (token_rows s) read.row) ∙ ap length (sym rows);
+            rereads = counted ∙ ap (λ n. n + one_if read.again) so.rereads ∙ ap (λ b. rereads steps + one_if b) reads.twice
+                ∙ ap (λ n. rereads steps + n) (sym (counts-one (meets_expression rule s))) ∙ sym (count-append steps (steps_by rule s));
+            rows = writes (token_rows s) before so.tokens so.rows ∙ ap (λ rows. written rows before) (sym rows);
+          };
+    }
+
+-- The loop
+
+-- so many tokens were told of behind a session, and a lexer shows where that led
+pub record Going (rule : SlashRule) (begun : Session) (before room : List TokenRow) (tally : Tally) (l : LexerState) : Type 0 where
+  pub steps : List Step
+  pub so : SoFar rule begun [] steps l
+  pub tallied : IsTallied steps so.here before room tally
+
+-- the session is where the steps lead
+at-steps : (rule : SlashRule) (begun : Session) (steps : List Step) (l : LexerState) (so : SoFar rule begun [] steps l) → so.here ≡ act_all begun steps
+at-steps rule begun steps l so = so.there ∙ ap (act_all begun) (sym so.behind)
+
+pub going-start : (rule : SlashRule) (s : Session) (before : List TokenRow) (tally : Tally) (l : LexerState) → l ≡ state_of s → s.reread ≡ None → s.past ≡ [] → tally.tokens ≡ 0 → tally.rereads ≡ 0
+    → Going rule s before before tally l
+going-start rule s before tally l at plain none tokens counted =
+    let so = so-far-start rule s [] l at plain in
+    let rows : token_rows s ≡ [] = ap (λ past. map token_row (reverse (kept_back past))) none in
+    let tallied : IsTallied [] s before before tally = record { tokens = tokens ∙ sym (ap length rows); rereads = counted; rows = sym (ap (λ r. written r before) rows) } in
+    record { steps = []; so = so; tallied = subst (λ x. IsTallied [] x before before tally) (sym (at-steps rule s [] l so)) tallied }
+
+-- by the steps that were added
+steps-on : (rule : SlashRule) (s : Session) (steps : List Step) (before room : List TokenRow) (tally : Tally) (more : Bool) (l : LexerState) → TellsOn rule s steps before room tally more l
+    → StepsOn rule s steps (steps ++ steps_by rule s) more l
+steps-on rule s steps before room tally more l on = record { adds = refl; told = on.told; after = on.after }
+
+-- and so behind one more token
+led : (rule : SlashRule) (s : Session) (steps : List Step) (l : LexerState) (so : SoFar rule s [] steps l) → behind_by rule so.here ≡ act_all s (steps ++ steps_by rule so.here)
+led rule s steps l so = ap (λ x. act_all x (steps_by rule so.here)) (at-steps rule s steps l so) ∙ sym (fold-append act_on s steps (steps_by rule so.here))
+
+pub going-next : (rule : SlashRule) (s : Session) (before old room : List TokenRow) (was tally : Tally) (l next : LexerState) (go : Going rule s before old was l)
+    → TellsOn rule go.so.here go.steps before room tally true next → Going rule s before room tally next
+going-next rule s before old room was tally l next go on =
+    let here = go.so.here in
+    let steps : List Step = go.steps ++ steps_by rule here in
+    let so = so-far-next rule s [] go.steps steps l next go.so (steps-on rule here go.steps before room tally true next on) in
+    record { steps = steps; so = so; tallied = subst (λ x. IsTallied steps x before room tally) (sym (at-steps rule s steps next so ∙ sym (led rule s go.steps l go.so))) on.tallied }
+
+-- behind the read that answers the end all tokens were told of, and the lexer shows where that led
+pub going-end : (rule : SlashRule) (s : Session) (before old room : List TokenRow) (was tally : Tally) (l next : LexerState) (go : Going rule s before old was l)
+    → TellsOn rule go.so.here go.steps before room tally false next
+    → IsTallied (steps_to_end_by rule s) (read_out rule s) before room tally × (next ≡ state_of (read_out rule s))
+going-end rule s before old room was tally l next go on =
+    let here = go.so.here in
+    let all = so-far-end rule s [] go.steps (go.steps ++ steps_by rule here) l next go.so (steps-on rule here go.steps before room tally false next on) in
+    let steps : go.steps ++ steps_by rule here ≡ steps_to_end_by rule s = all.0 in
+    let out : behind_by rule here ≡ read_out rule s = led rule s go.steps l go.so ∙ ap (act_all s) steps in
+    (subst (λ x. IsTallied (steps_to_end_by rule s) x before room tally) out (subst (λ x. IsTallied x (behind_by rule here) before room tally) steps on.tallied), all.1)

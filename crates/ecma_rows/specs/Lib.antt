@@ -1,0 +1,4 @@
+pub mod Asked
+pub mod Rows
+pub mod Tally
+pub mod Told

@@ -1,0 +1,122 @@
+//! Whether a text can be read as it is asked for.
+ghost use Rattle.std.specs.Prelude.{◌≡◌, ◌<◌, ◌^◌, List, None, Ok, Err, Some, true, length, map, IfOk, IfSome, MatchResult};
+ghost use Rattle.std.specs.Str.{IsUtf8};
+ghost use Rattle.ecma_state.specs.declared.step.Step.{Step};
+ghost use Rattle.ecma_slashes.specs.Rereads.{is_in_order, rereads, rule_of};
+ghost use Rattle.ecma_rows.specs.Asked as asked;
+ghost use Rattle.ecma_rows.specs.Asked.{asked_view, judged, place_at};
+ghost use Rattle.ecma_rows.specs.Told.{are_met};
+
+use crate::outcome::Status;
+use crate::reading::Options;
+use ecma_place::BytePos;
+use ecma_slashes::{Slashes, ascend};
+use std::alloc::{AllocError, Global};
+
+/// The longest text whose places all have a number.
+const LONGEST: usize = 4_294_967_295;
+
+/// A text, and how it is read.
+#[derive(Clone, Copy)]
+pub(crate) struct Asked<'a> {
+    pub(crate) options: Options,
+    pub(crate) slashes: Slashes<'a>,
+    pub(crate) text: &'a str,
+}
+
+impl<'a> Asked<'a> {
+    /// Whether each place that was named is that of a slash, where so many slashes were read again.
+    pub(crate) fn is_met(self, count: usize) -> bool
+        ensures { (steps : List Step) → count ≡ rereads steps → result ≡ are_met (rule_of self.entry.slashes) steps }
+    {
+        match self.slashes {
+            Slashes::ByFlag => true,
+            Slashes::At(places) => count == places.len(),
+        }
+    }
+}
+
+/// These numbers as places.
+pub(crate) fn places(alloc: Global, numbers: &[u32]) -> Result<Vec<BytePos>, AllocError>
+    ensures { IfOk result (λ v. v.items ≡ map place_at numbers.now) }
+{
+    let mut places = Vec::new(alloc);
+    for number in numbers {
+        places.push(BytePos(*number))?;
+    }
+    Ok(places)
+}
+
+/// Which slashes are read again: those that the flag tells, where it is to tell and no places are given, or those at places
+/// that ascend.
+fn slashes_asked<'a>(options: Options, places: &'a [BytePos]) -> Option<Slashes<'a>>
+    ensures rule { IfSome result (λ slashes. asked.rule_asked options places.now ≡ Some (rule_of slashes)) }
+    ensures none { result ≡ None → asked.rule_asked options places.now ≡ None }
+    ensures in_order { IfSome result (λ slashes. is_in_order (rule_of slashes) ≡ true) }
+{
+    if options.by_flag {
+        return if places.is_empty() {
+            Some(Slashes::ByFlag)
+        } else {
+            None
+        };
+    }
+    if ascend(places) {
+        Some(Slashes::At(places))
+    } else {
+        None
+    }
+}
+
+/// Judges whether the bytes are UTF-8, then their number.
+#[tactic(auto, using(crate::proofs::Judging::not_utf8, crate::proofs::Judging::too_long, crate::proofs::Judging::whole_text))]
+fn judge_text<'a>(
+    options: Options,
+    slashes: Slashes<'a>,
+    text: &'a [u8],
+) -> Result<Asked<'a>, Status>
+    ensures judged { MatchResult result
+        (λ asked. asked.judged_text options (rule_of slashes.entry) text.now ≡ Ok (asked_view asked))
+        (λ status. asked.judged_text options (rule_of slashes.entry) text.now ≡ Err status) }
+    ensures short { IfOk result (λ asked. length asked.text.now < 2 ^ 32) }
+    ensures is_text { IfOk result (λ asked. IsUtf8 asked.text.now) }
+    ensures same { IfOk result (λ asked. rule_of asked.slashes ≡ rule_of slashes.entry) }
+{
+    let Ok(text) = str::from_utf8(text) else {
+        return Err(Status::NotUtf8);
+    };
+    if text.len() > LONGEST {
+        return Err(Status::TooLong);
+    }
+    Ok(Asked {
+        options,
+        slashes,
+        text,
+    })
+}
+
+/// Judges the options and the places, then whether the bytes are UTF-8, then their number.
+///
+/// # Errors
+///
+/// `Refused`, `NotUtf8`, `TooLong`, in this order.
+pub(crate) fn judge<'a>(
+    text: &'a [u8],
+    bits: u32,
+    places: &'a [BytePos],
+) -> Result<Asked<'a>, Status>
+    ensures judged { MatchResult result
+        (λ asked. judged bits places.now text.now ≡ Ok (asked_view asked))
+        (λ status. judged bits places.now text.now ≡ Err status) }
+    ensures short { IfOk result (λ asked. length asked.text.now < 2 ^ 32) }
+    ensures is_text { IfOk result (λ asked. IsUtf8 asked.text.now) }
+    ensures in_order { IfOk result (λ asked. is_in_order (rule_of asked.slashes) ≡ true) }
+{
+    let Some(options) = Options::of_bits(bits) else {
+        return Err(Status::Refused);
+    };
+    let Some(slashes) = slashes_asked(options, places) else {
+        return Err(Status::Refused);
+    };
+    judge_text(options, slashes, text)
+}

@@ -1,0 +1,131 @@
+//! Rows of tokens.
+ghost use Rattle.std.specs.Prelude.{◌≡◌, false, map, IfOk};
+ghost use Rattle.ecma_token.specs.View.{spanned_view};
+ghost use Rattle.ecma_rows.specs.Asked.{judged, place_at};
+ghost use Rattle.ecma_rows.specs.Rows as rows;
+ghost use Rattle.ecma_rows.specs.Rows.{token_rows};
+ghost use Rattle.ecma_rows.specs.Told.{IsTold, count_of, told_by};
+
+use crate::begin::begin;
+use crate::outcome::Answer;
+use crate::request::{judge, places};
+use crate::tally::tell_all;
+use ecma_kinds::kind_number;
+use ecma_place::Span;
+use ecma_syntax::Word;
+use ecma_token::{Token, TokenAndSpan};
+use std::alloc::{AllocError, Global};
+
+/// A token: where it begins and ends, in bytes from the text's start, the number of its kind
+/// ([`kind_number`](ecma_kinds::kind_number)), and flags: 1 where a line terminator stands before it, 2 where its value is not
+/// its spelling (a word, string, template text or regular expression's flags with an escape, a line continuation, a carriage
+/// return in a template, a number with separators, template text that means nothing).
+#[repr(C)]
+#[derive(Clone, Copy, Debug, PartialEq, Eq)]
+pub struct TokenRow {
+    pub lo: u32,
+    pub hi: u32,
+    pub kind: u16,
+    pub flags: u16,
+}
+
+fn is_word_respelled(word: &Word, span: Span) -> bool
+    ensures { result ≡ rows.is_word_respelled word.now span }
+{
+    word.as_str().len() != span.hi.0.saturating_sub(span.lo.0) as usize
+}
+
+fn is_respelled(token: &Token, span: Span) -> bool
+    ensures { result ≡ rows.is_respelled token.now span }
+{
+    match token {
+        Token::Word(word) => is_word_respelled(word, span),
+        Token::Template {
+            cooked: Ok(cooked),
+            ..
+        } => !cooked.is_borrowed(),
+        Token::Template { .. } => true,
+        Token::Str { value, .. } | Token::JSXText { value, .. } => !value.is_borrowed(),
+        Token::Regex(_, flags) => !flags.is_borrowed(),
+        Token::Num { digits, .. } | Token::BigInt { digits, .. } => !digits.is_borrowed(),
+        _ => false,
+    }
+}
+
+fn flags(has_line_break: bool, is_respelled: bool) -> u16
+    ensures { result ≡ rows.token_flags has_line_break is_respelled }
+{
+    let first = if has_line_break { 1 } else { 0 };
+    let second = if is_respelled { 2 } else { 0 };
+    first + second
+}
+
+/// The row of a token.
+#[tactic(auto, using(ecma_token::proofs::KindLemmas::kind_of_token_view, crate::proofs::TokenViews::respelled_view))]
+pub(crate) fn token_row(token: &TokenAndSpan) -> TokenRow
+    ensures { result ≡ rows.token_row (spanned_view token.now) }
+{
+    TokenRow {
+        lo: token.span.lo.0,
+        hi: token.span.hi.0,
+        kind: kind_number(token.token.kind()),
+        flags: flags(token.had_line_break, is_respelled(&token.token, token.span)),
+    }
+}
+
+/// Writes a row for each token of a text to the room, in order, as many as fit.
+///
+/// `bits` is a sum of options ([`Options::of_bits`](crate::Options::of_bits)); `slashes` are the places, each behind the one
+/// before it, of `/` and `/=` that begin regular expressions, none where the flag is to tell. The answer is `Done`, or
+/// `NoRoom` where there are more tokens than room; its count is the number of tokens. What lies behind the rows is as
+/// before. Nothing is told, and the room is as before, where the answer is `Refused`, `NotUtf8` or `TooLong`, judged in
+/// this order; where it is `NoSlash` the place that is not that of a slash changed nothing. Our own.
+///
+/// # Errors
+///
+/// `AllocError` where there is no memory: some rows may have been written.
+pub fn tell_tokens(
+    alloc: Global,
+    text: &[u8],
+    bits: u32,
+    slashes: &[u32],
+    out: &mut [TokenRow],
+) -> Result<Answer, AllocError>
+    ensures { IfOk result (IsTold (told_by false token_rows (judged bits (map place_at slashes.now) text.now)) out.old out.new) }
+{
+    let places = places(alloc, slashes)?;
+    let asked = match judge(text, bits, &places) {
+        Ok(asked) => asked,
+        Err(status) => return Ok(Answer::of_status(status)),
+    };
+    let mut lexer = begin(alloc, false, asked)?;
+    let tally = tell_all(&mut lexer, asked.slashes, out)?;
+    let is_met = asked.is_met(tally.rereads);
+    let fits = tally.tokens <= out.len();
+    Ok(Answer::of_count(is_met, fits, tally.tokens))
+}
+
+/// How many tokens a text has, judged and read as by [`tell_tokens`]: the answer's status is `Done`, `Refused`, `NotUtf8`,
+/// `TooLong` or `NoSlash`. Our own.
+///
+/// # Errors
+///
+/// `AllocError` where there is no memory.
+pub fn count_tokens(
+    alloc: Global,
+    text: &[u8],
+    bits: u32,
+    slashes: &[u32],
+) -> Result<Answer, AllocError>
+    ensures { IfOk result (λ answer. answer ≡ count_of (told_by false token_rows (judged bits (map place_at slashes.now) text.now))) }
+{
+    let places = places(alloc, slashes)?;
+    let asked = match judge(text, bits, &places) {
+        Ok(asked) => asked,
+        Err(status) => return Ok(Answer::of_status(status)),
+    };
+    let mut lexer = begin(alloc, false, asked)?;
+    let tally = tell_all(&mut lexer, asked.slashes, &mut [])?;
+    let is_met = asked.is_met(tally.rereads);
+    Ok(Answer::of_count(is_met, true, tally.tokens))
+}
