@@ -3,11 +3,12 @@ use Rattle.std.specs.Prelude.{ℕ, ◌/◌, ◌%◌, ◌==◌, Bool, false, List
 use Rattle.std.specs.Str.{chars, is_utf8}
 use Rattle.ecma_place.specs.Cursor.{Cursor}
 use Rattle.ecma_place.specs.declared.place.BytePos.{BytePos}
+use Rattle.ecma_syntax.specs.Defaults.{no_context}
 use Rattle.ecma_syntax.specs.Defaults as default_of
 use Rattle.ecma_syntax.specs.declared.context.Context.{Context}
 use Rattle.ecma_syntax.specs.declared.settings.Syntax.{Syntax}
 use Rattle.ecma_syntax.specs.declared.settings.Syntax.TheVariants.{Typescript}
-use Rattle.ecma_state.specs.Run.{act_all, no_context}
+use Rattle.ecma_state.specs.Run.{act_all}
 use Rattle.ecma_state.specs.Session.{Session}
 use Rattle.ecma_state.specs.declared.settings.Settings.{Settings}
 use Rattle.ecma_slashes.specs.Rereads.{SlashRule, at_places, by_flag, ascend, entered, rule_of, steps_to_end_by}
