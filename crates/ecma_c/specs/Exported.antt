@@ -1,0 +1,31 @@
+-- What C is answered.
+use Rattle.std.specs.Prelude.{◌≡◌, ◌⊎◌, List, Result, Ok, Err}
+use Rattle.ecma_rows.specs.Told.{IsTold, Told, count_of, status_number}
+use Rattle.std.specs.declared.alloc.AllocError.{AllocError}
+use Rattle.ecma_rows.specs.declared.outcome.Answer.{Answer}
+use Rattle.ecma_c.specs.declared.EcmaAnswer.{EcmaAnswer}
+
+-- an answer with its status as a number
+abbrev pub exported : Answer → EcmaAnswer
+exported answer = record { count = answer.count; status = status_number answer.status }
+
+-- there was no memory
+abbrev pub no_memory : EcmaAnswer
+no_memory = record { count = 0; status = 5 }
+
+abbrev pub exported_or_none : Result Answer AllocError → EcmaAnswer
+exported_or_none (Ok answer) = exported answer
+exported_or_none (Err e) = no_memory
+
+-- the answer is that of what is to be told, and the room is filled
+pub record IsExported {R : Type 0} (told : Told R) (old new : List R) (answer : EcmaAnswer) : Type 0 where
+  pub plain : Answer
+  pub is : answer ≡ exported plain
+  pub tells : IsTold told old new plain
+
+-- unless there was no memory
+abbrev pub Tells : {R : Type 0} → Told R → List R → List R → EcmaAnswer → Type 0
+Tells told old new answer = (answer ≡ no_memory) ⊎ IsExported told old new answer
+
+abbrev pub Counts : {R : Type 0} → Told R → EcmaAnswer → Type 0
+Counts told answer = (answer ≡ no_memory) ⊎ (answer ≡ exported (count_of told))

@@ -1,0 +1,83 @@
+//! The lexer for C and Rust: a static library. The caller owns all memory, and nothing is kept between calls.
+#![tactic(auto)]
+
+ghost use Rattle.std.specs.Prelude.{◌≡◌, false, map, true};
+ghost use Rattle.ecma_rows.specs.Asked.{judged, place_at};
+ghost use Rattle.ecma_rows.specs.Rows.{comment_rows, token_rows};
+ghost use Rattle.ecma_rows.specs.Told.{told_by};
+ghost use Rattle.ecma_c.specs.Exported.{Counts, Tells, exported, exported_or_none};
+
+use ecma_rows::{Answer, CommentRow, Status, TokenRow, count_tokens, tell_comments, tell_tokens};
+use std::alloc::{AllocError, Global};
+
+/// What a call came to: the number of its status ([`Status::number`]), and how many rows there are to tell.
+#[repr(C)]
+#[derive(Clone, Copy, Debug, PartialEq, Eq)]
+pub struct EcmaAnswer {
+    pub count: usize,
+    pub status: u32,
+}
+
+impl EcmaAnswer {
+    fn of(answer: Answer) -> EcmaAnswer
+        ensures { result ≡ exported answer }
+    {
+        EcmaAnswer {
+            count: answer.count,
+            status: answer.status.number(),
+        }
+    }
+
+    fn of_told(told: Result<Answer, AllocError>) -> EcmaAnswer
+        ensures { result ≡ exported_or_none told }
+    {
+        match told {
+            Ok(answer) => EcmaAnswer::of(answer),
+            Err(_) => EcmaAnswer {
+                count: 0,
+                status: Status::OutOfMemory.number(),
+            },
+        }
+    }
+}
+
+/// How many tokens a text has ([`count_tokens`]); status 5 where there is no memory.
+#[unsafe(no_mangle)]
+pub extern "C" fn ecma_count(
+    alloc: Global,
+    text: &[u8],
+    options: u32,
+    slashes: &[u32],
+) -> EcmaAnswer
+    ensures { Counts (told_by false token_rows (judged options (map place_at slashes.now) text.now)) result }
+{
+    EcmaAnswer::of_told(count_tokens(alloc, text, options, slashes))
+}
+
+/// Writes a row for each token to `out` ([`tell_tokens`]); status 5 where there is no memory.
+#[unsafe(no_mangle)]
+pub extern "C" fn ecma_tokens(
+    alloc: Global,
+    text: &[u8],
+    options: u32,
+    slashes: &[u32],
+    out: &mut [TokenRow],
+) -> EcmaAnswer
+    ensures { Tells (told_by false token_rows (judged options (map place_at slashes.now) text.now)) out.old out.new result }
+{
+    EcmaAnswer::of_told(tell_tokens(alloc, text, options, slashes, out))
+}
+
+/// Writes a row for each comment to `out` ([`tell_comments`]); status 5 where there is no memory.
+#[unsafe(no_mangle)]
+pub extern "C" fn ecma_comments(
+    alloc: Global,
+    text: &[u8],
+    options: u32,
+    slashes: &[u32],
+    out: &mut [CommentRow],
+) -> EcmaAnswer
+    ensures { Tells (told_by true comment_rows (judged options (map place_at slashes.now) text.now)) out.old out.new result }
+{
+    EcmaAnswer::of_told(tell_comments(alloc, text, options, slashes, out))
+}

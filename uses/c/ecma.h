@@ -1,0 +1,94 @@
+/* The lexer for C: libecma_c.a. The caller owns all memory, and nothing is kept between calls. docs/C.md has the calls. */
+#ifndef ECMA_H
+#define ECMA_H
+#include "ecma_kinds.h"
+#include <stddef.h>
+#include <stdint.h>
+
+#ifdef __cplusplus
+extern "C" {
+#define ECMA_ASSERT(holds) static_assert(holds, #holds)
+#else
+#define ECMA_ASSERT(holds) _Static_assert(holds, #holds)
+#endif
+
+/* How a text is read: a sum of these. */
+enum ecma_option {
+    ECMA_TYPESCRIPT = 1,
+    ECMA_MODULE = 2,
+    ECMA_STRICT = 4,
+    /* Whether a slash begins a regular expression is told by the lexer's own flag; no places are given then. */
+    ECMA_SLASHES_BY_FLAG = 8
+};
+
+/* What a call came to. */
+enum ecma_status {
+    ECMA_DONE = 0,
+    ECMA_NO_SLASH = 2,
+    ECMA_NOT_UTF8 = 3,
+    ECMA_NOT_CLEAN = 4,
+    ECMA_OUT_OF_MEMORY = 5,
+    ECMA_NO_ROOM = 6,
+    ECMA_REFUSED = 7,
+    ECMA_TOO_LONG = 8
+};
+
+/* Flags of tokens. */
+enum ecma_token_flag {
+    /* A line terminator, or nothing, stands before the token. */
+    ECMA_LINE_BREAK_BEFORE = 1,
+    /* The value of the token is not its spelling. */
+    ECMA_RESPELLED = 2
+};
+
+/* Flags of comments. */
+enum ecma_comment_flag {
+    ECMA_BLOCK = 1,
+    ECMA_TRAILING = 2
+};
+
+/* A token: where it begins and ends, in bytes from the text's start, its kind (ecma_kinds.h), and its flags. */
+struct ecma_token {
+    uint32_t lo;
+    uint32_t hi;
+    uint16_t kind;
+    uint16_t flags;
+};
+
+/* A comment: where the token begins that it leads, or ends that it trails; where it begins and ends; where what it says begins
+   and ends; and its flags. */
+struct ecma_comment {
+    uint32_t pos;
+    uint32_t lo;
+    uint32_t hi;
+    uint32_t text_lo;
+    uint32_t text_hi;
+    uint32_t flags;
+};
+
+/* How many rows there are, also where there was no room for all of them, and the status. */
+struct ecma_answer {
+    size_t count;
+    uint32_t status;
+};
+
+ECMA_ASSERT(sizeof(struct ecma_token) == 12);
+ECMA_ASSERT(sizeof(struct ecma_comment) == 24);
+ECMA_ASSERT(sizeof(struct ecma_answer) == 16);
+
+/* `text` has text_len bytes; `slashes` has slashes_len places, each behind the one before it, of slashes that begin regular
+   expressions. A pointer to nothing, with the length 0, may be any that is aligned and not null. */
+
+struct ecma_answer ecma_count(const uint8_t *text, size_t text_len, uint32_t options, const uint32_t *slashes,
+                              size_t slashes_len);
+
+struct ecma_answer ecma_tokens(const uint8_t *text, size_t text_len, uint32_t options, const uint32_t *slashes,
+                               size_t slashes_len, struct ecma_token *out, size_t out_len);
+
+struct ecma_answer ecma_comments(const uint8_t *text, size_t text_len, uint32_t options, const uint32_t *slashes,
+                                 size_t slashes_len, struct ecma_comment *out, size_t out_len);
+
+#ifdef __cplusplus
+}
+#endif
+#endif

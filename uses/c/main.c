@@ -1,0 +1,70 @@
+/* Tells of the tokens or comments of a file: ecma_rows tokens|comments FILE OPTIONS [PLACE..]. A line has the numbers of a row;
+   the last line has the status and the count. It asks for the number of tokens first, and gives room for as many rows. */
+#include "ecma.h"
+#include <stdio.h>
+#include <stdlib.h>
+#include <string.h>
+
+static uint8_t *read_file(const char *path, size_t *len) {
+    FILE *file = fopen(path, "rb");
+    if (!file || fseek(file, 0, SEEK_END) != 0) {
+        perror(path);
+        exit(1);
+    }
+    long size = ftell(file);
+    rewind(file);
+    uint8_t *bytes = (uint8_t *)malloc((size_t)size + 1);
+    if (!bytes) {
+        exit(1);
+    }
+    *len = fread(bytes, 1, (size_t)size, file);
+    fclose(file);
+    return bytes;
+}
+
+static struct ecma_answer tell_tokens(const uint8_t *text, size_t len, uint32_t options, const uint32_t *slashes,
+                                      size_t slashes_len) {
+    struct ecma_answer counted = ecma_count(text, len, options, slashes, slashes_len);
+    struct ecma_token *rows = (struct ecma_token *)calloc(counted.count + 1, sizeof *rows);
+    struct ecma_answer told = ecma_tokens(text, len, options, slashes, slashes_len, rows, counted.count);
+    for (size_t i = 0; i < told.count; i++) {
+        printf("%u %u %u %u\n", (unsigned)rows[i].lo, (unsigned)rows[i].hi, (unsigned)rows[i].kind, (unsigned)rows[i].flags);
+    }
+    free(rows);
+    return told;
+}
+
+static struct ecma_answer tell_comments(const uint8_t *text, size_t len, uint32_t options, const uint32_t *slashes,
+                                        size_t slashes_len) {
+    struct ecma_comment none;
+    struct ecma_answer counted = ecma_comments(text, len, options, slashes, slashes_len, &none, 0);
+    struct ecma_comment *rows = (struct ecma_comment *)calloc(counted.count + 1, sizeof *rows);
+    struct ecma_answer told = ecma_comments(text, len, options, slashes, slashes_len, rows, counted.count);
+    for (size_t i = 0; i < told.count; i++) {
+        printf("%u %u %u %u %u %u\n", (unsigned)rows[i].pos, (unsigned)rows[i].lo, (unsigned)rows[i].hi,
+               (unsigned)rows[i].text_lo, (unsigned)rows[i].text_hi, (unsigned)rows[i].flags);
+    }
+    free(rows);
+    return told;
+}
+
+int main(int argc, char **argv) {
+    if (argc < 4) {
+        fprintf(stderr, "%s tokens|comments FILE OPTIONS [PLACE..]\n", argv[0]);
+        return 2;
+    }
+    size_t len;
+    uint8_t *text = read_file(argv[2], &len);
+    uint32_t options = (uint32_t)strtoul(argv[3], NULL, 10);
+    size_t slashes_len = (size_t)(argc - 4);
+    uint32_t *slashes = (uint32_t *)calloc(slashes_len + 1, sizeof *slashes);
+    for (size_t i = 0; i < slashes_len; i++) {
+        slashes[i] = (uint32_t)strtoul(argv[4 + i], NULL, 10);
+    }
+    struct ecma_answer told = strcmp(argv[1], "comments") == 0 ? tell_comments(text, len, options, slashes, slashes_len)
+                                                                : tell_tokens(text, len, options, slashes, slashes_len);
+    printf("status %u count %zu\n", (unsigned)told.status, told.count);
+    free(slashes);
+    free(text);
+    return 0;
+}

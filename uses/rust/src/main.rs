@@ -1,0 +1,20 @@
+//! Tells of the tokens of a file: FILE OPTIONS [PLACE..], as the program of uses/c does.
+use ecma_rows_caller::{Options, Slashes, Tokens};
+use std::{env, error, fs};
+
+fn main() -> Result<(), Box<dyn error::Error>> {
+    let words: Vec<String> = env::args().skip(1).collect();
+    let bits: u32 = words[1].parse()?;
+    let places = words[2..].iter().map(|word| word.parse()).collect::<Result<Vec<u32>, _>>()?;
+    let options = Options { typescript: bits & 1 != 0, module: bits & 2 != 0, strict: bits & 4 != 0 };
+    let slashes = if bits & 8 != 0 { Slashes::ByFlag } else { Slashes::At(&places) };
+    let text = fs::read_to_string(&words[0])?;
+    let tokens = Tokens::new(&text, options, slashes)?;
+    let count = tokens.size_hint().0;
+    for token in tokens {
+        let flags = u8::from(token.line_break_before) + 2 * u8::from(token.is_respelled);
+        println!("{} {} {} {}", token.lo, token.hi, token.kind, flags);
+    }
+    println!("status 0 count {count}");
+    Ok(())
+}
