@@ -6,9 +6,9 @@ use Rattle.ecma_lexer.specs.Session.{Session, kept_tokens}
 use Rattle.ecma_lexer.specs.declared.comments_buffer.BufferedComment.{BufferedComment}
 use Rattle.ecma_lexer.specs.declared.kept.Kept.{Kept}
 use Rattle.ecma_lexer.proofs.CoveredLemmas.{steps_may_be_covered}
-use Rattle.ecma_lines.specs.Begin.{settings, whole}
+use Rattle.ecma_reading.specs.Begin.{settings, whole}
 use Rattle.ecma_lines.specs.Opening.{opening}
-use Rattle.ecma_lines.specs.declared.command.Options.{Options}
+use Rattle.ecma_reading.specs.declared.options.Options.{Options}
 use Rattle.ecma_lines.proofs.Keeping.{read_out-steps}
 
 -- where reads come to the end

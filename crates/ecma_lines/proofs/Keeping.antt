@@ -25,10 +25,10 @@ use Rattle.ecma_lexer.specs.declared.step.Step.{Step}
 use Rattle.ecma_lexer.specs.declared.step.Step.TheVariants.{SetCtx}
 use Rattle.ecma_lexer.proofs.EndingLemmas.{ReadSoFar, read_tokens, reads_out, so_far-end, so_far-start, so_far-token}
 use Rattle.ecma_lexer.proofs.KeptPlaces.{steps_keep_places}
-use Rattle.ecma_lines.specs.Begin.{begin, begin_if, context, settings, whole}
+use Rattle.ecma_reading.specs.Begin.{begin, begin_if, context, settings, whole}
 use Rattle.ecma_lines.specs.CanonText.{KeepsCleanly, canon_from, canon_text, canonical_bytes, unless_too_long}
 use Rattle.ecma_lines.specs.Opening.{Fails, behind_rereads, opening, rereading, unless_no_slash}
-use Rattle.ecma_lines.specs.declared.command.Options.{Options}
+use Rattle.ecma_reading.specs.declared.options.Options.{Options}
 use Rattle.ecma_stdio.specs.declared.fault.Fault.{Fault}
 use Rattle.ecma_stdio.specs.declared.fault.Fault.TheVariants.{NotClean}
 use Rattle.ecma_lines.proofs.Gathering.{ended-has}

@@ -17,13 +17,13 @@ use Rattle.ecma_lexer.specs.Run.{mode_of, reading_of, start_of, state_behind}
 use Rattle.ecma_lexer.proofs.EndLemmas.{reading-on}
 use Rattle.ecma_lexer.proofs.EndingLemmas.{ReadSoFar, plain-reading, read_tokens, so_far-end, so_far-plain, so_far-start, so_far-token, tokens_run_out}
 use Rattle.ecma_lexer.proofs.TilingLemmas.{Standing, act_standing, fold_standing, session_standing}
-use Rattle.ecma_lines.specs.Begin.{begin, begin_if, context, settings, whole}
+use Rattle.ecma_reading.specs.Begin.{begin, begin_if, context, settings, whole}
 use Rattle.ecma_lines.specs.ErrorLines.{errors_from, errors_text, found_lines, list_lines, token_lines}
 use Rattle.ecma_lines.specs.Lines.{line, lines, tokens_from, tokens_text}
 use Rattle.ecma_lines.specs.Opening.{AllWithin, Stands, opening}
 use Rattle.ecma_lines.specs.declared.opening.Opened.{Opened}
 use Rattle.ecma_lines.proofs.Openings.{in-order-within, rereads-standing}
-use Rattle.ecma_lines.specs.declared.command.Options.{Options}
+use Rattle.ecma_reading.specs.declared.options.Options.{Options}
 
 pub some-kept : (found : Option SpannedView) (k : Kept) → Some k ≡ option_map kept_of found → (t : SpannedView) × (found ≡ Some t) × (kept_of t ≡ k)
 some-kept None k e = cc

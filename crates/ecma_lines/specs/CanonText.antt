@@ -5,9 +5,9 @@ use Rattle.ecma_lexer.specs.Clean.{ends_clean}
 use Rattle.ecma_lexer.specs.Ending.{read_out}
 use Rattle.ecma_lexer.specs.Session.{Session, kept_tokens}
 use Rattle.ecma_lexer.specs.declared.kept.Kept.{Kept}
-use Rattle.ecma_lines.specs.Begin.{whole}
+use Rattle.ecma_reading.specs.Begin.{whole}
 use Rattle.ecma_lines.specs.Opening.{opening, unless_no_slash}
-use Rattle.ecma_lines.specs.declared.command.Options.{Options}
+use Rattle.ecma_reading.specs.declared.options.Options.{Options}
 use Rattle.ecma_stdio.specs.declared.fault.Fault.{Fault}
 use Rattle.ecma_stdio.specs.declared.fault.Fault.TheVariants.{NotClean, TooLong}
 

@@ -7,7 +7,7 @@ use Rattle.ecma_lexer.specs.declared.piece.Class.{Class}
 use Rattle.ecma_lexer.specs.declared.piece.Class.TheVariants.{Token, Comment, Trivia}
 use Rattle.ecma_lexer.specs.declared.piece.Piece.{Piece}
 use Rattle.ecma_lines.specs.Opening.{opening}
-use Rattle.ecma_lines.specs.declared.command.Options.{Options}
+use Rattle.ecma_reading.specs.declared.options.Options.{Options}
 
 abbrev pub class_name : Class → List ℕ
 class_name Token = codes "token"

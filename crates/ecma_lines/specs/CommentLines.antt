@@ -7,9 +7,9 @@ use Rattle.ecma_lexer.specs.Session.{Session}
 use Rattle.ecma_lexer.specs.declared.comments_buffer.BufferedComment.{BufferedComment}
 use Rattle.ecma_lexer.specs.declared.comments_buffer.BufferedCommentKind.{BufferedCommentKind}
 use Rattle.ecma_lexer.specs.declared.comments_buffer.BufferedCommentKind.TheVariants.{Leading, Trailing}
-use Rattle.ecma_lines.specs.Lines.{escaped}
+use Rattle.ecma_stdio.specs.Escaped.{escaped}
 use Rattle.ecma_lines.specs.Opening.{opening}
-use Rattle.ecma_lines.specs.declared.command.Options.{Options}
+use Rattle.ecma_reading.specs.declared.options.Options.{Options}
 
 abbrev pub side_name : BufferedCommentKind → List ℕ
 side_name Leading = codes "leading"

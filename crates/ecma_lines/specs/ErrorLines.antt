@@ -5,10 +5,10 @@ use Rattle.ecma_token.specs.View.{ErrorView, SpannedView, TokenView, error_token
 use Rattle.ecma_lexer.specs.Disposition as lists
 use Rattle.ecma_lexer.specs.Ending.{errors_of, tokens_of}
 use Rattle.ecma_lexer.specs.Session.{Session}
-use Rattle.ecma_lines.specs.Lines.{escaped}
+use Rattle.ecma_stdio.specs.Escaped.{escaped}
 use Rattle.ecma_lines.specs.MessageView.{view_message}
 use Rattle.ecma_lines.specs.Opening.{opening}
-use Rattle.ecma_lines.specs.declared.command.Options.{Options}
+use Rattle.ecma_reading.specs.declared.options.Options.{Options}
 
 -- what kind of error it is and where it lies, each with a space behind it
 abbrev pub error_head : List ℕ → Span → List ℕ

@@ -1,9 +1,9 @@
-pub mod Begin
 pub mod CanonText
 pub mod ClassLines
 pub mod Command
 pub mod CommentLines
 pub mod ErrorLines
+pub mod Explanation
 pub mod Gathered
 pub mod Lines
 pub mod MessageView

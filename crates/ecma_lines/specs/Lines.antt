@@ -7,15 +7,9 @@ use Rattle.ecma_token.specs.declared.kind.TokenKind.TheVariants as kind
 use Rattle.ecma_lexer.specs.declared.kept.Kept.{Kept}
 use Rattle.ecma_lexer.specs.Session.{Session, kept_of}
 use Rattle.ecma_lexer.specs.Ending.{tokens_of}
-use Rattle.ecma_lines.specs.declared.command.Options.{Options}
+use Rattle.ecma_reading.specs.declared.options.Options.{Options}
 use Rattle.ecma_lines.specs.Opening.{opening}
-
--- a backslash, a line feed and a carriage return are written with a backslash
-abbrev pub escaped_byte : ℕ → List ℕ
-escaped_byte b = if b == 92 then 92 ∷ (92 ∷ []) else (if b == 10 then 92 ∷ (110 ∷ []) else (if b == 13 then 92 ∷ (114 ∷ []) else b ∷ []))
-
-abbrev pub escaped : List ℕ → List ℕ
-escaped bytes = flat_map escaped_byte bytes
+use Rattle.ecma_stdio.specs.Escaped.{escaped}
 
 -- whether a line terminator stands before
 abbrev pub flag_text : Bool → List ℕ

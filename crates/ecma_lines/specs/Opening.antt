@@ -7,8 +7,8 @@ use Rattle.ecma_lexer.specs.Session.{Session, kept_back, lexer_state, state_of}
 use Rattle.ecma_lexer.specs.Slashes.{slash_answered}
 use Rattle.ecma_lexer.specs.declared.step.Step.{Step}
 use Rattle.ecma_lexer.specs.declared.step.Step.TheVariants.{Read, Reread, Withdraw}
-use Rattle.ecma_lines.specs.Begin.{begin}
-use Rattle.ecma_lines.specs.declared.command.Options.{Options}
+use Rattle.ecma_reading.specs.Begin.{begin}
+use Rattle.ecma_reading.specs.declared.options.Options.{Options}
 use Rattle.ecma_stdio.specs.declared.fault.Fault.{Fault}
 use Rattle.ecma_stdio.specs.declared.fault.Fault.TheVariants.{NoSlash, OutOfMemory}
 use Rattle.ecma_lines.specs.declared.opening.Opened.{Opened}

@@ -2,7 +2,7 @@
 use Rattle.std.specs.Prelude.{ℕ, List, Option, Some, None, Result, Ok, Err}
 use Rattle.ecma_lines.specs.declared.command.Command.{Command}
 use Rattle.ecma_lines.specs.declared.command.Command.TheVariants.{Tokens, Errors, Comments, Canon, Classes}
-use Rattle.ecma_lines.specs.declared.command.Options.{Options}
+use Rattle.ecma_reading.specs.declared.options.Options.{Options}
 use Rattle.ecma_stdio.specs.declared.fault.Fault.{Fault}
 use Rattle.ecma_stdio.specs.declared.fault.Fault.TheVariants.{BadWords}
 use Rattle.ecma_stdio.specs.Faults.{text_reply}

@@ -8,11 +8,11 @@ ghost use Rattle.ecma_lines.specs.CanonText as grammar;
 ghost use Rattle.ecma_lines.specs.CanonText.{KeepsCleanly, unless_too_long};
 ghost use Rattle.ecma_lines.specs.Opening.{Fails};
 
-use crate::command::Options;
 use crate::kept_tokens::keep_tokens;
 use crate::opening::open;
 use ecma_lexer::{Kept, Lexer, Tokens, canonical_text};
 use ecma_place::{BytePos, StringInput};
+use ecma_reading::Options;
 use ecma_stdio::Fault;
 use ecma_token::TokenKind;
 use std::alloc::Global;

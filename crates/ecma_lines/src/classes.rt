@@ -3,12 +3,12 @@ ghost use Rattle.std.specs.Prelude.{◌≡◌, ◌++◌, ◌^◌, ◌<◌, Some,
 ghost use Rattle.ecma_lines.specs.ClassLines as grammar;
 ghost use Rattle.ecma_lines.specs.Opening.{Lacks};
 
-use crate::command::Options;
 use crate::comments::take_comments;
 use crate::kept_tokens::keep_tokens;
 use crate::opening::open;
 use ecma_lexer::{Class, Piece, classes};
 use ecma_place::BytePos;
+use ecma_reading::Options;
 use ecma_stdio::Fault;
 use std::alloc::{AllocError, Global};
 

@@ -1,6 +1,7 @@
 //! The words of the command line, and what they ask for.
 ghost use Rattle.std.specs.Prelude.{◌≡◌, ◌^◌, ◌<◌, true, Ok, MatchResult, is_some, length, map, option_map, string_bytes};
-ghost use Rattle.ecma_lines.specs.Command.{named_command, once, request_of, request_view, with_option};
+ghost use Rattle.ecma_lines.specs.Command as grammar;
+ghost use Rattle.ecma_lines.specs.Command.{named_command, request_of, request_view};
 ghost use Rattle.ecma_lines.specs.Opening.{Fails};
 ghost use Rattle.ecma_lines.specs.Reply.{program_text};
 
@@ -10,6 +11,7 @@ use crate::comments::comments_text;
 use crate::errors::errors_text;
 use crate::lines::tokens_text;
 use crate::particulars::Particulars;
+use ecma_reading::Options;
 use ecma_stdio::Fault;
 use std::alloc::{AllocError, Global};
 
@@ -44,54 +46,53 @@ impl Command {
     }
 }
 
-/// How a text is read.
-#[derive(Clone, Copy, Debug, Default, PartialEq, Eq)]
-pub struct Options {
-    /// As TypeScript.
-    pub typescript: bool,
-    /// As a module.
-    pub module: bool,
-    /// As strict code.
-    pub strict: bool,
-    /// With numbers by the standard's rule.
-    pub standard: bool,
+/// The options, unless that which a word names was there before.
+fn once(options: Options, was_given: bool) -> Option<Options>
+    ensures { result ≡ grammar.once was_given options }
+{
+    if was_given { None } else { Some(options) }
 }
 
-impl Options {
-    /// The options, unless that which a word names was there before.
-    fn once(self, was_given: bool) -> Option<Options>
-        ensures { result ≡ once was_given self }
-    {
-        if was_given { None } else { Some(self) }
-    }
-
-    /// The options with one more, which a word names, and which was not there before.
-    pub fn with(self, word: &str) -> Option<Options>
-        ensures { result ≡ with_option self word.now }
-    {
-        match word {
-            "ts" => Options {
+/// The options with one more, which a word names, and which was not there before.
+pub fn with_option(options: Options, word: &str) -> Option<Options>
+    ensures { result ≡ grammar.with_option options word.now }
+{
+    let Options {
+        typescript,
+        module,
+        strict,
+        standard,
+    } = options;
+    match word {
+        "ts" => once(
+            Options {
                 typescript: true,
-                ..self
-            }
-            .once(self.typescript),
-            "module" => Options {
+                ..options
+            },
+            typescript,
+        ),
+        "module" => once(
+            Options {
                 module: true,
-                ..self
-            }
-            .once(self.module),
-            "strict" => Options {
+                ..options
+            },
+            module,
+        ),
+        "strict" => once(
+            Options {
                 strict: true,
-                ..self
-            }
-            .once(self.strict),
-            "standard" => Options {
+                ..options
+            },
+            strict,
+        ),
+        "standard" => once(
+            Options {
                 standard: true,
-                ..self
-            }
-            .once(self.standard),
-            _ => None,
-        }
+                ..options
+            },
+            standard,
+        ),
+        _ => None,
     }
 }
 

@@ -7,12 +7,11 @@ ghost use Rattle.ecma_lexer.specs.Session.{Session, lexer_state, state_of};
 ghost use Rattle.ecma_lines.specs.CommentLines as grammar;
 ghost use Rattle.ecma_lines.specs.Opening.{Lacks};
 
-use crate::command::Options;
-use crate::lines::push_escaped;
 use crate::opening::open;
 use ecma_lexer::{BufferedComment, BufferedCommentKind, Lexer, hand_comments};
 use ecma_place::{BytePos, Comment, CommentKind, Comments};
-use ecma_stdio::Fault;
+use ecma_reading::{Options, pass_next};
+use ecma_stdio::{Fault, push_escaped};
 use std::alloc::{AllocError, Global};
 
 /// The comments that were handed over, in order.
@@ -128,14 +127,6 @@ fn push_comments(
         push_comment(alloc, out, comment)?;
     }
     Ok(())
-}
-
-/// Reads the next token, and says whether there was one.
-fn pass_next(lexer: &mut Lexer) -> Result<bool, AllocError>
-    ensures more { IfOk result (λ more. more ≡ is_some (reading_of (lexer_state lexer.old)).found) }
-    ensures after { OnOk result (lexer_state lexer.new ≡ state_behind (lexer_state lexer.old) (reading_of (lexer_state lexer.old))) }
-{
-    Ok(lexer.read()?.is_some())
 }
 
 /// Reads to the end, behind which the comments may be handed over.

@@ -8,12 +8,11 @@ ghost use Rattle.ecma_lines.specs.ErrorLines as grammar;
 ghost use Rattle.ecma_lines.specs.MessageView.{view_message};
 ghost use Rattle.ecma_lines.specs.Opening.{Lacks};
 
-use crate::command::Options;
-use crate::lines::push_escaped;
 use crate::opening::{Opened, open};
 use ecma_lexer::{Lexer, Tokens};
 use ecma_place::{Span, Spanned};
-use ecma_stdio::Fault;
+use ecma_reading::Options;
+use ecma_stdio::{Fault, push_escaped};
 use ecma_token::{Error, SyntaxError, Token, TokenAndSpan};
 use std::alloc::{AllocError, Global};
 use std::borrow::CowStr;

@@ -2,7 +2,6 @@
 //! that ask for them.
 #![tactic(auto)]
 
-mod begin;
 mod canon;
 mod classes;
 pub mod command;
@@ -13,5 +12,7 @@ mod lines;
 mod opening;
 mod particulars;
 pub mod program;
+mod standard_error;
 
 pub use program::run;
+pub use standard_error::explanation;

@@ -6,10 +6,10 @@ ghost use Rattle.ecma_token.specs.View.{spanned_view};
 ghost use Rattle.ecma_lines.specs.Lines as grammar;
 ghost use Rattle.ecma_lines.specs.Opening.{AllWithin, Lacks};
 
-use crate::command::Options;
 use crate::opening::{Opened, open};
 use ecma_lexer::{Kept, Lexer};
-use ecma_stdio::Fault;
+use ecma_reading::Options;
+use ecma_stdio::{Fault, push_escaped};
 use ecma_syntax::WordKind;
 use ecma_token::{TokenAndSpan, TokenKind};
 use std::alloc::{AllocError, Global};
@@ -84,28 +84,6 @@ fn head(alloc: Global, token: Kept) -> Result<String, AllocError>
     let flag = flag_text(token.flag);
     let kind = kind_name(token.kind);
     format!(in alloc; "{lo} {hi} {flag} {kind} ")
-}
-
-/// Adds the byte, with a backslash where it is one, a line feed or a carriage return.
-fn push_escaped_byte(out: &mut Vec<u8>, byte: u8) -> Result<(), AllocError>
-    ensures { OnOk result (out.new.items ≡ out.old.items ++ grammar.escaped_byte byte) }
-{
-    match byte {
-        b'\\' => out.extend_from_slice(b"\\\\"),
-        b'\n' => out.extend_from_slice(b"\\n"),
-        b'\r' => out.extend_from_slice(b"\\r"),
-        _ => Ok(out.push(byte)?),
-    }
-}
-
-/// Adds the bytes, each as `push_escaped_byte` does.
-pub fn push_escaped(out: &mut Vec<u8>, bytes: &[u8]) -> Result<(), AllocError>
-    ensures { OnOk result (out.new.items ≡ out.old.items ++ grammar.escaped bytes.now) }
-{
-    for byte in bytes {
-        push_escaped_byte(out, *byte)?;
-    }
-    Ok(())
 }
 
 /// Adds the line of a token of the text with these bytes, which starts at the place 0.

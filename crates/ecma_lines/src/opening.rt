@@ -7,9 +7,8 @@ ghost use Rattle.ecma_lexer.specs.Session.{Session, state_of};
 ghost use Rattle.ecma_lexer.specs.Slashes.{slash_answered};
 ghost use Rattle.ecma_lines.specs.Opening.{CameTo, Lacks, Stands, behind_rereads, opening, rereading};
 
-use crate::begin::begin;
-use crate::command::Options;
 use ecma_lexer::{Lexer, Tokens};
+use ecma_reading::{Options, begin};
 use ecma_stdio::Fault;
 use ecma_token::TokenAndSpan;
 use std::alloc::{AllocError, Global};

@@ -4,7 +4,8 @@ ghost use Rattle.ecma_lines.specs.Command as grammar;
 ghost use Rattle.ecma_lines.specs.Command.{behind, no_particulars, request_view, with_number, with_word};
 ghost use Rattle.ecma_lines.specs.Gathered.{Follows, Holds};
 
-use crate::command::{Command, Options, Request};
+use crate::command::{Command, Request, with_option};
+use ecma_reading::Options;
 use ecma_stdio::number;
 use std::alloc::{AllocError, Global};
 
@@ -62,7 +63,7 @@ impl Particulars {
             self.awaits_number = true;
             return true;
         }
-        match self.options.with(word) {
+        match with_option(self.options, word) {
             Some(options) => {
                 self.options = options;
                 true

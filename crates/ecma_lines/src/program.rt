@@ -7,7 +7,7 @@ ghost use Rattle.ecma_stdio.specs.Faults.{fault_line};
 ghost use Rattle.ecma_stdio.specs.Sending.{Answers, IsInput, Halts, Sends};
 
 use crate::command::Request;
-use ecma_stdio::{FAILED, Fault, Halt, MOST_TURNS, read_all, send, send_fault, text_of};
+use ecma_stdio::{Fault, Halt, MOST_TURNS, answer, read_all, text_of};
 use std::alloc::Global;
 use std::io::{Read, Write};
 
@@ -52,9 +52,5 @@ pub fn run<R: Read, W: Write>(alloc: Global, words: &[String], reader: &mut R, w
     // Status 5: the line went out alone.
     ensures refused { result ≡ 5 → Appends (W.contents writer.old) (W.contents writer.new) (fault_line Fault.OutOfMemory) }
 {
-    match reply(alloc, words, reader) {
-        Ok(text) => send(writer, 0, text.as_slice()),
-        Err(Halt::Fault(fault)) => send_fault(writer, fault),
-        Err(Halt::ReadFailed) => FAILED,
-    }
+    answer(reply(alloc, words, reader), writer)
 }

@@ -1,3 +1,4 @@
+pub mod Escaped
 pub mod Faults
 pub mod Numbers
 pub mod Sending

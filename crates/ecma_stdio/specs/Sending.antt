@@ -28,3 +28,8 @@ IsInput told input = IfSome told (λ bytes. bytes ≡ input)
 abbrev pub Halts : Result (List ℕ) Fault → Halt → Type 0
 Halts reply ReadFailed = ⊤
 Halts reply (FaultHalt fault) = (reply ≡ Err fault) ⊎ (fault ≡ OutOfMemory)
+
+-- the line of the fault was sent, or a read failed and nothing went out
+abbrev pub TellsOf : Halt → Option (List ℕ) → Option (List ℕ) → ℕ → Type 0
+TellsOf ReadFailed old new result = (result ≡ 1) × Keeps old new
+TellsOf (FaultHalt fault) old new result = Sends (fault_status fault) (fault_line fault) old new result

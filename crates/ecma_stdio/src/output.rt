@@ -1,10 +1,11 @@
 //! Writing a whole text, and knowing how much of it went out.
-ghost use Rattle.std.specs.Prelude.{◌≡◌, ◌≤◌, length, take};
+ghost use Rattle.std.specs.Prelude.{◌≡◌, ◌≤◌, List, MatchResult, Ok, Result, ℕ, length, take};
 ghost use Rattle.std.specs.Io.KnownBytes.{Appends};
+ghost use Rattle.std.specs.Result.{IsOkAnd};
 ghost use Rattle.ecma_stdio.specs.Faults.{fault_status, fault_line};
-ghost use Rattle.ecma_stdio.specs.Sending.{Sends};
+ghost use Rattle.ecma_stdio.specs.Sending.{Answers, Halts, Sends, TellsOf};
 
-use crate::fault::Fault;
+use crate::fault::{Fault, Halt};
 use std::io::Write;
 
 /// The answer where a read or a write failed.
@@ -41,4 +42,25 @@ pub fn send_fault<W: Write>(writer: &mut W, fault: Fault) -> u8
     ensures { Sends (fault_status fault) (fault_line fault) (W.contents writer.old) (W.contents writer.new) result }
 {
     send(writer, fault.status(), fault.line())
+}
+
+/// Writes what a program made, or the line of the fault that kept it from that, and answers the exit status: 0, that of the
+/// fault, or 1 where a read failed, of which nothing is written, or where not all went out.
+pub fn answer<W: Write>(made: Result<Vec<u8>, Halt>, writer: &mut W) -> u8
+    ensures tells { MatchResult made
+        (λ text. Sends 0 text.items (W.contents writer.old) (W.contents writer.new) result)
+        (λ halt. TellsOf halt (W.contents writer.old) (W.contents writer.new) result) }
+    // Where what was made is what was to be replied, so is what went out.
+    ensures answers { (reply : Result (List ℕ) Fault) → MatchResult made (λ text. reply ≡ Ok text.items) (λ halt. Halts reply halt)
+        → Answers reply (W.contents writer.old) (W.contents writer.new) result }
+    // Status 0: all went out.
+    ensures whole { result ≡ 0 → IsOkAnd made (λ text. Appends (W.contents writer.old) (W.contents writer.new) text.items) }
+    // Status 5: the line went out alone.
+    ensures refused { result ≡ 5 → Appends (W.contents writer.old) (W.contents writer.new) (fault_line Fault.OutOfMemory) }
+{
+    match made {
+        Ok(text) => send(writer, 0, text.as_slice()),
+        Err(Halt::Fault(fault)) => send_fault(writer, fault),
+        Err(Halt::ReadFailed) => FAILED,
+    }
 }

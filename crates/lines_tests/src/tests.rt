@@ -1,7 +1,7 @@
 //! Rows of the program, and readers and writers that fail in the middle.
-use ecma_lines::command::Options;
 use ecma_lines::comments::comments_text;
-use ecma_lines::run;
+use ecma_lines::{explanation, run};
+use ecma_reading::Options;
 use ecma_stdio::{Halt, arguments, read_all, words};
 use std::alloc::Global;
 use std::env::{Env, FillError};

@@ -13,7 +13,7 @@ use Rattle.ecma_lexer.specs.Run.{act_on, start_of}
 use Rattle.ecma_lexer.specs.Session.{Session}
 use Rattle.ecma_lexer.specs.declared.settings.Settings.{Settings}
 use Rattle.ecma_lexer.specs.declared.step.Step.TheVariants.{SetCtx}
-use Rattle.ecma_lines.specs.declared.command.Options.{Options}
+use Rattle.ecma_reading.specs.declared.options.Options.{Options}
 
 -- TypeScript with every option off
 abbrev typescript : Syntax
