@@ -35,7 +35,7 @@ enum ecma_status {
 
 /* Flags of tokens. */
 enum ecma_token_flag {
-    /* A line terminator, or nothing, stands before the token. */
+    /* A line terminator, or nothing, stands before the token, or the token is template text that has one. */
     ECMA_LINE_BREAK_BEFORE = 1,
     /* The value of the token is not its spelling. */
     ECMA_RESPELLED = 2

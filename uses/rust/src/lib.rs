@@ -87,7 +87,7 @@ pub struct Token<'a> {
     pub hi: usize,
     /// The number of its kind.
     pub kind: u16,
-    /// Whether a line terminator, or nothing, stands before it.
+    /// Whether a line terminator, or nothing, stands before it, or it is template text that has one.
     pub line_break_before: bool,
     /// Whether its value is not its spelling.
     pub is_respelled: bool,
