@@ -1,7 +1,7 @@
 //! Where the reading of a text begins.
 ghost use Rattle.std.specs.Prelude.{◌≡◌, ◌<◌, ◌^◌, length, IfOk};
 ghost use Rattle.ecma_state.specs.Session.{lexer_state, state_of};
-ghost use Rattle.ecma_rows.specs.Asked as asked;
+ghost use Rattle.ecma_rows.specs.Asked as requests;
 ghost use Rattle.ecma_rows.specs.Asked.{asked_view};
 
 use crate::request::Asked;
@@ -16,7 +16,7 @@ pub(crate) fn begin<'a>(
     asked: Asked<'a>,
 ) -> Result<Lexer<'a>, AllocError>
     requires { length asked.text.now < 2 ^ 32 }
-    ensures { IfOk result (λ lexer. lexer_state lexer ≡ state_of (asked.begin comments (asked_view asked.entry))) }
+    ensures { IfOk result (λ lexer. lexer_state lexer ≡ state_of (requests.begin comments (asked_view asked.entry))) }
 {
     let input = StringInput::new(asked.text, BytePos(0));
     let settings = asked.options.settings(comments);

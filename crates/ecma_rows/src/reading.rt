@@ -1,6 +1,6 @@
 //! How a text is to be read.
 ghost use Rattle.std.specs.Prelude.{◌≡◌};
-ghost use Rattle.ecma_rows.specs.Asked as asked;
+ghost use Rattle.ecma_rows.specs.Asked as requests;
 
 use ecma_state::Settings;
 use ecma_syntax::{Context, EsVersion, NumberRule, Syntax, TsSyntax};
@@ -30,7 +30,7 @@ impl Options {
     /// The options of a sum of 1 for TypeScript, 2 for module code, 4 for strict mode code, and 8 for slashes by the flag;
     /// nothing for any other number. Our own.
     pub fn of_bits(bits: u32) -> Option<Options>
-        ensures { result ≡ asked.options_of bits }
+        ensures { result ≡ requests.options_of bits }
     {
         if bits >= 2 * BY_FLAG {
             return None;
@@ -44,7 +44,7 @@ impl Options {
     }
 
     fn syntax(self) -> Syntax
-        ensures { result ≡ asked.syntax self }
+        ensures { result ≡ requests.syntax self }
     {
         if self.typescript {
             Syntax::Typescript(TsSyntax::default())
@@ -55,7 +55,7 @@ impl Options {
 
     /// The settings under which a text is read. `comments` says whether its comments are collected.
     pub(crate) fn settings(self, comments: bool) -> Settings
-        ensures { result ≡ asked.settings comments self }
+        ensures { result ≡ requests.settings comments self }
     {
         Settings {
             syntax: self.syntax(),
@@ -67,7 +67,7 @@ impl Options {
 
     /// The context in which a text is read.
     pub(crate) fn context(self) -> Context
-        ensures { result ≡ asked.context self }
+        ensures { result ≡ requests.context self }
     {
         Context {
             module: self.module,

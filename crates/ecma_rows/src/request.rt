@@ -3,7 +3,7 @@ ghost use Rattle.std.specs.Prelude.{◌≡◌, ◌<◌, ◌^◌, List, None, Ok,
 ghost use Rattle.std.specs.Str.{IsUtf8};
 ghost use Rattle.ecma_state.specs.declared.step.Step.{Step};
 ghost use Rattle.ecma_slashes.specs.Rereads.{is_in_order, rereads, rule_of};
-ghost use Rattle.ecma_rows.specs.Asked as asked;
+ghost use Rattle.ecma_rows.specs.Asked as requests;
 ghost use Rattle.ecma_rows.specs.Asked.{asked_view, judged, place_at};
 ghost use Rattle.ecma_rows.specs.Told.{are_met};
 
@@ -50,8 +50,8 @@ pub(crate) fn places(alloc: Global, numbers: &[u32]) -> Result<Vec<BytePos>, All
 /// Which slashes are read again: those that the flag tells, where it is to tell and no places are given, or those at places
 /// that ascend.
 fn slashes_asked<'a>(options: Options, places: &'a [BytePos]) -> Option<Slashes<'a>>
-    ensures rule { IfSome result (λ slashes. asked.rule_asked options places.now ≡ Some (rule_of slashes)) }
-    ensures none { result ≡ None → asked.rule_asked options places.now ≡ None }
+    ensures rule { IfSome result (λ slashes. requests.rule_asked options places.now ≡ Some (rule_of slashes)) }
+    ensures none { result ≡ None → requests.rule_asked options places.now ≡ None }
     ensures in_order { IfSome result (λ slashes. is_in_order (rule_of slashes) ≡ true) }
 {
     if options.by_flag {
@@ -76,8 +76,8 @@ fn judge_text<'a>(
     text: &'a [u8],
 ) -> Result<Asked<'a>, Status>
     ensures judged { MatchResult result
-        (λ asked. asked.judged_text options (rule_of slashes.entry) text.now ≡ Ok (asked_view asked))
-        (λ status. asked.judged_text options (rule_of slashes.entry) text.now ≡ Err status) }
+        (λ asked. requests.judged_text options (rule_of slashes.entry) text.now ≡ Ok (asked_view asked))
+        (λ status. requests.judged_text options (rule_of slashes.entry) text.now ≡ Err status) }
     ensures short { IfOk result (λ asked. length asked.text.now < 2 ^ 32) }
     ensures is_text { IfOk result (λ asked. IsUtf8 asked.text.now) }
     ensures same { IfOk result (λ asked. rule_of asked.slashes ≡ rule_of slashes.entry) }

@@ -24,7 +24,7 @@ tokens-preserved c =
           let on = ok.steps going.so.here going.steps c.args.out.now (sym going.so.shows) going.so.plain going.tallied in
           going-next (rule_of c.args.slashes) s c.args.out.now c.tokens.out c.tell_token.new.out c.tokens.tally c.tell_token.new.tally (lexer_state c.tokens.lexer) (lexer_state c.tell_token.new.lexer) going
           (subst (λ (b : Bool). TellsOn (rule_of c.args.slashes) going.so.here going.steps c.args.out.now c.tell_token.new.out c.tell_token.new.tally b (lexer_state c.tell_token.new.lexer)) c.if-branch.true on),
-      (ok.plain, (omega (arith, less, few, one), omega (arith, less, rare, again))),
+      (ok.no_reread, (omega (arith, less, few, one), omega (arith, less, rare, again))),
     )
 
 pub returns-clause-told : goal.returns-clause-told
