@@ -25,10 +25,10 @@ use Rattle.ecma_lexer.specs.declared.step.Step.{Step}
 use Rattle.ecma_lexer.specs.declared.step.Step.TheVariants.{SetCtx}
 use Rattle.ecma_lexer.proofs.EndingLemmas.{ReadSoFar, read_tokens, reads_out, so_far-end, so_far-start, so_far-token}
 use Rattle.ecma_lexer.proofs.KeptPlaces.{steps_keep_places}
-use Rattle.ecma_reading.specs.Begin.{begin, begin_if, context, settings, whole}
+use Rattle.ecma_options.specs.Begin.{begin, begin_if, context, settings, whole}
 use Rattle.ecma_lines.specs.CanonText.{KeepsCleanly, canon_from, canon_text, canonical_bytes, unless_too_long}
-use Rattle.ecma_lines.specs.Opening.{Fails, behind_rereads, opening, rereading, unless_no_slash}
-use Rattle.ecma_reading.specs.declared.options.Options.{Options}
+use Rattle.ecma_lines.specs.Rereads.{Fails, behind_rereads, session_behind, rereading, unless_no_slash}
+use Rattle.ecma_options.specs.declared.options.Options.{Options}
 use Rattle.ecma_stdio.specs.declared.fault.Fault.{Fault}
 use Rattle.ecma_stdio.specs.declared.fault.Fault.TheVariants.{NotClean}
 use Rattle.ecma_lines.proofs.Gathering.{ended-has}
@@ -126,7 +126,7 @@ canon-kept o rereads bytes kept so =
     ∙ ap (λ clean. if clean then unless_too_long (canonical_bytes bytes (read_out so.session)) else Err NotClean) so.clean
     ∙ ap (λ ks. unless_too_long (encode_utf8_all (canonical_of (map (own_in (whole bytes)) ks)))) (sym so.kept_there)
 
-pub canon-unclean : (o : Options) (rereads bytes : List ℕ) (s : Session) → opening false o rereads bytes ≡ Some s → ends_clean (read_out s) ≡ false → canon_text o rereads bytes ≡ Err NotClean
+pub canon-unclean : (o : Options) (rereads bytes : List ℕ) (s : Session) → session_behind false o rereads bytes ≡ Some s → ends_clean (read_out s) ≡ false → canon_text o rereads bytes ≡ Err NotClean
 canon-unclean o rereads bytes s opened unclean =
     ap (λ s. canon_from bytes (unless_no_slash s)) opened ∙ ap (λ clean. if clean then unless_too_long (canonical_bytes bytes (read_out s)) else Err NotClean) unclean
 
@@ -166,7 +166,7 @@ begin-steps collects o bytes = go (o.«module» || o.strict)
     go false = ([], refl)
 
 -- where the reads come to the end is where some steps come to
-pub read_out-steps : (collects : Bool) (o : Options) (rereads bytes : List ℕ) (s : Session) → opening collects o rereads bytes ≡ Some s
+pub read_out-steps : (collects : Bool) (o : Options) (rereads bytes : List ℕ) (s : Session) → session_behind collects o rereads bytes ≡ Some s
     → (steps : List Step) × (read_out s ≡ fold act_on (start_of (settings collects o) (whole bytes)) steps)
 read_out-steps collects o rereads bytes s opened =
     let begun : Session = start_of (settings collects o) (whole bytes) in

@@ -3,5 +3,5 @@ pub mod Gathering
 pub mod Keeping
 pub mod Listing
 pub mod Messages
-pub mod Openings
+pub mod RereadLemmas
 pub mod Replies

@@ -17,13 +17,13 @@ use Rattle.ecma_lexer.specs.Run.{mode_of, reading_of, start_of, state_behind}
 use Rattle.ecma_lexer.proofs.EndLemmas.{reading-on}
 use Rattle.ecma_lexer.proofs.EndingLemmas.{ReadSoFar, plain-reading, read_tokens, so_far-end, so_far-plain, so_far-start, so_far-token, tokens_run_out}
 use Rattle.ecma_lexer.proofs.TilingLemmas.{Standing, act_standing, fold_standing, session_standing}
-use Rattle.ecma_reading.specs.Begin.{begin, begin_if, context, settings, whole}
+use Rattle.ecma_options.specs.Begin.{begin, begin_if, context, settings, whole}
 use Rattle.ecma_lines.specs.ErrorLines.{errors_from, errors_text, found_lines, list_lines, token_lines}
 use Rattle.ecma_lines.specs.Lines.{line, lines, tokens_from, tokens_text}
-use Rattle.ecma_lines.specs.Opening.{AllWithin, Stands, opening}
-use Rattle.ecma_lines.specs.declared.opening.Opened.{Opened}
-use Rattle.ecma_lines.proofs.Openings.{in-order-within, rereads-standing}
-use Rattle.ecma_reading.specs.declared.options.Options.{Options}
+use Rattle.ecma_lines.specs.Rereads.{AllWithin, Stands, session_behind}
+use Rattle.ecma_lines.specs.declared.rereads.Reread.{Reread}
+use Rattle.ecma_lines.proofs.RereadLemmas.{in-order-within, rereads-standing}
+use Rattle.ecma_options.specs.declared.options.Options.{Options}
 
 pub some-kept : (found : Option SpannedView) (k : Kept) → Some k ≡ option_map kept_of found → (t : SpannedView) × (found ≡ Some t) × (kept_of t ≡ k)
 some-kept None k e = cc
@@ -46,11 +46,11 @@ begin-standing collects o bytes = go (o.«module» || o.strict)
     go true = act_standing (whole bytes) (start_of (settings collects o) (whole bytes)) (SetCtx (context o)) (session_standing (settings collects o) (whole bytes) [])
     go false = session_standing (settings collects o) (whole bytes) []
 
-pub opening-standing : (collects : Bool) (o : Options) (rereads bytes : List ℕ) (s : Session) → opening collects o rereads bytes ≡ Some s → Standing (whole bytes) s
-opening-standing collects o rereads bytes s opened = rereads-standing (whole bytes) 0 (begin collects o bytes) rereads s (begin-standing collects o bytes) opened
+pub session_behind-standing : (collects : Bool) (o : Options) (rereads bytes : List ℕ) (s : Session) → session_behind collects o rereads bytes ≡ Some s → Standing (whole bytes) s
+session_behind-standing collects o rereads bytes s opened = rereads-standing (whole bytes) 0 (begin collects o bytes) rereads s (begin-standing collects o bytes) opened
 
 -- nothing is read again where a run begins, and nothing was read
-pub begin-stands : (collects : Bool) (o : Options) (bytes : List ℕ) (opened : Opened) → lexer_state opened.lexer ≡ state_of (begin collects o bytes) → opened.tokens.items ≡ [] → Stands (begin collects o bytes) opened
+pub begin-stands : (collects : Bool) (o : Options) (bytes : List ℕ) (opened : Reread) → lexer_state opened.lexer ≡ state_of (begin collects o bytes) → opened.tokens.items ≡ [] → Stands (begin collects o bytes) opened
 begin-stands collects o bytes opened at none = go (o.«module» || o.strict) at
   where
     go : (b : Bool) → lexer_state opened.lexer ≡ state_of (begin_if b o (start_of (settings collects o) (whole bytes))) → Stands (begin_if b o (start_of (settings collects o) (whole bytes))) opened
@@ -67,7 +67,7 @@ text-length bytes s now utf8 standing same_start same_text =
     omega (arith, start, bound, all)
 
 -- the tokens up to there stand in the text
-pub first-within : (bytes : List ℕ) (s : Session) (opened : Opened) → IsUtf8 bytes → Standing (whole bytes) s → Stands s opened → AllWithin (length bytes) (map spanned_view opened.tokens.items)
+pub first-within : (bytes : List ℕ) (s : Session) (opened : Reread) → IsUtf8 bytes → Standing (whole bytes) s → Stands s opened → AllWithin (length bytes) (map spanned_view opened.tokens.items)
 first-within bytes s opened utf8 standing stands =
     subst (AllWithin (length bytes)) (sym stands.kept)
     (in-order-within (place (whole bytes)) (place s.input) (length bytes) (kept_back s.past) standing.order (text-length bytes s s.input utf8 standing refl refl))
@@ -103,7 +103,7 @@ some-less l next plain some moved = go (reading_of l).found refl
 -- what is written of the tokens so far of a text, from where all that was to be read again was
 pub record Listed (o : Options) (rereads bytes : List ℕ) (text_of : SpannedView → List ℕ) (l : LexerState) (out : List ℕ) : Type 0 where
   pub session : Session
-  pub opened : opening false o rereads bytes ≡ Some session
+  pub opened : session_behind false o rereads bytes ≡ Some session
   pub count : ℕ
   pub state : ReadSoFar session count l
   pub written : out ≡ flat_map text_of (read_tokens session count)
@@ -112,8 +112,8 @@ pub listed-plain : (o : Options) (rereads bytes : List ℕ) (text_of : SpannedVi
 listed-plain o rereads bytes text_of l out so = so_far-plain so.session so.count l so.state
 
 -- that of the first tokens
-pub listed-start : (o : Options) (rereads bytes : List ℕ) (text_of : SpannedView → List ℕ) (out : List ℕ) (s : Session) (opened : Opened)
-    → opening false o rereads bytes ≡ Some s → Stands s opened → out ≡ flat_map text_of (map spanned_view opened.tokens.items)
+pub listed-start : (o : Options) (rereads bytes : List ℕ) (text_of : SpannedView → List ℕ) (out : List ℕ) (s : Session) (opened : Reread)
+    → session_behind false o rereads bytes ≡ Some s → Stands s opened → out ≡ flat_map text_of (map spanned_view opened.tokens.items)
     → Listed o rereads bytes text_of (lexer_state opened.lexer) out
 listed-start o rereads bytes text_of out s opened at stands first =
     record {

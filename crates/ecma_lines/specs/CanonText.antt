@@ -5,9 +5,9 @@ use Rattle.ecma_lexer.specs.Clean.{ends_clean}
 use Rattle.ecma_lexer.specs.Ending.{read_out}
 use Rattle.ecma_lexer.specs.Session.{Session, kept_tokens}
 use Rattle.ecma_lexer.specs.declared.kept.Kept.{Kept}
-use Rattle.ecma_reading.specs.Begin.{whole}
-use Rattle.ecma_lines.specs.Opening.{opening, unless_no_slash}
-use Rattle.ecma_reading.specs.declared.options.Options.{Options}
+use Rattle.ecma_options.specs.Begin.{whole}
+use Rattle.ecma_lines.specs.Rereads.{session_behind, unless_no_slash}
+use Rattle.ecma_options.specs.declared.options.Options.{Options}
 use Rattle.ecma_stdio.specs.declared.fault.Fault.{Fault}
 use Rattle.ecma_stdio.specs.declared.fault.Fault.TheVariants.{NotClean, TooLong}
 
@@ -21,7 +21,7 @@ canonical_bytes bytes s = encode_utf8_all (canonical_of (owned bytes s))
 -- nothing is wrong where the reads of a text have come to the end, and these tokens are kept there
 pub record KeepsCleanly (options : Options) (rereads bytes : List ℕ) (kept : List Kept) : Type 0 where
   pub session : Session
-  pub opened : opening false options rereads bytes ≡ Some session
+  pub opened : session_behind false options rereads bytes ≡ Some session
   pub clean : ends_clean (read_out session) ≡ true
   pub kept_there : kept ≡ kept_tokens (read_out session)
 
@@ -39,4 +39,4 @@ canon_from bytes (Ok s) = canon_at bytes (read_out s)
 canon_from bytes (Err fault) = Err fault
 
 abbrev pub canon_text : Options → List ℕ → List ℕ → Result (List ℕ) Fault
-canon_text options rereads bytes = canon_from bytes (unless_no_slash (opening false options rereads bytes))
+canon_text options rereads bytes = canon_from bytes (unless_no_slash (session_behind false options rereads bytes))

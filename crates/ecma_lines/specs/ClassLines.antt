@@ -6,8 +6,8 @@ use Rattle.ecma_lexer.specs.Session.{Session, kept_tokens}
 use Rattle.ecma_lexer.specs.declared.piece.Class.{Class}
 use Rattle.ecma_lexer.specs.declared.piece.Class.TheVariants.{Token, Comment, Trivia}
 use Rattle.ecma_lexer.specs.declared.piece.Piece.{Piece}
-use Rattle.ecma_lines.specs.Opening.{opening}
-use Rattle.ecma_reading.specs.declared.options.Options.{Options}
+use Rattle.ecma_lines.specs.Rereads.{session_behind}
+use Rattle.ecma_options.specs.declared.options.Options.{Options}
 
 abbrev pub class_name : Class → List ℕ
 class_name Token = codes "token"
@@ -29,7 +29,7 @@ abbrev pub pieces_from : List ℕ → Session → List Piece
 pieces_from bytes s = pieces_at bytes (read_out s)
 
 abbrev pub text_pieces : Options → List ℕ → List ℕ → Option (List Piece)
-text_pieces options rereads bytes = option_map (pieces_from bytes) (opening true options rereads bytes)
+text_pieces options rereads bytes = option_map (pieces_from bytes) (session_behind true options rereads bytes)
 
 abbrev pub classes_text : Options → List ℕ → List ℕ → Option (List ℕ)
 classes_text options rereads bytes = option_map piece_lines (text_pieces options rereads bytes)

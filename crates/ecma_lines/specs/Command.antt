@@ -4,7 +4,7 @@ use Rattle.std.specs.Cmp.Lexicographic.{pointwise}
 use Rattle.ecma_stdio.specs.Numbers.{number_of}
 use Rattle.ecma_lines.specs.declared.command.Command.{Command}
 use Rattle.ecma_lines.specs.declared.command.Command.TheVariants.{Tokens, Errors, Comments, Canon, Classes}
-use Rattle.ecma_reading.specs.declared.options.Options.{Options}
+use Rattle.ecma_options.specs.declared.options.Options.{Options}
 use Rattle.ecma_lines.specs.declared.command.Request.{Request}
 
 -- the command that one word names

@@ -8,8 +8,8 @@ use Rattle.ecma_lexer.specs.declared.comments_buffer.BufferedComment.{BufferedCo
 use Rattle.ecma_lexer.specs.declared.comments_buffer.BufferedCommentKind.{BufferedCommentKind}
 use Rattle.ecma_lexer.specs.declared.comments_buffer.BufferedCommentKind.TheVariants.{Leading, Trailing}
 use Rattle.ecma_stdio.specs.Escaped.{escaped}
-use Rattle.ecma_lines.specs.Opening.{opening}
-use Rattle.ecma_reading.specs.declared.options.Options.{Options}
+use Rattle.ecma_lines.specs.Rereads.{session_behind}
+use Rattle.ecma_options.specs.declared.options.Options.{Options}
 
 abbrev pub side_name : BufferedCommentKind → List ℕ
 side_name Leading = codes "leading"
@@ -38,4 +38,4 @@ abbrev pub comments_from : Session → List ℕ
 comments_from s = comment_lines (comments_of s)
 
 abbrev pub comments_text : Options → List ℕ → List ℕ → Option (List ℕ)
-comments_text options rereads bytes = option_map comments_from (opening true options rereads bytes)
+comments_text options rereads bytes = option_map comments_from (session_behind true options rereads bytes)

@@ -7,8 +7,8 @@ use Rattle.ecma_lexer.specs.Ending.{errors_of, tokens_of}
 use Rattle.ecma_lexer.specs.Session.{Session}
 use Rattle.ecma_stdio.specs.Escaped.{escaped}
 use Rattle.ecma_lines.specs.MessageView.{view_message}
-use Rattle.ecma_lines.specs.Opening.{opening}
-use Rattle.ecma_reading.specs.declared.options.Options.{Options}
+use Rattle.ecma_lines.specs.Rereads.{session_behind}
+use Rattle.ecma_options.specs.declared.options.Options.{Options}
 
 -- what kind of error it is and where it lies, each with a space behind it
 abbrev pub error_head : List ℕ → Span → List ℕ
@@ -42,4 +42,4 @@ abbrev pub errors_from : Session → List ℕ
 errors_from s = flat_map token_lines (tokens_of s) ++ list_lines (errors_of s)
 
 abbrev pub errors_text : Options → List ℕ → List ℕ → Option (List ℕ)
-errors_text options rereads bytes = option_map errors_from (opening false options rereads bytes)
+errors_text options rereads bytes = option_map errors_from (session_behind false options rereads bytes)

@@ -7,5 +7,5 @@ pub mod Explanation
 pub mod Gathered
 pub mod Lines
 pub mod MessageView
-pub mod Opening
+pub mod Rereads
 pub mod Reply

@@ -7,8 +7,8 @@ use Rattle.ecma_token.specs.declared.kind.TokenKind.TheVariants as kind
 use Rattle.ecma_lexer.specs.declared.kept.Kept.{Kept}
 use Rattle.ecma_lexer.specs.Session.{Session, kept_of}
 use Rattle.ecma_lexer.specs.Ending.{tokens_of}
-use Rattle.ecma_reading.specs.declared.options.Options.{Options}
-use Rattle.ecma_lines.specs.Opening.{opening}
+use Rattle.ecma_options.specs.declared.options.Options.{Options}
+use Rattle.ecma_lines.specs.Rereads.{session_behind}
 use Rattle.ecma_stdio.specs.Escaped.{escaped}
 
 -- whether a line terminator stands before
@@ -79,4 +79,4 @@ tokens_from bytes s = lines bytes (map kept_of (tokens_of s))
 
 -- what is written of the tokens of a text, some of which are read again
 abbrev pub tokens_text : Options → List ℕ → List ℕ → Option (List ℕ)
-tokens_text options rereads bytes = option_map (tokens_from bytes) (opening false options rereads bytes)
+tokens_text options rereads bytes = option_map (tokens_from bytes) (session_behind false options rereads bytes)

@@ -2,7 +2,7 @@
 use Rattle.std.specs.Prelude.{ℕ, List, Option, Some, None, Result, Ok, Err}
 use Rattle.ecma_lines.specs.declared.command.Command.{Command}
 use Rattle.ecma_lines.specs.declared.command.Command.TheVariants.{Tokens, Errors, Comments, Canon, Classes}
-use Rattle.ecma_reading.specs.declared.options.Options.{Options}
+use Rattle.ecma_options.specs.declared.options.Options.{Options}
 use Rattle.ecma_stdio.specs.declared.fault.Fault.{Fault}
 use Rattle.ecma_stdio.specs.declared.fault.Fault.TheVariants.{BadWords}
 use Rattle.ecma_stdio.specs.Faults.{text_reply}
@@ -12,7 +12,7 @@ use Rattle.ecma_lines.specs.Command.{Asked, request_of}
 use Rattle.ecma_lines.specs.CommentLines.{comments_text}
 use Rattle.ecma_lines.specs.ErrorLines.{errors_text}
 use Rattle.ecma_lines.specs.Lines.{tokens_text}
-use Rattle.ecma_lines.specs.Opening.{unless_no_slash}
+use Rattle.ecma_lines.specs.Rereads.{unless_no_slash}
 
 -- what is written for a text, or what is wrong with it
 abbrev pub command_text : Command → Options → List ℕ → List ℕ → Result (List ℕ) Fault

@@ -4,15 +4,15 @@ ghost use Rattle.std.specs.List.{list_all};
 ghost use Rattle.ecma_lexer.specs.Session.{lexer_state};
 ghost use Rattle.ecma_lexer.specs.State as state;
 ghost use Rattle.ecma_lexer.specs.TokenAt.{is_empty};
-ghost use Rattle.ecma_lines.specs.CanonText as grammar;
+ghost use Rattle.ecma_lines.specs.CanonText as canons;
 ghost use Rattle.ecma_lines.specs.CanonText.{KeepsCleanly, unless_too_long};
-ghost use Rattle.ecma_lines.specs.Opening.{Fails};
+ghost use Rattle.ecma_lines.specs.Rereads.{Fails};
 
 use crate::kept_tokens::keep_tokens;
-use crate::opening::open;
+use crate::rereads::open;
 use ecma_lexer::{Kept, Lexer, Tokens, canonical_text};
+use ecma_options::Options;
 use ecma_place::{BytePos, StringInput};
-use ecma_reading::Options;
 use ecma_stdio::Fault;
 use ecma_token::TokenKind;
 use std::alloc::Global;
@@ -46,7 +46,7 @@ fn clean_tokens(
     requires { length text.now < 2 ^ 32 }
     ensures { MatchResult result
         (λ kept. KeepsCleanly options rereads.now text.now kept.items)
-        (λ fault. Fails (grammar.canon_text options rereads.now text.now) fault) }
+        (λ fault. Fails (canons.canon_text options rereads.now text.now) fault) }
 {
     let mut opened = open(alloc, false, options, rereads, text)?;
     let kept = keep_tokens(alloc, &mut opened)?;
@@ -85,8 +85,8 @@ pub fn canon_text(
 ) -> Result<Vec<u8>, Fault>
     requires { length text.now < 2 ^ 32 }
     ensures { MatchResult result
-        (λ out. grammar.canon_text options rereads.now text.now ≡ Ok out.items)
-        (λ fault. Fails (grammar.canon_text options rereads.now text.now) fault) }
+        (λ out. canons.canon_text options rereads.now text.now ≡ Ok out.items)
+        (λ fault. Fails (canons.canon_text options rereads.now text.now) fault) }
 {
     let kept = clean_tokens(alloc, options, rereads, text)?;
     fitting(canonical_text(alloc, text, BytePos(0), &kept)?)

@@ -1,19 +1,19 @@
 //! What is written of the pieces that cover a text: a line each.
 ghost use Rattle.std.specs.Prelude.{◌≡◌, ◌++◌, ◌^◌, ◌<◌, Some, length, string_bytes, IfOk, MatchResult, OnOk};
-ghost use Rattle.ecma_lines.specs.ClassLines as grammar;
-ghost use Rattle.ecma_lines.specs.Opening.{Lacks};
+ghost use Rattle.ecma_lines.specs.ClassLines as rows;
+ghost use Rattle.ecma_lines.specs.Rereads.{Lacks};
 
 use crate::comments::take_comments;
 use crate::kept_tokens::keep_tokens;
-use crate::opening::open;
+use crate::rereads::open;
 use ecma_lexer::{Class, Piece, classes};
+use ecma_options::Options;
 use ecma_place::BytePos;
-use ecma_reading::Options;
 use ecma_stdio::Fault;
 use std::alloc::{AllocError, Global};
 
 fn class_name(class: Class) -> &'static str
-    ensures { result.now ≡ grammar.class_name class }
+    ensures { result.now ≡ rows.class_name class }
 {
     match class {
         Class::Token => "token",
@@ -24,7 +24,7 @@ fn class_name(class: Class) -> &'static str
 
 /// The line of a piece: where it begins and ends, and its class.
 fn line(alloc: Global, piece: Piece) -> Result<String, AllocError>
-    ensures { IfOk result (λ text. string_bytes text ≡ grammar.piece_line piece) }
+    ensures { IfOk result (λ text. string_bytes text ≡ rows.piece_line piece) }
 {
     let lo = piece.span.lo.0;
     let hi = piece.span.hi.0;
@@ -34,7 +34,7 @@ fn line(alloc: Global, piece: Piece) -> Result<String, AllocError>
 
 /// Adds the lines of pieces, in order.
 fn push_pieces(alloc: Global, out: &mut Vec<u8>, pieces: &[Piece]) -> Result<(), AllocError>
-    ensures { OnOk result (out.new.items ≡ out.old.items ++ grammar.piece_lines pieces.now) }
+    ensures { OnOk result (out.new.items ≡ out.old.items ++ rows.piece_lines pieces.now) }
 {
     for piece in pieces {
         let line = line(alloc, *piece)?;
@@ -47,8 +47,8 @@ fn push_pieces(alloc: Global, out: &mut Vec<u8>, pieces: &[Piece]) -> Result<(),
 fn pieces(alloc: Global, options: Options, rereads: &[u64], text: &str) -> Result<Vec<Piece>, Fault>
     requires { length text.now < 2 ^ 32 }
     ensures { MatchResult result
-        (λ pieces. grammar.text_pieces options rereads.now text.now ≡ Some pieces.items)
-        (λ fault. Lacks (grammar.text_pieces options rereads.now text.now) fault) }
+        (λ pieces. rows.text_pieces options rereads.now text.now ≡ Some pieces.items)
+        (λ fault. Lacks (rows.text_pieces options rereads.now text.now) fault) }
 {
     let mut opened = open(alloc, true, options, rereads, text)?;
     let kept = keep_tokens(alloc, &mut opened)?;
@@ -69,8 +69,8 @@ pub fn classes_text(
 ) -> Result<Vec<u8>, Fault>
     requires { length text.now < 2 ^ 32 }
     ensures { MatchResult result
-        (λ out. grammar.classes_text options rereads.now text.now ≡ Some out.items)
-        (λ fault. Lacks (grammar.classes_text options rereads.now text.now) fault) }
+        (λ out. rows.classes_text options rereads.now text.now ≡ Some out.items)
+        (λ fault. Lacks (rows.classes_text options rereads.now text.now) fault) }
 {
     let pieces = pieces(alloc, options, rereads, text)?;
     let mut out = Vec::new(alloc);

@@ -1,8 +1,8 @@
 //! The words of the command line, and what they ask for.
 ghost use Rattle.std.specs.Prelude.{◌≡◌, ◌^◌, ◌<◌, true, Ok, MatchResult, is_some, length, map, option_map, string_bytes};
-ghost use Rattle.ecma_lines.specs.Command as grammar;
+ghost use Rattle.ecma_lines.specs.Command as commands;
 ghost use Rattle.ecma_lines.specs.Command.{named_command, request_of, request_view};
-ghost use Rattle.ecma_lines.specs.Opening.{Fails};
+ghost use Rattle.ecma_lines.specs.Rereads.{Fails};
 ghost use Rattle.ecma_lines.specs.Reply.{program_text};
 
 use crate::canon::canon_text;
@@ -11,7 +11,7 @@ use crate::comments::comments_text;
 use crate::errors::errors_text;
 use crate::lines::tokens_text;
 use crate::particulars::Particulars;
-use ecma_reading::Options;
+use ecma_options::Options;
 use ecma_stdio::Fault;
 use std::alloc::{AllocError, Global};
 
@@ -48,14 +48,14 @@ impl Command {
 
 /// The options, unless that which a word names was there before.
 fn once(options: Options, was_given: bool) -> Option<Options>
-    ensures { result ≡ grammar.once was_given options }
+    ensures { result ≡ commands.once was_given options }
 {
     if was_given { None } else { Some(options) }
 }
 
 /// The options with one more, which a word names, and which was not there before.
 pub fn with_option(options: Options, word: &str) -> Option<Options>
-    ensures { result ≡ grammar.with_option options word.now }
+    ensures { result ≡ commands.with_option options word.now }
 {
     let Options {
         typescript,

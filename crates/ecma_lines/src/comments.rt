@@ -4,13 +4,13 @@ ghost use Rattle.ecma_lexer.specs.Ending.{comments_of};
 ghost use Rattle.ecma_lexer.specs.HandOver.{has_comments};
 ghost use Rattle.ecma_lexer.specs.Run.{reading_of, state_behind};
 ghost use Rattle.ecma_lexer.specs.Session.{Session, lexer_state, state_of};
-ghost use Rattle.ecma_lines.specs.CommentLines as grammar;
-ghost use Rattle.ecma_lines.specs.Opening.{Lacks};
+ghost use Rattle.ecma_lines.specs.CommentLines as rows;
+ghost use Rattle.ecma_lines.specs.Rereads.{Lacks};
 
-use crate::opening::open;
+use crate::rereads::open;
 use ecma_lexer::{BufferedComment, BufferedCommentKind, Lexer, hand_comments};
+use ecma_options::{Options, pass_next};
 use ecma_place::{BytePos, Comment, CommentKind, Comments};
-use ecma_reading::{Options, pass_next};
 use ecma_stdio::{Fault, push_escaped};
 use std::alloc::{AllocError, Global};
 
@@ -71,7 +71,7 @@ pub fn take_comments<'a>(
 }
 
 fn side_name(kind: BufferedCommentKind) -> &'static str
-    ensures { result.now ≡ grammar.side_name kind }
+    ensures { result.now ≡ rows.side_name kind }
 {
     match kind {
         BufferedCommentKind::Leading => "leading",
@@ -80,7 +80,7 @@ fn side_name(kind: BufferedCommentKind) -> &'static str
 }
 
 fn form_name(kind: CommentKind) -> &'static str
-    ensures { result.now ≡ grammar.form_name kind }
+    ensures { result.now ≡ rows.form_name kind }
 {
     match kind {
         CommentKind::Line => "line",
@@ -90,7 +90,7 @@ fn form_name(kind: CommentKind) -> &'static str
 
 /// Its side, the place of its token, where it lies and its form, each with a space behind it.
 fn head(alloc: Global, buffered: &BufferedComment) -> Result<String, AllocError>
-    ensures { IfOk result (λ text. string_bytes text ≡ grammar.comment_head buffered.now) }
+    ensures { IfOk result (λ text. string_bytes text ≡ rows.comment_head buffered.now) }
 {
     let side = side_name(buffered.kind);
     let pos = buffered.pos.0;
@@ -106,7 +106,7 @@ fn push_comment(
     out: &mut Vec<u8>,
     buffered: &BufferedComment,
 ) -> Result<(), AllocError>
-    ensures { OnOk result (out.new.items ≡ out.old.items ++ grammar.comment_line buffered.now) }
+    ensures { OnOk result (out.new.items ≡ out.old.items ++ rows.comment_line buffered.now) }
 {
     let head = head(alloc, buffered)?;
     out.extend_from_slice(head.as_bytes())?;
@@ -121,7 +121,7 @@ fn push_comments(
     out: &mut Vec<u8>,
     comments: &[BufferedComment],
 ) -> Result<(), AllocError>
-    ensures { OnOk result (out.new.items ≡ out.old.items ++ grammar.comment_lines comments.now) }
+    ensures { OnOk result (out.new.items ≡ out.old.items ++ rows.comment_lines comments.now) }
 {
     for comment in comments {
         push_comment(alloc, out, comment)?;
@@ -152,8 +152,8 @@ pub fn comments_text(
 ) -> Result<Vec<u8>, Fault>
     requires { length text.now < 2 ^ 32 }
     ensures { MatchResult result
-        (λ out. grammar.comments_text options rereads.now text.now ≡ Some out.items)
-        (λ fault. Lacks (grammar.comments_text options rereads.now text.now) fault) }
+        (λ out. rows.comments_text options rereads.now text.now ≡ Some out.items)
+        (λ fault. Lacks (rows.comments_text options rereads.now text.now) fault) }
 {
     let mut lexer = open(alloc, true, options, rereads, text)?.lexer;
     read_out(&mut lexer)?;

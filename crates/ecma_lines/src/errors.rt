@@ -4,14 +4,14 @@ ghost use Rattle.std.specs.Cow.{cow_str_bytes};
 ghost use Rattle.ecma_token.specs.View.{error_view, kind_view, spanned_view, token_view};
 ghost use Rattle.ecma_lexer.specs.Run.{reading_of, state_behind};
 ghost use Rattle.ecma_lexer.specs.Session.{lexer_state};
-ghost use Rattle.ecma_lines.specs.ErrorLines as grammar;
+ghost use Rattle.ecma_lines.specs.ErrorLines as rows;
 ghost use Rattle.ecma_lines.specs.MessageView.{view_message};
-ghost use Rattle.ecma_lines.specs.Opening.{Lacks};
+ghost use Rattle.ecma_lines.specs.Rereads.{Lacks};
 
-use crate::opening::{Opened, open};
+use crate::rereads::{Reread, open};
 use ecma_lexer::{Lexer, Tokens};
+use ecma_options::Options;
 use ecma_place::{Span, Spanned};
-use ecma_reading::Options;
 use ecma_stdio::{Fault, push_escaped};
 use ecma_token::{Error, SyntaxError, Token, TokenAndSpan};
 use std::alloc::{AllocError, Global};
@@ -19,7 +19,7 @@ use std::borrow::CowStr;
 
 /// What kind of error it is and where it lies, each with a space behind it.
 fn head(alloc: Global, what: &str, span: Span) -> Result<String, AllocError>
-    ensures { IfOk result (λ text. string_bytes text ≡ grammar.error_head what.now span) }
+    ensures { IfOk result (λ text. string_bytes text ≡ rows.error_head what.now span) }
 {
     let lo = span.lo.0;
     let hi = span.hi.0;
@@ -36,7 +36,7 @@ fn message(alloc: Global, kind: &SyntaxError) -> Result<CowStr<'static>, AllocEr
 
 /// Adds the line of an error.
 fn push_error(alloc: Global, out: &mut Vec<u8>, what: &str, error: &Error) -> Result<(), AllocError>
-    ensures { OnOk result (out.new.items ≡ out.old.items ++ grammar.error_line what.now (error_view error.now)) }
+    ensures { OnOk result (out.new.items ≡ out.old.items ++ rows.error_line what.now (error_view error.now)) }
 {
     let head = head(alloc, what, error.span())?;
     let message = message(alloc, error.kind())?;
@@ -53,7 +53,7 @@ fn push_errors(
     what: &str,
     errors: &[Error],
 ) -> Result<(), AllocError>
-    ensures { OnOk result (out.new.items ≡ out.old.items ++ grammar.error_lines what.now (map error_view errors.now)) }
+    ensures { OnOk result (out.new.items ≡ out.old.items ++ rows.error_lines what.now (map error_view errors.now)) }
 {
     for error in errors {
         push_error(alloc, out, what, error)?;
@@ -63,7 +63,7 @@ fn push_errors(
 
 /// Adds the line of the error of a token that is one.
 fn push_refusal(alloc: Global, out: &mut Vec<u8>, token: &Token) -> Result<(), AllocError>
-    ensures { OnOk result (out.new.items ≡ out.old.items ++ grammar.error_lines (codes "token") (grammar.refusal_of (token_view token.now))) }
+    ensures { OnOk result (out.new.items ≡ out.old.items ++ rows.error_lines (codes "token") (rows.refusal_of (token_view token.now))) }
 {
     match token {
         Token::Error(error) => push_error(alloc, out, "token", error),
@@ -74,7 +74,7 @@ fn push_refusal(alloc: Global, out: &mut Vec<u8>, token: &Token) -> Result<(), A
 /// Reads the next token, adds the line of its error where it is one, and says whether there was a token.
 fn push_next(alloc: Global, out: &mut Vec<u8>, lexer: &mut Lexer) -> Result<bool, AllocError>
     ensures more { IfOk result (λ more. more ≡ is_some (reading_of (lexer_state lexer.old)).found) }
-    ensures lines { OnOk result (out.new.items ≡ out.old.items ++ grammar.found_lines (reading_of (lexer_state lexer.old)).found) }
+    ensures lines { OnOk result (out.new.items ≡ out.old.items ++ rows.found_lines (reading_of (lexer_state lexer.old)).found) }
     ensures after { OnOk result (lexer_state lexer.new ≡ state_behind (lexer_state lexer.old) (reading_of (lexer_state lexer.old))) }
 {
     match lexer.read()? {
@@ -88,7 +88,7 @@ fn push_next(alloc: Global, out: &mut Vec<u8>, lexer: &mut Lexer) -> Result<bool
 
 /// Adds the lines of the errors that were recorded, and of those that wait.
 fn push_lists(alloc: Global, out: &mut Vec<u8>, lexer: &mut Lexer) -> Result<(), AllocError>
-    ensures { OnOk result (out.new.items ≡ out.old.items ++ grammar.list_lines (lexer_state lexer.old).errors) }
+    ensures { OnOk result (out.new.items ≡ out.old.items ++ rows.list_lines (lexer_state lexer.old).errors) }
 {
     let recorded = lexer.take_errors();
     push_errors(alloc, out, "recorded", recorded.as_slice())?;
@@ -101,7 +101,7 @@ fn push_refusals(
     out: &mut Vec<u8>,
     tokens: &[TokenAndSpan],
 ) -> Result<(), AllocError>
-    ensures { OnOk result (out.new.items ≡ out.old.items ++ flat_map grammar.token_lines (map spanned_view tokens.now)) }
+    ensures { OnOk result (out.new.items ≡ out.old.items ++ flat_map rows.token_lines (map spanned_view tokens.now)) }
 {
     for token in tokens {
         push_refusal(alloc, out, &token.token)?;
@@ -122,10 +122,10 @@ pub fn errors_text(
 ) -> Result<Vec<u8>, Fault>
     requires { length text.now < 2 ^ 32 }
     ensures { MatchResult result
-        (λ out. grammar.errors_text options rereads.now text.now ≡ Some out.items)
-        (λ fault. Lacks (grammar.errors_text options rereads.now text.now) fault) }
+        (λ out. rows.errors_text options rereads.now text.now ≡ Some out.items)
+        (λ fault. Lacks (rows.errors_text options rereads.now text.now) fault) }
 {
-    let Opened { mut lexer, tokens } = open(alloc, false, options, rereads, text)?;
+    let Reread { mut lexer, tokens } = open(alloc, false, options, rereads, text)?;
     let mut out = Vec::new(alloc);
     push_refusals(alloc, &mut out, &tokens)?;
     'tokens: while push_next(alloc, &mut out, &mut lexer)? {}

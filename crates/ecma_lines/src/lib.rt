@@ -9,9 +9,9 @@ pub mod comments;
 mod errors;
 mod kept_tokens;
 mod lines;
-mod opening;
 mod particulars;
 pub mod program;
+mod rereads;
 mod standard_error;
 
 pub use program::run;

@@ -3,19 +3,19 @@ ghost use Rattle.std.specs.Prelude.{◌≡◌, ◌++◌, ◌+◌, ◌^◌, ◌<�
 ghost use Rattle.ecma_lexer.specs.Run.{reading_of, state_behind};
 ghost use Rattle.ecma_lexer.specs.Session.{kept_of, lexer_state};
 ghost use Rattle.ecma_token.specs.View.{spanned_view};
-ghost use Rattle.ecma_lines.specs.Lines as grammar;
-ghost use Rattle.ecma_lines.specs.Opening.{AllWithin, Lacks};
+ghost use Rattle.ecma_lines.specs.Lines as rows;
+ghost use Rattle.ecma_lines.specs.Rereads.{AllWithin, Lacks};
 
-use crate::opening::{Opened, open};
+use crate::rereads::{Reread, open};
 use ecma_lexer::{Kept, Lexer};
-use ecma_reading::Options;
+use ecma_options::Options;
 use ecma_stdio::{Fault, push_escaped};
 use ecma_syntax::WordKind;
 use ecma_token::{TokenAndSpan, TokenKind};
 use std::alloc::{AllocError, Global};
 
 fn word_name(kind: WordKind) -> &'static str
-    ensures { result.now ≡ grammar.word_name kind }
+    ensures { result.now ≡ rows.word_name kind }
 {
     match kind {
         WordKind::Keyword(_) => "Keyword",
@@ -28,7 +28,7 @@ fn word_name(kind: WordKind) -> &'static str
 
 /// The name of the variant; of a word, that of its kind.
 fn kind_name(kind: TokenKind) -> &'static str
-    ensures { result.now ≡ grammar.kind_name kind }
+    ensures { result.now ≡ rows.kind_name kind }
 {
     match kind {
         TokenKind::Word(word) => word_name(word),
@@ -70,14 +70,14 @@ fn kind_name(kind: TokenKind) -> &'static str
 }
 
 fn flag_text(flag: bool) -> &'static str
-    ensures { result.now ≡ grammar.flag_text flag }
+    ensures { result.now ≡ rows.flag_text flag }
 {
     if flag { "lf" } else { "-" }
 }
 
 /// Where the token begins and ends, its flag and its kind, each with a space behind it.
 fn head(alloc: Global, token: Kept) -> Result<String, AllocError>
-    ensures { IfOk result (λ text. string_bytes text ≡ grammar.head token) }
+    ensures { IfOk result (λ text. string_bytes text ≡ rows.head token) }
 {
     let lo = token.span.lo.0;
     let hi = token.span.hi.0;
@@ -90,7 +90,7 @@ fn head(alloc: Global, token: Kept) -> Result<String, AllocError>
 fn push_line(alloc: Global, out: &mut Vec<u8>, bytes: &[u8], token: Kept) -> Result<(), AllocError>
     requires in_order { token.span.lo.0 ≤ token.span.hi.0 }
     requires within { token.span.hi.0 ≤ length bytes.now }
-    ensures { OnOk result (out.new.items ≡ out.old.items ++ grammar.line bytes.now token) }
+    ensures { OnOk result (out.new.items ≡ out.old.items ++ rows.line bytes.now token) }
 {
     let head = head(alloc, token)?;
     out.extend_from_slice(head.as_bytes())?;
@@ -121,7 +121,7 @@ fn push_lines(
     tokens: &[TokenAndSpan],
 ) -> Result<(), AllocError>
     requires { AllWithin (length bytes.now) (map spanned_view tokens.now) }
-    ensures { OnOk result (out.new.items ≡ out.old.items ++ grammar.lines bytes.now (map kept_of (map spanned_view tokens.now))) }
+    ensures { OnOk result (out.new.items ≡ out.old.items ++ rows.lines bytes.now (map kept_of (map spanned_view tokens.now))) }
 {
     for token in tokens {
         push_line(alloc, out, bytes, Kept::of(token))?;
@@ -142,10 +142,10 @@ pub fn tokens_text(
 ) -> Result<Vec<u8>, Fault>
     requires { length text.now < 2 ^ 32 }
     ensures { MatchResult result
-        (λ out. grammar.tokens_text options rereads.now text.now ≡ Some out.items)
-        (λ fault. Lacks (grammar.tokens_text options rereads.now text.now) fault) }
+        (λ out. rows.tokens_text options rereads.now text.now ≡ Some out.items)
+        (λ fault. Lacks (rows.tokens_text options rereads.now text.now) fault) }
 {
-    let Opened { mut lexer, tokens } = open(alloc, false, options, rereads, text)?;
+    let Reread { mut lexer, tokens } = open(alloc, false, options, rereads, text)?;
     let mut out = Vec::new(alloc);
     push_lines(alloc, &mut out, text.as_bytes(), &tokens)?;
     'tokens: while let Some(token) = next_kept(&mut lexer)? {

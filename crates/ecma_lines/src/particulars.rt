@@ -1,11 +1,11 @@
 //! The words behind a command, and what they ask for.
 ghost use Rattle.std.specs.Prelude.{◌≡◌, false, None, Some, MatchOption, MatchResult, map, string_bytes};
-ghost use Rattle.ecma_lines.specs.Command as grammar;
+ghost use Rattle.ecma_lines.specs.Command as commands;
 ghost use Rattle.ecma_lines.specs.Command.{behind, no_particulars, request_view, with_number, with_word};
 ghost use Rattle.ecma_lines.specs.Gathered.{Follows, Holds};
 
 use crate::command::{Command, Request, with_option};
-use ecma_reading::Options;
+use ecma_options::Options;
 use ecma_stdio::number;
 use std::alloc::{AllocError, Global};
 
@@ -38,7 +38,7 @@ impl Particulars {
 
     /// Adds the number of a token, unless it is not greater than the one before; whether it is.
     fn add(&mut self, number: u64) -> bool
-        ensures { (p : grammar.Particulars) → Holds p self.old → Follows (with_number p (Some number)) result self.new }
+        ensures { (p : commands.Particulars) → Holds p self.old → Follows (with_number p (Some number)) result self.new }
     {
         if number <= self.last {
             return false;
@@ -51,7 +51,7 @@ impl Particulars {
 
     /// Takes in one more word; whether it is good.
     fn take(&mut self, word: &str) -> bool
-        ensures { (p : grammar.Particulars) → Holds p self.old → Follows (with_word p word.now) result self.new }
+        ensures { (p : commands.Particulars) → Holds p self.old → Follows (with_word p word.now) result self.new }
     {
         if self.awaits_number {
             return match number(word) {
@@ -76,7 +76,7 @@ impl Particulars {
     pub fn from_words(alloc: Global, words: &[String]) -> Option<Particulars>
         ensures { MatchOption result
             (behind (Some no_particulars) (map string_bytes words.now) ≡ None)
-            (λ g. (p : grammar.Particulars) × (behind (Some no_particulars) (map string_bytes words.now) ≡ Some p) × Holds p g) }
+            (λ g. (p : commands.Particulars) × (behind (Some no_particulars) (map string_bytes words.now) ≡ Some p) × Holds p g) }
     {
         let mut particulars = Particulars::new(alloc);
         for word in words {
@@ -96,7 +96,7 @@ impl Particulars {
     ///
     /// `AllocError` where there was no memory for the numbers.
     pub fn with_command(self, command: Command) -> Result<Request, AllocError>
-        ensures { (p : grammar.Particulars) → Holds p self → MatchResult result (λ request. request_view request ≡ grammar.of_particulars command p) (λ _. self.holds_all ≡ false) }
+        ensures { (p : commands.Particulars) → Holds p self → MatchResult result (λ request. request_view request ≡ commands.of_particulars command p) (λ _. self.holds_all ≡ false) }
     {
         if self.holds_all {
             Ok(Request {

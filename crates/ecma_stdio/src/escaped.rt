@@ -1,12 +1,12 @@
 //! Bytes written so that they stand in one line.
 ghost use Rattle.std.specs.Prelude.{◌≡◌, ◌++◌, OnOk};
-ghost use Rattle.ecma_stdio.specs.Escaped as grammar;
+ghost use Rattle.ecma_stdio.specs.Escaped as escapes;
 
 use std::alloc::AllocError;
 
 /// Adds the byte, with a backslash where it is one, a line feed or a carriage return.
 fn push_escaped_byte(out: &mut Vec<u8>, byte: u8) -> Result<(), AllocError>
-    ensures { OnOk result (out.new.items ≡ out.old.items ++ grammar.escaped_byte byte) }
+    ensures { OnOk result (out.new.items ≡ out.old.items ++ escapes.escaped_byte byte) }
 {
     match byte {
         b'\\' => out.extend_from_slice(b"\\\\"),
@@ -23,7 +23,7 @@ fn push_escaped_byte(out: &mut Vec<u8>, byte: u8) -> Result<(), AllocError>
 ///
 /// `AllocError` where there is no memory.
 pub fn push_escaped(out: &mut Vec<u8>, bytes: &[u8]) -> Result<(), AllocError>
-    ensures { OnOk result (out.new.items ≡ out.old.items ++ grammar.escaped bytes.now) }
+    ensures { OnOk result (out.new.items ≡ out.old.items ++ escapes.escaped bytes.now) }
 {
     for byte in bytes {
         push_escaped_byte(out, *byte)?;

@@ -1,7 +1,7 @@
 //! Rows of the program, and readers and writers that fail in the middle.
 use ecma_lines::comments::comments_text;
 use ecma_lines::{explanation, run};
-use ecma_reading::Options;
+use ecma_options::Options;
 use ecma_stdio::{Halt, arguments, read_all, words};
 use std::alloc::Global;
 use std::env::{Env, FillError};
@@ -152,6 +152,15 @@ fn assert_run(
     assert_eq!(rt; writer.as_slice(), output);
 }
 
+/// Words as a command line gives them.
+pub fn given(alloc: Global, words: &[&str]) -> Result<Vec<String>, Fail> {
+    let mut given = Vec::new(alloc);
+    for word in words {
+        given.push(String::from_str(alloc, word)?)?;
+    }
+    Ok(given)
+}
+
 /// Runs over memory, and asserts what the words of the command line and an input give.
 fn assert_words(
     rt: &impl Abort,
@@ -161,11 +170,8 @@ fn assert_words(
     status: u8,
     output: &[u8],
 ) -> Result<(), Fail> {
-    let mut given = Vec::new(alloc);
-    for word in words {
-        given.push(String::from_str(alloc, word)?)?;
-    }
-    assert_run(rt, alloc, given.as_slice(), input, status, output);
+    let words = given(alloc, words)?;
+    assert_run(rt, alloc, words.as_slice(), input, status, output);
     Ok(())
 }
 
@@ -766,4 +772,17 @@ fn gathers_all_comments_or_is_refused(rt: HostRuntime) {
             b"trailing 1 2 7 block b\ntrailing 8 9 14 block c\n".as_slice()
         );
     }
+}
+
+#[test]
+fn explains_a_status(rt: HostRuntime) {
+    assert_eq!(&rt;
+        explanation(1),
+        b"ecma_lex: a read or a write failed\n".as_slice()
+    );
+    let words = explanation(2);
+    assert!(&rt; words.starts_with(b"ecma_lex: the words are tokens,") && words.ends_with(b"\n"));
+    assert!(&rt;
+        explanation(0).is_empty() && explanation(3).is_empty() && explanation(5).is_empty()
+    );
 }

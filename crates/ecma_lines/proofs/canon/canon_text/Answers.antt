@@ -3,7 +3,7 @@ use Rattle.std.specs.List.{All}
 use Rattle.std.specs.Prelude.{encode_utf8_all}
 use Rattle.ecma_lexer.specs.Canonical.{canonical_of, own_in}
 use Rattle.ecma_lexer.specs.Joined.{StandsIn}
-use Rattle.ecma_reading.specs.Begin.{whole}
+use Rattle.ecma_options.specs.Begin.{whole}
 use Rattle.ecma_lines.proofs.Keeping.{fits-canon, kept-stand}
 use Rattle.ecma_lines.proofs.canon.canon_text.Goals as goal
 

@@ -1,4 +1,4 @@
-use Rattle.ecma_lines.proofs.Openings.{within-item}
+use Rattle.ecma_lines.proofs.RereadLemmas.{within-item}
 use Rattle.std.proofs.Common.{length}
 use Rattle.ecma_lines.proofs.lines.push_lines.Goals as goal
 

@@ -4,13 +4,13 @@ use Rattle.ecma_token.specs.View.{spanned_view}
 use Rattle.ecma_lexer.specs.Session.{kept_of, lexer_state}
 use Rattle.ecma_lexer.specs.Run.{reading_of}
 use Rattle.ecma_lines.specs.Lines.{line, lines}
-use Rattle.ecma_lines.proofs.Listing.{first-within, line_of, lines-end, lines-kept, listed-next, listed-plain, listed-start, no-kept, opening-standing, some-kept, token-less, token-within}
+use Rattle.ecma_lines.proofs.Listing.{first-within, line_of, lines-end, lines-kept, listed-next, listed-plain, listed-start, no-kept, session_behind-standing, some-kept, token-less, token-within}
 use Rattle.ecma_lines.proofs.lines.tokens_text.Goals as goal
 
 pub push_lines-requires : goal.push_lines-requires
 push_lines-requires c =
     let (s, opened, stands) = c.in_ok-lexer.ensures in
-    let standing = opening-standing false c.args.options c.args.rereads.now c.args.text.now s opened in
+    let standing = session_behind-standing false c.args.options c.args.rereads.now c.args.text.now s opened in
     rw (c.as_bytes.ensures.value, c.deref.ensures.value) (first-within c.args.text.now s c.in_ok-lexer.field-0 c.utf8.text standing stands)
 
 pub tokens-init : goal.tokens-init
@@ -27,14 +27,14 @@ pub push_line-requires-clause-in_order : goal.push_line-requires-clause-in_order
 push_line-requires-clause-in_order c =
     let at = some-kept (reading_of (lexer_state c.tokens.lexer)).found c.in-Some.token (sym c.in-Some.is ∙ c.in_ok-token.ensures.kept) in
     let so = c.tokens.invariant in
-    let standing = opening-standing false c.args.options c.args.rereads.now c.args.text.now so.session so.opened in
+    let standing = session_behind-standing false c.args.options c.args.rereads.now c.args.text.now so.session so.opened in
     rw (← at.2) (token-within c.args.text.now so.session c.utf8.text standing so.count (lexer_state c.tokens.lexer) so.state at.0 at.1).0
 
 pub push_line-requires-clause-within : goal.push_line-requires-clause-within
 push_line-requires-clause-within c =
     let at = some-kept (reading_of (lexer_state c.tokens.lexer)).found c.in-Some.token (sym c.in-Some.is ∙ c.in_ok-token.ensures.kept) in
     let so = c.tokens.invariant in
-    let standing = opening-standing false c.args.options c.args.rereads.now c.args.text.now so.session so.opened in
+    let standing = session_behind-standing false c.args.options c.args.rereads.now c.args.text.now so.session so.opened in
     rw (← at.2, c.as_bytes-in-Some.ensures.value) (token-within c.args.text.now so.session c.utf8.text standing so.count (lexer_state c.tokens.lexer) so.state at.0 at.1).1
 
 pub tokens-smaller : goal.tokens-smaller

@@ -1,0 +1,53 @@
+//! Where the reading of a text begins, and going on token by token.
+ghost use Rattle.std.specs.Prelude.{◌≡◌, ◌^◌, ◌<◌, IfOk, OnOk, is_some, length};
+ghost use Rattle.ecma_lexer.specs.Run.{reading_of, state_behind};
+ghost use Rattle.ecma_lexer.specs.Session.{lexer_state, state_of};
+ghost use Rattle.ecma_options.specs.Begin as starts;
+
+use crate::options::Options;
+use ecma_lexer::{Lexer, Settings, Tokens};
+use ecma_place::{BytePos, StringInput};
+use std::alloc::{AllocError, Global};
+
+/// The lexer of a text that starts at the place 0. `comments` says whether comments are collected.
+///
+/// The caller knows that the text has fewer than 2^32 bytes.
+///
+/// # Errors
+///
+/// `AllocError` where there is no memory.
+pub fn begin<'a>(
+    alloc: Global,
+    comments: bool,
+    options: Options,
+    text: &'a str,
+) -> Result<Lexer<'a>, AllocError>
+    requires { length text.now < 2 ^ 32 }
+    ensures { IfOk result (λ lexer. lexer_state lexer ≡ state_of (starts.begin comments options text.now)) }
+{
+    let Settings {
+        syntax,
+        target,
+        comments,
+        numbers,
+    } = options.settings(comments);
+    let input = StringInput::new(text, BytePos(0));
+    let mut lexer = Lexer::with_rule(alloc, syntax, target, input, comments, numbers);
+    if options.module || options.strict {
+        lexer.set_ctx(options.context())?;
+    }
+    Ok(lexer)
+}
+
+/// Reads the next token, and says whether there was one.
+///
+/// # Errors
+///
+/// `AllocError` where there is no memory; each later read answers the same.
+#[inline(always)]
+pub fn pass_next(lexer: &mut Lexer) -> Result<bool, AllocError>
+    ensures more { IfOk result (λ more. more ≡ is_some (reading_of (lexer_state lexer.old)).found) }
+    ensures after { OnOk result (lexer_state lexer.new ≡ state_behind (lexer_state lexer.old) (reading_of (lexer_state lexer.old))) }
+{
+    Ok(lexer.read()?.is_some())
+}
