@@ -1,80 +1,61 @@
 //! What is told of a text.
-ghost use Rattle.std.specs.Prelude.{◌<◌, ◌^◌, length};
+ghost use Rattle.std.specs.Prelude.{◌≡◌, ◌<◌, ◌^◌, length, true};
+ghost use Rattle.ecma_lexer.specs.Rereads.{is_in_order, rule_of};
 
-use crate::report::{Position, Report};
+use crate::report::{More, Report, Row};
 use crate::words::{Asked, Face};
-use ecma_html::{Class, html_text};
+use ecma_html::{Class, html_of_steps};
 use ecma_imports::{Form, Specifier, specifiers};
 use ecma_lexer::{
     Answer, BufferedComment, BufferedCommentKind, Canon, Class as PieceClass, Kept, Piece, Replay,
-    Settings, Step, canonical, classes_of_steps, replay, steps_by_flag,
+    Settings, Slashes, Step, ascend, canonical, classes_of_steps, count_rereads, replay, steps_by,
 };
-use ecma_place::{BytePos, CommentKind, Spanned};
-use ecma_syntax::{EsVersion, NumberRule};
+use ecma_place::{BytePos, CommentKind, Span, Spanned};
 use ecma_token::{Error, Token, TokenKind};
 use serde_json::json;
 use std::alloc::{AllocError, Global};
 
 const START: BytePos = BytePos(0);
 
-fn tell_token(
-    report: &mut Report,
-    kept: Kept,
-    previous: Option<TokenKind>,
-) -> Result<(), AllocError> {
-    let kind = match Class::of(kept.kind, previous) {
-        Some(class) => class.name(),
-        None => "punctuator",
-    };
-    let text = report.at(kept.span);
-    if !report.asked.json {
-        let note = if kept.flag { "lf " } else { "- " };
-        return report.push_line(kind, kept.span, note, text);
+/// The row of a token behind one of that kind or none.
+fn token_row<'a>(report: &Report<'a>, token: Kept, previous: Option<TokenKind>) -> Row<'a> {
+    Row {
+        kind: match Class::of(token.kind, previous) {
+            Some(class) => class.name(),
+            None => "punctuator",
+        },
+        span: token.span,
+        more: More::LineBreak(token.flag),
+        text: report.at(token.span),
     }
-    let Position { line, column } = report.position(kept.span.lo);
-    let lo = kept.span.lo.0;
-    let hi = kept.span.hi.0;
-    let flag = kept.flag;
-    let value = json!(in report.alloc; {
-        "file": report.name, "kind": kind, "lo": lo, "hi": hi, "line": line, "column": column,
-        "line_break_before": flag, "text": text
-    })?;
-    report.push_json(value)
 }
 
 fn tell_tokens(report: &mut Report, kept: &[Kept]) -> Result<(), AllocError> {
     let mut previous = None;
     for token in kept {
-        tell_token(report, *token, previous)?;
+        let row = token_row(report, *token, previous);
+        report.push_row(row)?;
         previous = Some(token.kind);
     }
     Ok(())
 }
 
 fn tell_comment(report: &mut Report, buffered: &BufferedComment) -> Result<(), AllocError> {
-    let side = match buffered.kind {
-        BufferedCommentKind::Leading => "leading",
-        BufferedCommentKind::Trailing => "trailing",
-    };
-    let kind = match buffered.comment.kind {
-        CommentKind::Line => "line",
-        CommentKind::Block => "block",
-    };
-    let span = buffered.comment.span;
-    let text = buffered.comment.text.as_str();
-    let token = buffered.pos.0;
-    if !report.asked.json {
-        let note = format!(in report.alloc; "{side} {token} ")?;
-        return report.push_line(kind, span, note.as_str(), text);
-    }
-    let Position { line, column } = report.position(span.lo);
-    let lo = span.lo.0;
-    let hi = span.hi.0;
-    let value = json!(in report.alloc; {
-        "file": report.name, "kind": kind, "lo": lo, "hi": hi, "line": line, "column": column,
-        "side": side, "token": token, "text": text
-    })?;
-    report.push_json(value)
+    report.push_row(Row {
+        kind: match buffered.comment.kind {
+            CommentKind::Line => "line",
+            CommentKind::Block => "block",
+        },
+        span: buffered.comment.span,
+        more: More::Beside {
+            side: match buffered.kind {
+                BufferedCommentKind::Leading => "leading",
+                BufferedCommentKind::Trailing => "trailing",
+            },
+            token: buffered.pos,
+        },
+        text: buffered.comment.text.as_str(),
+    })
 }
 
 fn tell_comments(report: &mut Report, comments: &[BufferedComment]) -> Result<(), AllocError> {
@@ -85,19 +66,13 @@ fn tell_comments(report: &mut Report, comments: &[BufferedComment]) -> Result<()
 }
 
 fn tell_error(report: &mut Report, kind: &str, error: &Error) -> Result<(), AllocError> {
-    let span = error.span();
     let message = error.kind().msg(report.alloc)?;
-    if !report.asked.json {
-        return report.push_line(kind, span, "", message.as_str());
-    }
-    let Position { line, column } = report.position(span.lo);
-    let lo = span.lo.0;
-    let hi = span.hi.0;
-    let value = json!(in report.alloc; {
-        "file": report.name, "kind": kind, "lo": lo, "hi": hi, "line": line, "column": column,
-        "text": message.as_str()
-    })?;
-    report.push_json(value)
+    report.push_row(Row {
+        kind,
+        span: error.span(),
+        more: More::Nothing,
+        text: message.as_str(),
+    })
 }
 
 /// Tells of an error in its own row, or as a fault of the file.
@@ -133,55 +108,36 @@ fn tell_waiting(report: &mut Report, waiting: &[Error]) -> Result<(), AllocError
     Ok(())
 }
 
-fn tell_piece(report: &mut Report, piece: Piece) -> Result<(), AllocError> {
-    let kind = match piece.class {
-        PieceClass::Token => "token",
-        PieceClass::Comment => "comment",
-        PieceClass::Trivia => "trivia",
-    };
-    let text = report.at(piece.span);
-    if !report.asked.json {
-        return report.push_line(kind, piece.span, "", text);
-    }
-    let Position { line, column } = report.position(piece.span.lo);
-    let lo = piece.span.lo.0;
-    let hi = piece.span.hi.0;
-    let value = json!(in report.alloc; {
-        "file": report.name, "kind": kind, "lo": lo, "hi": hi, "line": line, "column": column,
-        "text": text
-    })?;
-    report.push_json(value)
+/// Tells of what lies at a span of the text.
+fn tell_span(report: &mut Report, kind: &str, span: Span) -> Result<(), AllocError> {
+    let text = report.at(span);
+    report.push_row(Row {
+        kind,
+        span,
+        more: More::Nothing,
+        text,
+    })
 }
 
 fn tell_pieces(report: &mut Report, pieces: &[Piece]) -> Result<(), AllocError> {
     for piece in pieces {
-        tell_piece(report, *piece)?;
+        let kind = match piece.class {
+            PieceClass::Token => "token",
+            PieceClass::Comment => "comment",
+            PieceClass::Trivia => "trivia",
+        };
+        tell_span(report, kind, piece.span)?;
     }
     Ok(())
 }
 
-fn tell_specifier(report: &mut Report, specifier: Specifier) -> Result<(), AllocError> {
-    let kind = match specifier.form {
-        Form::Static => "static",
-        Form::Dynamic => "dynamic",
-    };
-    let text = report.at(specifier.span);
-    if !report.asked.json {
-        return report.push_line(kind, specifier.span, "", text);
-    }
-    let Position { line, column } = report.position(specifier.span.lo);
-    let lo = specifier.span.lo.0;
-    let hi = specifier.span.hi.0;
-    let value = json!(in report.alloc; {
-        "file": report.name, "kind": kind, "lo": lo, "hi": hi, "line": line, "column": column,
-        "text": text
-    })?;
-    report.push_json(value)
-}
-
 fn tell_specifiers(report: &mut Report, found: &[Specifier]) -> Result<(), AllocError> {
     for specifier in found {
-        tell_specifier(report, *specifier)?;
+        let kind = match specifier.form {
+            Form::Static => "static",
+            Form::Dynamic => "dynamic",
+        };
+        tell_span(report, kind, specifier.span)?;
     }
     Ok(())
 }
@@ -212,11 +168,15 @@ fn tell_canonical(
     }
 }
 
-fn tell_html(report: &mut Report, settings: &Settings, text: &str) -> Result<(), AllocError>
+fn tell_html(
+    report: &mut Report,
+    settings: &Settings,
+    text: &str,
+    steps: &[Step],
+) -> Result<(), AllocError>
     requires { length text.now < 2 ^ 32 }
 {
-    let context = report.asked.context();
-    let html = html_text(report.alloc, settings, context, text)?;
+    let html = html_of_steps(report.alloc, settings, text, steps)?;
     tell_whole(report, str::from_utf8(html.as_slice()).unwrap_or(""))
 }
 
@@ -238,7 +198,7 @@ fn tell_face(
             let pieces = classes_of_steps(report.alloc, settings, text, START, steps)?;
             tell_pieces(report, &pieces)
         }
-        Face::Html => tell_html(report, settings, text),
+        Face::Html => tell_html(report, settings, text, steps),
         Face::Imports => {
             let found = specifiers(report.alloc, played.kept.as_slice())?;
             tell_specifiers(report, &found)
@@ -246,23 +206,35 @@ fn tell_face(
     }
 }
 
-/// What is told of a text: its errors, and what was asked for.
+/// Which slashes begin regular expressions: those that are named, or where none is those by the lexer's flag.
+fn slashes_at(places: &[BytePos]) -> Slashes
+    ensures { is_in_order (rule_of result) ≡ true }
+{
+    if !places.is_empty() && ascend(places) {
+        Slashes::At(places)
+    } else {
+        Slashes::ByFlag
+    }
+}
+
+/// What is told of a text: its errors, and what was asked for. The slashes at these places begin regular expressions.
 pub fn tell<'a>(
     alloc: Global,
     asked: Asked,
+    places: &[BytePos],
     name: &'a str,
     text: &'a str,
 ) -> Result<Report<'a>, AllocError>
     requires { length text.now < 2 ^ 32 }
 {
-    let settings = Settings {
-        syntax: asked.syntax(),
-        target: EsVersion::default(),
-        comments: true,
-        numbers: NumberRule::default(),
-    };
+    let settings = asked.options.settings(true);
+    let context = asked.options.context();
     let mut report = Report::new(alloc, asked, name, text)?;
-    let steps = steps_by_flag(alloc, &settings, asked.context(), text, START)?;
+    let slashes = slashes_at(places);
+    let steps = steps_by(alloc, &settings, context, text, START, slashes)?;
+    if !places.is_empty() && count_rereads(&steps) != places.len() {
+        report.push_note("no slash at a place that --slash names")?;
+    }
     let played = replay(alloc, &settings, text, START, &steps)?;
     tell_faults(&mut report, &played)?;
     tell_face(&mut report, &settings, text, &steps, &played)?;

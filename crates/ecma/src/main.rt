@@ -8,7 +8,9 @@ mod words;
 
 use crate::faces::tell;
 use crate::source::{Failure, read_file, read_from, text_in};
-use crate::words::{Asked, command};
+use crate::words::{Asked, command, slash_places};
+use clap::ArgMatches;
+use ecma_place::BytePos;
 use ecma_stdio::{arguments, exit_code, exit_without_words, send};
 use std::alloc::Global;
 use std::io::Write;
@@ -33,6 +35,7 @@ fn refuse<E: Write>(alloc: Global, faults: &mut E, name: &str, failure: Failure)
 fn tell_of<W: Write, E: Write>(
     alloc: Global,
     asked: Asked,
+    places: &[BytePos],
     name: &str,
     bytes: &[u8],
     writer: &mut W,
@@ -42,7 +45,7 @@ fn tell_of<W: Write, E: Write>(
         Ok(text) => text,
         Err(failure) => return refuse(alloc, faults, name, failure),
     };
-    match tell(alloc, asked, name, text) {
+    match tell(alloc, asked, places, name, text) {
         Ok(told) => {
             let status = if told.is_faulty { FAULTY } else { 0 };
             let sent = send(writer, status, told.out.as_slice());
@@ -53,12 +56,13 @@ fn tell_of<W: Write, E: Write>(
 }
 
 /// Tells of standard input.
-fn tell_input(rt: &HostRuntime, asked: Asked) -> u8 {
+fn tell_input(rt: &HostRuntime, asked: Asked, places: &[BytePos]) -> u8 {
     let alloc = rt.alloc();
     match read_from(alloc, &mut rt.stdin()) {
         Ok(bytes) => tell_of(
             alloc,
             asked,
+            places,
             "-",
             bytes.as_slice(),
             &mut rt.stdout(),
@@ -69,12 +73,13 @@ fn tell_input(rt: &HostRuntime, asked: Asked) -> u8 {
 }
 
 /// Tells of a file.
-fn tell_file(rt: &HostRuntime, asked: Asked, name: &str) -> u8 {
+fn tell_file(rt: &HostRuntime, asked: Asked, places: &[BytePos], name: &str) -> u8 {
     let alloc = rt.alloc();
     match read_file(rt, alloc, name) {
         Ok(bytes) => tell_of(
             alloc,
             asked.for_file(name),
+            places,
             name,
             bytes.as_slice(),
             &mut rt.stdout(),
@@ -85,15 +90,32 @@ fn tell_file(rt: &HostRuntime, asked: Asked, name: &str) -> u8 {
 }
 
 /// Tells of each file, or of standard input where there is none.
-fn tell_all(rt: &HostRuntime, asked: Asked, files: &[&str]) -> u8 {
+fn tell_all(rt: &HostRuntime, asked: Asked, places: &[BytePos], files: &[&str]) -> u8 {
     if files.is_empty() {
-        return tell_input(rt, asked);
+        return tell_input(rt, asked, places);
     }
     let mut status = 0;
     for file in files {
-        status = tell_file(rt, asked, file).max(status);
+        status = tell_file(rt, asked, places, file).max(status);
     }
     status
+}
+
+/// Does what a subcommand asks for, with the words behind it.
+fn run_subcommand(rt: &HostRuntime, subcommand: &str, matches: &ArgMatches) -> u8 {
+    let files = matches.get_strs("files").unwrap_or(&[]);
+    match slash_places(rt.alloc(), matches) {
+        Ok(Some(places)) => tell_all(rt, Asked::of(subcommand, matches), &places, files),
+        Ok(None) => {
+            send(
+                &mut rt.stderr(),
+                BAD_WORDS,
+                b"ecma: --slash takes a byte place\n",
+            )
+            .max(BAD_WORDS)
+        }
+        Err(_) => FAULTY,
+    }
 }
 
 /// Parses the words, and does what they ask for.
@@ -102,11 +124,10 @@ fn run(rt: &HostRuntime, words: &[String]) -> u8 {
         return FAULTY;
     };
     match command.try_get_matches_from(words) {
-        Ok(matches) => tell_all(
-            rt,
-            Asked::of(&matches),
-            matches.get_strs("files").unwrap_or(&[]),
-        ),
+        Ok(matches) => match matches.subcommand() {
+            Some((name, behind)) => run_subcommand(rt, name, behind),
+            None => BAD_WORDS,
+        },
         Err(error) => {
             let _printed = error.print(rt);
             if error.use_stderr() { BAD_WORDS } else { 0 }

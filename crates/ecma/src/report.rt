@@ -2,8 +2,9 @@
 
 use crate::words::Asked;
 use ecma_place::{BytePos, Span};
+use ecma_stdio::push_escaped;
 use ecma_token::SyntaxError;
-use serde_json::Value;
+use serde_json::{Value, json};
 use std::alloc::{AllocError, Global};
 
 /// A line and a column, both from 1. A column counts bytes.
@@ -11,6 +12,25 @@ use std::alloc::{AllocError, Global};
 pub struct Position {
     pub line: usize,
     pub column: u32,
+}
+
+/// What is told of a part of a text besides what all rows have.
+#[derive(Clone, Copy, Debug, PartialEq, Eq)]
+pub enum More {
+    Nothing,
+    /// Of a token: whether a line terminator, or nothing, stands before it.
+    LineBreak(bool),
+    /// Of a comment: on which side of its token it stands, and the token's place.
+    Beside { side: &'static str, token: BytePos },
+}
+
+/// What is told of a part of a text.
+#[derive(Clone, Copy)]
+pub struct Row<'r> {
+    pub kind: &'r str,
+    pub span: Span,
+    pub more: More,
+    pub text: &'r str,
 }
 
 /// What is written of one text.
@@ -39,19 +59,6 @@ fn line_starts(alloc: Global, text: &str) -> Result<Vec<u32>, AllocError> {
         }
     }
     Ok(starts)
-}
-
-/// Adds the text, with a backslash for each backslash, line feed and carriage return, so that it stands in one line.
-fn push_escaped(out: &mut Vec<u8>, text: &str) -> Result<(), AllocError> {
-    for byte in text.as_bytes() {
-        match *byte {
-            b'\\' => out.extend_from_slice(b"\\\\")?,
-            b'\n' => out.extend_from_slice(b"\\n")?,
-            b'\r' => out.extend_from_slice(b"\\r")?,
-            other => out.push(other)?,
-        }
-    }
-    Ok(())
 }
 
 impl<'a> Report<'a> {
@@ -104,26 +111,74 @@ impl<'a> Report<'a> {
         Ok(())
     }
 
-    /// Adds a line: what it is, where it lies, a note, and a text.
-    pub fn push_line(
-        &mut self,
-        kind: &str,
-        span: Span,
-        note: &str,
-        text: &str,
-    ) -> Result<(), AllocError> {
-        self.out.extend_from_slice(kind.as_bytes())?;
-        if self.asked.lines {
-            let Position { line, column } = self.position(span.lo);
-            let place = format!(in self.alloc; " {line}:{column}")?;
-            self.out.extend_from_slice(place.as_bytes())?;
+    /// A row as a JSON object.
+    fn object(&self, row: Row) -> Result<Value, AllocError> {
+        let Position { line, column } = self.position(row.span.lo);
+        let file = self.name;
+        let kind = row.kind;
+        let lo = row.span.lo.0;
+        let hi = row.span.hi.0;
+        let text = row.text;
+        match row.more {
+            More::Nothing => json!(in self.alloc; {
+                "file": file, "kind": kind, "lo": lo, "hi": hi, "line": line, "column": column, "text": text
+            }),
+            More::LineBreak(flag) => json!(in self.alloc; {
+                "file": file, "kind": kind, "lo": lo, "hi": hi, "line": line, "column": column, "text": text,
+                "line_break_before": flag
+            }),
+            More::Beside { side, token } => {
+                let token = token.0;
+                json!(in self.alloc; {
+                    "file": file, "kind": kind, "lo": lo, "hi": hi, "line": line, "column": column, "text": text,
+                    "side": side, "token": token
+                })
+            }
         }
-        let lo = span.lo.0;
-        let hi = span.hi.0;
-        let place = format!(in self.alloc; " {lo} {hi} {note}")?;
-        self.out.extend_from_slice(place.as_bytes())?;
-        push_escaped(&mut self.out, text)?;
+    }
+
+    /// What stands before the text of a row in its line.
+    fn head(&self, row: Row) -> Result<String, AllocError> {
+        let kind = row.kind;
+        let lo = row.span.lo.0;
+        let hi = row.span.hi.0;
+        let place = if self.asked.lines {
+            let Position { line, column } = self.position(row.span.lo);
+            format!(in self.alloc; " {line}:{column}")?
+        } else {
+            String::new(self.alloc)
+        };
+        let place = place.as_str();
+        match row.more {
+            More::Nothing => format!(in self.alloc; "{kind}{place} {lo} {hi} "),
+            More::LineBreak(true) => format!(in self.alloc; "{kind}{place} {lo} {hi} lf "),
+            More::LineBreak(false) => format!(in self.alloc; "{kind}{place} {lo} {hi} - "),
+            More::Beside { side, token } => {
+                let token = token.0;
+                format!(in self.alloc; "{kind}{place} {lo} {hi} {side} {token} ")
+            }
+        }
+    }
+
+    /// Adds a row: a line, or a JSON object in a line.
+    pub fn push_row(&mut self, row: Row) -> Result<(), AllocError> {
+        if self.asked.json {
+            let value = self.object(row)?;
+            return self.push_json(value);
+        }
+        let head = self.head(row)?;
+        self.out.extend_from_slice(head.as_bytes())?;
+        push_escaped(&mut self.out, row.text.as_bytes())?;
         self.out.push(b'\n')?;
+        Ok(())
+    }
+
+    /// Adds a line to the faults, with the name of the file.
+    pub fn push_note(&mut self, note: &str) -> Result<(), AllocError> {
+        let name = self.name;
+        let line = format!(in self.alloc; "{name}: {note}\n")?;
+        self.faults.extend_from_slice(line.as_bytes())?;
+        self.is_faulty = true;
         Ok(())
     }
 
@@ -134,7 +189,7 @@ impl<'a> Report<'a> {
         let message = kind.msg(self.alloc)?;
         let head = format!(in self.alloc; "{name}:{line}:{column}: ")?;
         self.faults.extend_from_slice(head.as_bytes())?;
-        push_escaped(&mut self.faults, message.as_str())?;
+        push_escaped(&mut self.faults, message.as_bytes())?;
         self.faults.push(b'\n')?;
         self.is_faulty = true;
         Ok(())

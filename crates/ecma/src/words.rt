@@ -1,7 +1,8 @@
 //! The words of the command line.
 
 use clap::{Arg, ArgAction, ArgMatches, Command};
-use ecma_syntax::{Context, Syntax, TsSyntax};
+use ecma_options::Options;
+use ecma_place::BytePos;
 use std::alloc::{AllocError, Global};
 
 /// What is told of each text.
@@ -16,18 +17,46 @@ pub enum Face {
     Imports,
 }
 
-/// The words that name them.
-const FACES: [&str; 7] = [
-    "tokens",
-    "comments",
-    "errors",
-    "canonical",
-    "classes",
-    "html",
-    "imports",
-];
-
 impl Face {
+    /// Each, in the order in which help names them.
+    const ALL: [Face; 7] = [
+        Face::Tokens,
+        Face::Comments,
+        Face::Errors,
+        Face::Canonical,
+        Face::Classes,
+        Face::Html,
+        Face::Imports,
+    ];
+
+    /// The subcommand that asks for it.
+    fn name(self) -> &'static str {
+        match self {
+            Face::Tokens => "tokens",
+            Face::Comments => "comments",
+            Face::Errors => "errors",
+            Face::Canonical => "canonical",
+            Face::Classes => "classes",
+            Face::Html => "html",
+            Face::Imports => "imports",
+        }
+    }
+
+    /// What help says of it.
+    fn help(self) -> &'static str {
+        match self {
+            Face::Tokens =>
+                "A line for each token: what it is, where it is, lf behind a line break, its bytes",
+            Face::Comments => "A line for each comment, with its side and the place of its token",
+            Face::Errors => "A line for each error, also of those that count in a module alone",
+            Face::Canonical => "The one text of all texts with these tokens",
+            Face::Classes => "A line for each piece of the text: token, comment or trivia",
+            Face::Html => "The text as HTML, with a span for each class",
+            Face::Imports => "A line for each string that names a module which is imported",
+        }
+    }
+
+    /// What a subcommand asks for.
     fn named(word: &str) -> Face {
         match word {
             "comments" => Face::Comments,
@@ -45,20 +74,22 @@ impl Face {
 #[derive(Clone, Copy, Debug)]
 pub struct Asked {
     pub face: Face,
-    pub typescript: bool,
-    pub module: bool,
-    pub strict: bool,
+    pub options: Options,
     pub json: bool,
     pub lines: bool,
 }
 
 impl Asked {
-    pub fn of(matches: &ArgMatches) -> Asked {
+    /// What a subcommand asks for, with the words behind it.
+    pub fn of(subcommand: &str, matches: &ArgMatches) -> Asked {
         Asked {
-            face: Face::named(matches.get_str("what").unwrap_or("tokens")),
-            typescript: matches.get_flag("ts"),
-            module: matches.get_flag("module"),
-            strict: matches.get_flag("strict"),
+            face: Face::named(subcommand),
+            options: Options {
+                typescript: matches.get_flag("ts"),
+                module: matches.get_flag("module"),
+                strict: matches.get_flag("strict"),
+                standard: false,
+            },
             json: matches.get_flag("json"),
             lines: matches.get_flag("lines"),
         }
@@ -69,25 +100,12 @@ impl Asked {
         let typescript = name.ends_with(".ts") || name.ends_with(".mts") || name.ends_with(".cts");
         let module = name.ends_with(".mts") || name.ends_with(".mjs");
         Asked {
-            typescript: self.typescript || typescript,
-            module: self.module || module,
+            options: Options {
+                typescript: self.options.typescript || typescript,
+                module: self.options.module || module,
+                ..self.options
+            },
             ..self
-        }
-    }
-
-    pub fn syntax(&self) -> Syntax {
-        if self.typescript {
-            Syntax::Typescript(TsSyntax::default())
-        } else {
-            Syntax::default()
-        }
-    }
-
-    pub fn context(&self) -> Context {
-        Context {
-            module: self.module,
-            strict: self.strict,
-            ..Context::default()
         }
     }
 }
@@ -99,22 +117,23 @@ fn flag<'a>(alloc: Global, name: &'a str, help: &'a str) -> Arg<'a> {
         .help(help)
 }
 
-/// The command line as it is parsed, with its help.
-pub fn command<'a>(alloc: Global) -> Result<Command<'a>, AllocError> {
-    let what = Arg::new(alloc, "what")
-        .required(true)
-        .value_name("WHAT")
-        .value_parser(FACES.as_slice())
-        .help("What is told of each text");
+/// The subcommand that asks for this, with its help.
+fn subcommand<'a>(alloc: Global, face: Face) -> Result<Command<'a>, AllocError> {
     let files = Arg::new(alloc, "files")
         .value_name("FILE")
         .num_args(0..)
         .help("The files; standard input where there is none");
-    Command::new(alloc, "ecma")
-        .version("0.1.0")
-        .about("Tells what the lexer finds in ECMAScript and TypeScript")
-        .arg(what)?
+    let slash = Arg::new(alloc, "slash")
+        .long("slash")
+        .value_name("N")
+        .action(ArgAction::Append)
+        .help(
+            "Read the slash at the byte place N as a regular expression, and no other; once for each",
+        );
+    Command::new(alloc, face.name())
+        .about(face.help())
         .arg(files)?
+        .arg(slash)?
         .arg(flag(
             alloc,
             "ts",
@@ -128,4 +147,53 @@ pub fn command<'a>(alloc: Global) -> Result<Command<'a>, AllocError> {
         .arg(flag(alloc, "strict", "Read as strict code"))?
         .arg(flag(alloc, "json", "Write one JSON object a line"))?
         .arg(flag(alloc, "lines", "Write line:column beside byte places"))
+}
+
+/// The command line as it is parsed, with its help.
+pub fn command<'a>(alloc: Global) -> Result<Command<'a>, AllocError> {
+    let mut command = Command::new(alloc, "ecma")
+        .version("0.1.0")
+        .about("Tells what the lexer finds in ECMAScript and TypeScript")
+        .subcommand_required(true);
+    for face in Face::ALL {
+        command = command.subcommand(subcommand(alloc, face)?)?;
+    }
+    Ok(command)
+}
+
+/// The numbers of the words, or nothing where one is none.
+fn numbers(alloc: Global, words: &[&str]) -> Result<Option<Vec<u32>>, AllocError> {
+    let mut numbers = Vec::new(alloc);
+    for word in words {
+        match word.parse::<u32>() {
+            Ok(number) => numbers.push(number)?,
+            Err(_) => return Ok(None),
+        }
+    }
+    Ok(Some(numbers))
+}
+
+/// The places of the slashes that the words name, in order and each once, or nothing where one is no place.
+///
+/// # Errors
+///
+/// `AllocError` where there is no memory.
+pub fn slash_places(
+    alloc: Global,
+    matches: &ArgMatches,
+) -> Result<Option<Vec<BytePos>>, AllocError> {
+    let words = matches.get_strs("slash").unwrap_or(&[]);
+    let Some(mut numbers) = numbers(alloc, words)? else {
+        return Ok(None);
+    };
+    numbers.sort_unstable();
+    let mut places = Vec::new(alloc);
+    let mut last = None;
+    for number in &numbers {
+        if last != Some(*number) {
+            places.push(BytePos(*number))?;
+        }
+        last = Some(*number);
+    }
+    Ok(Some(places))
 }

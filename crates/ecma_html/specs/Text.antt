@@ -7,6 +7,7 @@ use Rattle.ecma_lexer.specs.Classes.{begin, classes_of}
 use Rattle.ecma_lexer.specs.Run.{session}
 use Rattle.ecma_lexer.specs.Session.{Session, kept_tokens}
 use Rattle.ecma_lexer.specs.declared.settings.Settings.{Settings}
+use Rattle.ecma_lexer.specs.declared.step.Step.{Step}
 use Rattle.ecma_html.specs.Markup.{html_of}
 use Rattle.ecma_html.specs.Styles.{styled, token_classes}
 
@@ -14,6 +15,10 @@ use Rattle.ecma_html.specs.Styles.{styled, token_classes}
 abbrev pub html_from : List ℕ → Session → List ℕ
 html_from bytes s = html_of bytes (styled (token_classes (kept_tokens s)) (classes_of 0 (length bytes) (kept_tokens s) s.comments))
 
--- of a text that starts at the place 0, and is read by the flag in a context
+-- of a text that starts at the place 0, by what steps come to
+abbrev pub html_of_steps : Settings → List ℕ → List Step → List ℕ
+html_of_steps settings bytes steps = html_from bytes (session settings (begin 0 (chars bytes)) steps)
+
+-- the same, read by the flag in a context
 abbrev pub html_text_of : Settings → Context → List ℕ → List ℕ
-html_text_of settings context bytes = html_from bytes (session settings (begin 0 (chars bytes)) (text_steps settings context (begin 0 (chars bytes))))
+html_text_of settings context bytes = html_of_steps settings bytes (text_steps settings context (begin 0 (chars bytes)))

@@ -7,6 +7,7 @@ use Rattle.ecma_lexer.specs.Classes.{begin}
 use Rattle.ecma_lexer.specs.Run.{session}
 use Rattle.ecma_lexer.specs.Session.{kept_tokens}
 use Rattle.ecma_lexer.specs.declared.settings.Settings.{Settings}
+use Rattle.ecma_lexer.specs.declared.step.Step.{Step}
 use Rattle.ecma_imports.specs.Stages.{specifiers_of}
 use Rattle.ecma_imports.specs.declared.imported.Form.{Form}
 use Rattle.ecma_imports.specs.declared.imported.Form.TheVariants.{Static, Dynamic}
@@ -27,10 +28,13 @@ line bytes s = head s ++ (slice_range bytes s.span.lo.0 s.span.hi.0 ++ 10 ∷ []
 abbrev pub lines : List ℕ → List Specifier → List ℕ
 lines bytes specifiers = flat_map (line bytes) specifiers
 
--- what is written of a text that starts at the place 0, and is read by the flag in a context
+-- what is written of a text that starts at the place 0, by what steps come to
+abbrev pub imports_of_steps : Settings → List ℕ → List Step → List ℕ
+imports_of_steps settings bytes steps = lines bytes (specifiers_of (kept_tokens (session settings (begin 0 (chars bytes)) steps)))
+
+-- the same, read by the flag in a context
 abbrev pub imports_of : Settings → Context → List ℕ → List ℕ
-imports_of settings context bytes =
-    lines bytes (specifiers_of (kept_tokens (session settings (begin 0 (chars bytes)) (text_steps settings context (begin 0 (chars bytes))))))
+imports_of settings context bytes = imports_of_steps settings bytes (text_steps settings context (begin 0 (chars bytes)))
 
 -- a specifier lies in the first n bytes of a text
 abbrev pub LiesWithin : ℕ → Specifier → Type 0

@@ -6,4 +6,4 @@ mod lines;
 mod stage;
 
 pub use imported::{Form, Specifier, specifiers};
-pub use lines::{imports_text, specifier_lines};
+pub use lines::{imports_of_steps, imports_text, specifier_lines};

@@ -2,10 +2,10 @@
 ghost use Rattle.std.specs.Prelude.{◌≡◌, ◌≤◌, ◌<◌, ◌^◌, ◌++◌, length, string_bytes, IfOk, OnOk};
 ghost use Rattle.std.specs.List.{All};
 ghost use Rattle.ecma_imports.specs.Lines as rows;
-ghost use Rattle.ecma_imports.specs.Lines.{LiesWithin, imports_of};
+ghost use Rattle.ecma_imports.specs.Lines.{LiesWithin, imports_of, imports_of_steps};
 
 use crate::imported::{Form, Specifier, specifiers};
-use ecma_lexer::{Settings, replay, steps_by_flag};
+use ecma_lexer::{Settings, Step, replay, steps_by_flag};
 use ecma_place::BytePos;
 use ecma_syntax::Context;
 use std::alloc::{AllocError, Global};
@@ -68,7 +68,26 @@ pub fn specifier_lines(
     Ok(out)
 }
 
-/// The lines of what a text imports, which starts at the place 0 and is read in a context, its slashes by the flag.
+/// The lines of what a text imports, by the tokens that a list of steps keeps of it. The text starts at the place 0. Our own.
+///
+/// # Errors
+///
+/// `AllocError` where there is no memory.
+pub fn imports_of_steps(
+    alloc: Global,
+    settings: &Settings,
+    source: &str,
+    steps: &[Step],
+) -> Result<Vec<u8>, AllocError>
+    requires { length source.now < 2 ^ 32 }
+    ensures { IfOk result (λ v. v.items ≡ imports_of_steps settings.now source.now steps.now) }
+{
+    let played = replay(alloc, settings, source, BytePos(0), steps)?;
+    let found = specifiers(alloc, played.kept.as_slice())?;
+    specifier_lines(alloc, source.as_bytes(), &found)
+}
+
+/// The lines of what a text imports ([`imports_of_steps`]), read to its end in a context, its slashes by the flag.
 ///
 /// # Errors
 ///
@@ -82,9 +101,6 @@ pub fn imports_text(
     requires { length source.now < 2 ^ 32 }
     ensures { IfOk result (λ v. v.items ≡ imports_of settings.now context source.now) }
 {
-    let start = BytePos(0);
-    let steps = steps_by_flag(alloc, settings, context, source, start)?;
-    let played = replay(alloc, settings, source, start, &steps)?;
-    let found = specifiers(alloc, played.kept.as_slice())?;
-    specifier_lines(alloc, source.as_bytes(), &found)
+    let steps = steps_by_flag(alloc, settings, context, source, BytePos(0))?;
+    imports_of_steps(alloc, settings, source, &steps)
 }

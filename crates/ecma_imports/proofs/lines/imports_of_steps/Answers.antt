@@ -5,11 +5,11 @@ use Rattle.ecma_pieces.proofs.CoveredLemmas.{replays_may_be_covered}
 use Rattle.ecma_imports.specs.Stages.{specifiers_of}
 use Rattle.ecma_imports.specs.declared.stage.Stage.TheVariants.{Nothing}
 use Rattle.ecma_imports.proofs.WithinLemmas.{told-within}
-use Rattle.ecma_imports.proofs.lines.imports_text.Goals as goal
+use Rattle.ecma_imports.proofs.lines.imports_of_steps.Goals as goal
 
 pub specifier_lines-requires : goal.specifier_lines-requires
 specifier_lines-requires c =
     let bytes = c.args.source.now in
-    let covered = replays_may_be_covered c.args.settings.now (begin 0 (chars bytes)) c.deref.result.now c.in_ok-played.played c.in_ok-played.ensures.replays in
-    let found = c.deref-2.ensures.value ∙ c.in_ok-found.ensures ∙ ap specifiers_of c.as_slice.ensures.value in
+    let covered = replays_may_be_covered c.args.settings.now (begin 0 (chars bytes)) c.args.steps.now c.in_ok-played.played c.in_ok-played.ensures.replays in
+    let found = c.deref.ensures.value ∙ c.in_ok-found.ensures ∙ ap specifiers_of c.as_slice.ensures.value in
     rw (c.as_bytes.ensures.value, found) (told-within bytes Nothing 0 c.in_ok-played.played.kept.items c.utf8.source covered.tokens_stand)
