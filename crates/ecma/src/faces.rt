@@ -217,6 +217,35 @@ fn slashes_at(places: &[BytePos]) -> Slashes
     }
 }
 
+/// The places of the slashes that the steps read again, in order.
+fn places_met(
+    alloc: Global,
+    steps: &[Step],
+    answers: &[Answer],
+) -> Result<Vec<BytePos>, AllocError> {
+    let mut met = Vec::new(alloc);
+    let mut last = START;
+    for (step, answer) in steps.iter().zip(answers.iter()) {
+        if matches!(step, Step::Reread) {
+            met.push(last)?;
+        }
+        if let Answer::Token(found) = answer {
+            last = found.span.lo;
+        }
+    }
+    Ok(met)
+}
+
+/// Tells of the places that were named and are not among those that were met.
+fn tell_unmet(report: &mut Report, named: &[BytePos], met: &[BytePos]) -> Result<(), AllocError> {
+    for place in named {
+        if met.binary_search(place).is_err() {
+            report.push_no_slash(*place)?;
+        }
+    }
+    Ok(())
+}
+
 /// What is told of a text: its errors, and what was asked for. The slashes at these places begin regular expressions.
 pub fn tell<'a>(
     alloc: Global,
@@ -232,10 +261,11 @@ pub fn tell<'a>(
     let mut report = Report::new(alloc, asked, name, text)?;
     let slashes = slashes_at(places);
     let steps = steps_by(alloc, &settings, context, text, START, slashes)?;
-    if !places.is_empty() && count_rereads(&steps) != places.len() {
-        report.push_note("no slash at a place that --slash names")?;
-    }
     let played = replay(alloc, &settings, text, START, &steps)?;
+    if !places.is_empty() && count_rereads(&steps) != places.len() {
+        let met = places_met(alloc, &steps, &played.answers)?;
+        tell_unmet(&mut report, places, &met)?;
+    }
     tell_faults(&mut report, &played)?;
     tell_face(&mut report, &settings, text, &steps, &played)?;
     Ok(report)

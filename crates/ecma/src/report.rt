@@ -173,10 +173,11 @@ impl<'a> Report<'a> {
         Ok(())
     }
 
-    /// Adds a line to the faults, with the name of the file.
-    pub fn push_note(&mut self, note: &str) -> Result<(), AllocError> {
+    /// Adds to the faults that no slash is read at this place, with the name of the file.
+    pub fn push_no_slash(&mut self, place: BytePos) -> Result<(), AllocError> {
         let name = self.name;
-        let line = format!(in self.alloc; "{name}: {note}\n")?;
+        let place = place.0;
+        let line = format!(in self.alloc; "{name}: no slash is read at the place {place}\n")?;
         self.faults.extend_from_slice(line.as_bytes())?;
         self.is_faulty = true;
         Ok(())
