@@ -30,7 +30,7 @@ impl Face {
     ];
 
     /// The subcommand that asks for it.
-    fn name(self) -> &'static str {
+    fn name<'a>(self) -> &'a str {
         match self {
             Face::Tokens => "tokens",
             Face::Comments => "comments",
@@ -43,7 +43,7 @@ impl Face {
     }
 
     /// What help says of it.
-    fn help(self) -> &'static str {
+    fn help<'a>(self) -> &'a str {
         match self {
             Face::Tokens =>
                 "A line for each token: what it is, where it is, lf behind a line break, its bytes",
@@ -152,6 +152,7 @@ fn subcommand<'a>(alloc: Global, face: Face) -> Result<Command<'a>, AllocError> 
 /// The command line as it is parsed, with its help.
 pub fn command<'a>(alloc: Global) -> Result<Command<'a>, AllocError> {
     let mut command = Command::new(alloc, "ecma")
+        .bin_name("ecma")?
         .version("0.1.0")
         .about("Tells what the lexer finds in ECMAScript and TypeScript")
         .subcommand_required(true);
