@@ -1,5 +1,5 @@
 -- Markup is taken away again; and pieces that cover a text lie in it.
-use Rattle.std.proofs.Common.{◌≡◌, ◌∙◌, ℕ, zero, suc, ◌+◌, ◌-◌, ◌<◌, ◌≤◌, Bool, true, false, cond, ◌==◌, List, [], ◌∷◌, ◌++◌, add-one, append_assoc, append-nil, Option, Some, None, length, drop, drop-cons, drop-drop, drop_of_length-le, refl, sym, subst, ap, arith}
+use Rattle.std.proofs.Common.{◌≡◌, ◌∙◌, ℕ, ◌+◌, ◌-◌, ◌<◌, ◌≤◌, Bool, true, false, cond, ◌==◌, List, [], ◌∷◌, ◌++◌, add-one, append_assoc, append-nil, Option, Some, None, length, drop, drop-cons, drop-drop, drop_of_length-le, refl, sym, subst, ap, arith}
 use Rattle.std.specs.Prelude.{codes, flat_map, fold, get_or, slice_range}
 use Rattle.std.proofs.lemmas.Bool.{eqb-true}
 use Rattle.std.proofs.lemmas.List.Sums.{fold-append}

@@ -1,5 +1,5 @@
-use Rattle.std.proofs.Common.{◌≡◌, ◌∙◌, ◌++◌, append_assoc, ap}
-use Rattle.ecma_html.specs.Markup.{close_tag, html_of, open_tag, pieces_html}
+use Rattle.std.proofs.Common.{◌≡◌, ◌∙◌, append_assoc, ap}
+use Rattle.ecma_html.specs.Markup.{html_of}
 use Rattle.ecma_html.specs.Styles.{styled}
 use Rattle.ecma_html.specs.Unmark.{unmark}
 use Rattle.ecma_html.proofs.MarkupLemmas.{unmarked-text}

@@ -1,6 +1,6 @@
 use Rattle.std.proofs.Common.{◌∙◌, drop, sym, ap}
 use Rattle.ecma_html.specs.Styles.{left_classes}
-use Rattle.ecma_html.proofs.MarkupLemmas.{none-taken, one-taken}
+use Rattle.ecma_html.proofs.MarkupLemmas.{one-taken}
 use Rattle.ecma_html.proofs.markup.taken_behind.Goals as goal
 
 pub returns-in-Token : goal.returns-in-Token
