@@ -36,7 +36,10 @@ fn canonical_texts_are_told(rt: HostRuntime) -> Result<(), Fail> {
             status: *status,
             count: *count,
         };
-        assert!(rt; is_told(rt.alloc(), text, *options, slashes, answer, held)?, "{text:?}");
+        assert!(rt;
+            is_told(rt.alloc(), text, *options, slashes, answer, held)?,
+            "{text:?}"
+        );
     }
     Ok(())
 }

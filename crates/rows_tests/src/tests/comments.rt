@@ -26,14 +26,7 @@ const NONE: CommentRow = CommentRow {
 };
 
 fn is_row(row: &CommentRow, wanted: Row) -> bool {
-    (
-        row.pos,
-        row.lo,
-        row.hi,
-        row.text_lo,
-        row.text_hi,
-        row.flags,
-    ) == wanted
+    (row.pos, row.lo, row.hi, row.text_lo, row.text_hi, row.flags) == wanted
 }
 
 fn holds(room: &[CommentRow], rows: &[Row]) -> bool {

@@ -46,7 +46,10 @@ fn requests_are_judged(rt: HostRuntime) -> Result<(), Fail> {
             status: *status,
             count: *count,
         };
-        assert!(rt; is_answered(rt.alloc(), text, *options, slashes, answer)?, "{text:?}");
+        assert!(rt;
+            is_answered(rt.alloc(), text, *options, slashes, answer)?,
+            "{text:?}"
+        );
     }
     Ok(())
 }

@@ -34,7 +34,12 @@ const ROWS: &[(&str, u32, &[u32], &[Row])] = &[
     // Slashes by places, and by the flag.
     ("/a/g", 0, &[0], &[(0, 4, 23, 1)]),
     ("/a/g", 8, &[], &[(0, 4, 23, 1)]),
-    ("a/b", 8, &[], &[(0, 1, 195, 1), (1, 2, 78, 0), (2, 3, 195, 0)]),
+    (
+        "a/b",
+        8,
+        &[],
+        &[(0, 1, 195, 1), (1, 2, 78, 0), (2, 3, 195, 0)],
+    ),
     (
         "a = /b/;",
         0,
@@ -88,7 +93,10 @@ fn is_told(
 #[test]
 fn texts_give_rows_of_tokens(rt: HostRuntime) -> Result<(), Fail> {
     for (text, options, slashes, rows) in ROWS {
-        assert!(rt; is_told(rt.alloc(), text, *options, slashes, rows)?, "{text}");
+        assert!(rt;
+            is_told(rt.alloc(), text, *options, slashes, rows)?,
+            "{text}"
+        );
     }
     Ok(())
 }
