@@ -20,6 +20,7 @@ pub use Rattle.ecma_stream.proofs.PlainLemmas
 pub use Rattle.ecma_stream.proofs.ProgressLemmas
 pub use Rattle.ecma_dispatch.proofs.ReadingLemmas
 pub use Rattle.ecma_replay.proofs.ReplayLemmas
+pub use Rattle.ecma_slashes.proofs.RereadLemmas
 pub use Rattle.ecma_stream.proofs.SlashLemmas
 pub use Rattle.ecma_laws.proofs.StepLemmas
 pub use Rattle.ecma_laws.proofs.TilingLemmas

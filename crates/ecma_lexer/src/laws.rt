@@ -13,5 +13,6 @@ pub use ecma_laws::laws::{
 };
 pub use ecma_pieces::laws::{replays_may_be_covered, runs_may_be_covered};
 pub use ecma_slashes::laws::{
-    runs_by_rule_are_runs, runs_by_rule_end, texts_are_read_out, texts_are_read_plainly,
+    rereads_count_met, runs_by_rule_are_runs, runs_by_rule_end, texts_are_read_out,
+    texts_are_read_plainly,
 };

@@ -9,7 +9,7 @@ pub use ecma_pieces::classes_of_steps;
 pub use ecma_replay::{Answer, Replay, answer, replay, replayed, runner};
 pub use ecma_slashes::{
     Slashes, add_steps_by, add_steps_to_end, ascend, count_rereads, read_by, read_by_flag,
-    steps_by, steps_by_flag,
+    read_telling, steps_by, steps_by_flag,
 };
 pub use ecma_state::{
     BufferedComment, BufferedCommentKind, CommentsBuffer, ErrorList, Kept, Settings, State, Step,

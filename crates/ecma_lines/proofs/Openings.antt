@@ -10,14 +10,15 @@ use Rattle.ecma_place.specs.Cursor.{Cursor, rest}
 use Rattle.ecma_place.specs.declared.place.BytePos.{BytePos}
 use Rattle.ecma_token.specs.View.{SpannedView, spanned_view}
 use Rattle.ecma_token.specs.declared.token.TokenAndSpan.{TokenAndSpan}
-use Rattle.ecma_lexer.specs.declared.step.Step.TheVariants.{Read, Withdraw}
+use Rattle.ecma_lexer.specs.declared.step.Step.TheVariants.{Read}
 use Rattle.ecma_lexer.specs.Ending.{behind_reads, reads}
-use Rattle.ecma_lexer.specs.Run.{act_all, act_on, given_in, mode_of, reading_of, reread_from, state_behind, state_rereading}
+use Rattle.ecma_lexer.specs.Run.{act_all, act_on, given_in, mode_of, reading_of, state_behind, state_rereading}
 use Rattle.ecma_lexer.specs.Session.{LexerState, Past, Session, has_ended, kept_back, seen_of, state_of}
 use Rattle.ecma_lexer.specs.Slashes.{slash_answered}
 use Rattle.ecma_lexer.specs.State.{last_slash}
 use Rattle.ecma_lexer.proofs.EndLemmas.{reading-on}
-use Rattle.ecma_lexer.proofs.EndingLemmas.{ReadSoFar, plain-reading, so_far-start, so_far-token, state-behind, stays}
+use Rattle.ecma_lexer.proofs.EndingLemmas.{ReadSoFar, plain-reading, so_far-start, so_far-token, stays}
+use Rattle.ecma_lexer.proofs.RereadLemmas.{reread-steps}
 use Rattle.ecma_lexer.specs.Order.{InOrder}
 use Rattle.ecma_lexer.proofs.TilingLemmas.{Standing, fold_standing}
 use Rattle.ecma_lines.specs.Opening.{AllWithin, behind_rereads, rereading}
@@ -56,28 +57,13 @@ pub record ReadAgain (s : Session) (l : LexerState) (t : SpannedView) : Type 0 w
 
 pub read-again : (s : Session) (old mid now done : LexerState) (p : BytePos) (t : SpannedView) → old ≡ state_of s → slash_answered old ≡ Some p
     → mid ≡ state_rereading (Some p) old → (reading_of mid).found ≡ Some t → now ≡ state_behind mid (reading_of mid) → done ≡ state_rereading None now → ReadAgain s done t
-read-again s old mid now done p t at slash asked found moved withdrawn = go (last_slash (seen_of s.past)) refl
-  where
-    answered : last_slash (seen_of s.past) ≡ Some p
-    answered = ap slash_answered (sym at) ∙ slash
-
-    go : (o : Option BytePos) → last_slash (seen_of s.past) ≡ o → ReadAgain s done t
-    go None e = absurd (none-some p (sym e ∙ answered))
-    go (Some q) e =
-        let same : q ≡ p = some-same (sym e ∙ answered) in
-        let first : Session = record s { reread = Some q } in
-        let steps : act_all s rereading ≡ act_on (act_on first Read) Withdraw = ap (λ o. act_on (act_on (reread_from s o).after Read) Withdraw) e in
-        let there : mid ≡ state_of first = asked ∙ ap (state_rereading (Some p)) at ∙ ap (λ x. state_rereading (Some x) (state_of s)) (sym same) in
-        let gives : (reading_of (state_of first)).found ≡ Some t = ap (λ x. (reading_of x).found) (sym there) ∙ found in
-        let read : now ≡ state_of (act_on first Read) = moved ∙ ap (λ x. state_behind x (reading_of x)) there ∙ sym (state-behind first) in
-        record {
-          state = withdrawn ∙ ap (state_rereading None) read ∙ ap state_of (sym steps);
-          plain = ap (λ x. x.reread) steps;
-          kept = ap (λ x. kept_back x.past) steps ∙ ap (λ found. kept_back (given_in true (reading_of (state_of first)).end_flag found ∷ s.past)) gives;
-        }
-      where
-        some-same : {a b : BytePos} → Some a ≡ Some b → a ≡ b
-        some-same h = cc
+read-again s old mid now done p t at slash asked found moved withdrawn =
+    let again = reread-steps s old mid now done p at slash asked moved withdrawn in
+    record {
+      state = again.ends;
+      plain = refl;
+      kept = ap kept_back again.past ∙ ap (λ o. kept_back (given_in true (reading_of mid).end_flag o ∷ s.past)) found;
+    }
 
 -- What stands there
 

@@ -1,5 +1,5 @@
 //! The ways in which the next token is asked for.
-use ecma_lexer::Lexer;
+use ecma_lexer::{Lexer, read_by_flag};
 use ecma_token::TokenAndSpan;
 use std::alloc::AllocError;
 
@@ -9,6 +9,7 @@ pub enum Way {
     Read,
     Next,
     ReadInto,
+    ReadByFlag,
 }
 
 impl Way {
@@ -18,7 +19,13 @@ impl Way {
             Way::Read => "read",
             Way::Next => "next",
             Way::ReadInto => "read_into",
+            Way::ReadByFlag => "read_by_flag",
         }
+    }
+
+    /// Whether a slash that was answered is read again for itself.
+    pub fn reads_slashes_again(self) -> bool {
+        !matches!(self, Way::ReadByFlag)
     }
 
     /// Asks for the next token.
@@ -31,6 +38,9 @@ impl Way {
                 lexer.read_into(&mut slot)?;
                 Ok(slot)
             }
+            // By the flag no slash is left to be read again.
+            Way::ReadByFlag if lexer.reads_again() => Ok(None),
+            Way::ReadByFlag => read_by_flag(lexer),
         }
     }
 }

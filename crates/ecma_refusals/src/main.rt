@@ -6,6 +6,7 @@
 
 mod asked;
 mod cover;
+mod faces;
 mod kept;
 mod reading;
 mod rows;
@@ -21,5 +22,6 @@ fn main(rt: HostRuntime) -> io::Result<()> {
     kept::play(&rt, alloc)?;
     whole::play(&rt, alloc)?;
     cover::play(&rt, alloc)?;
+    faces::play(&rt, alloc)?;
     told::play(&rt, alloc)
 }

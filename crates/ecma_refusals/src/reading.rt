@@ -71,7 +71,7 @@ fn step(rt: &impl Print, alloc: Global, way: Way, lexer: &mut Lexer) -> io::Resu
 /// Reads the last answer again, where that was a slash.
 fn read_again(rt: &impl Print, alloc: Global, way: Way, lexer: &mut Lexer) -> io::Result<()> {
     let slash = lexer.last_slash();
-    if slash.is_some() {
+    if slash.is_some() && way.reads_slashes_again() {
         lexer.set_next_regexp(slash);
         step(rt, alloc, way, lexer)?;
         lexer.set_next_regexp(None);
@@ -113,7 +113,7 @@ fn play_texts(rt: &impl Print, alloc: Global, way: Way) -> io::Result<()> {
 
 /// Reads the texts in each way.
 pub fn play(rt: &impl Print, alloc: Global) -> io::Result<()> {
-    for way in [Way::Read, Way::Next, Way::ReadInto] {
+    for way in [Way::Read, Way::Next, Way::ReadInto, Way::ReadByFlag] {
         play_texts(rt, alloc, way)?;
     }
     Ok(())

@@ -1,5 +1,5 @@
 -- A slash that is read again leaves less of the text than stood before it.
-use Rattle.std.proofs.Common.{◌≡◌, ◌∙◌, ℕ, zero, suc, ◌-◌, ◌<◌, ◌≤◌, Bool, true, false, cond, [], ◌∷◌, Option, Some, None, length, take, drop, drop-drop, length-drop, ⊎_elim, refl, sym, subst, ap, arith}
+use Rattle.std.proofs.Common.{◌≡◌, ◌∙◌, ℕ, zero, suc, ◌+◌, ◌-◌, ◌<◌, ◌≤◌, Bool, true, false, cond, [], ◌∷◌, Option, Some, None, length, take, drop, drop-drop, length-drop, ⊎_elim, refl, sym, subst, ap, arith}
 use Rattle.std.proofs.lemmas.Str.{length-le-encodes}
 use Rattle.std.proofs.lemmas.Bool.Decides.{leb_tells}
 use Rattle.std.proofs.lemmas.Option.{none-some}
@@ -68,32 +68,56 @@ again-left flag here some =
     let left : length (rest (passed n here)) ≡ length (rest here) - n = rw (← drop-drop n here.at here.text) (length-drop n (rest here)) in
     omega (arith, left, spelled-some (rest here), some)
 
--- a token that takes the place of a slash leaves fewer that may come than there were before the slash
-pub fewer-again : (l : LexerState) (p : BytePos) → l.reread ≡ None → last_slash (state_behind l (reading_of l)).state.seen ≡ Some p
-    → most_tokens (state_rereading None (state_behind (state_rereading (Some p) (state_behind l (reading_of l))) (reading_of (state_rereading (Some p) (state_behind l (reading_of l)))))) < most_tokens l
-fewer-again l p plain slash = go (reading_of l).found refl
+-- A slash was answered last: it stands where the read began or further, and the text has it still.
+pub record SlashMet (l : LexerState) (p : BytePos) : Type 0 where
+  pub has : HasPlace l.input p.0
+  pub opens : opens_expression (rest (at_place p l.input)) ≡ true
+  pub before : place l.input ≤ p.0
+  pub there : at_place p (state_behind l (reading_of l)).input ≡ at_place p l.input
+
+pub slash-met : (l : LexerState) (p : BytePos) → l.reread ≡ None → last_slash (state_behind l (reading_of l)).state.seen ≡ Some p → SlashMet l p
+slash-met l p plain slash = go (reading_of l).found refl
   where
     now : LexerState
     now = state_behind l (reading_of l)
 
-    asked : LexerState
-    asked = state_rereading (Some p) now
-
-    go : (found : Option SpannedView) → (reading_of l).found ≡ found → most_tokens (state_rereading None (state_behind asked (reading_of asked))) < most_tokens l
+    go : (found : Option SpannedView) → (reading_of l).found ≡ found → SlashMet l p
     go None e = let none : last_slash now.state.seen ≡ None = ap (λ o. last_slash (seen_behind l.state.seen (reading_of l).end_flag (kept_in o))) e in absurd (none-some p (sym none ∙ slash))
     go (Some t) e =
         let told : slash_in (Some (kept_of t)) ≡ Some p = sym (ap (λ o. last_slash (seen_behind l.state.seen (reading_of l).end_flag (kept_in o))) e) ∙ slash in
         let (is, lo) = slash-is t p told in
         let found : (reading (mode_of l) l.input).found ≡ Some t = ap (λ r. r.found) (sym (plain-reading l plain)) ∙ e in
         let on = reading-on (mode_of l) l.input in
-        let start : now.input.start ≡ l.input.start = ap (λ r. r.input.start) (plain-reading l plain) ∙ on.start in
-        let text : now.input.text ≡ l.input.text = ap (λ r. r.input.text) (plain-reading l plain) ∙ on.text in
         let begins = begins-reading (mode_of l) l.input t found in
-        let has : HasPlace l.input p.0 = subst (λ (q : BytePos). HasPlace l.input q.0) lo begins.has_place in
-        let opens : opens_expression (rest (at_place p l.input)) ≡ true = ap (λ q. opens_expression (rest (at_place q l.input))) (sym lo) ∙ begins.opens is in
-        let before : place l.input ≤ p.0 = subst (λ (q : BytePos). place l.input ≤ q.0) lo (on.token t found).0 in
-        let there : at_place p now.input ≡ at_place p l.input = same-place now.input l.input p start text in
-        let left = rest-from l.input p has opens before in
-        let less = again-left now.state.seen.flag (at_place p now.input) (subst (λ (c : Cursor). 0 < length (rest c)) (sym there) (opens-some (rest (at_place p l.input)) opens)) in
-        let here : length (rest (at_place p now.input)) ≡ length (rest (at_place p l.input)) = ap (λ c. length (rest c)) there in
-        omega (arith, left, less, here, room-le (previous (state_behind asked (reading_of asked)).state.seen))
+        record {
+          has = subst (λ (q : BytePos). HasPlace l.input q.0) lo begins.has_place;
+          opens = ap (λ q. opens_expression (rest (at_place q l.input))) (sym lo) ∙ begins.opens is;
+          before = subst (λ (q : BytePos). place l.input ≤ q.0) lo (on.token t found).0;
+          there = same-place now.input l.input p (ap (λ r. r.input.start) (plain-reading l plain) ∙ on.start) (ap (λ r. r.input.text) (plain-reading l plain) ∙ on.text);
+        }
+
+-- the lexer that reads it again
+abbrev pub asking : LexerState → BytePos → LexerState
+asking l p = state_rereading (Some p) (state_behind l (reading_of l))
+
+-- a token that takes the place of a slash leaves fewer that may come than there were before the slash
+pub fewer-again : (l : LexerState) (p : BytePos) → l.reread ≡ None → last_slash (state_behind l (reading_of l)).state.seen ≡ Some p
+    → most_tokens (state_rereading None (state_behind (asking l p) (reading_of (asking l p)))) < most_tokens l
+fewer-again l p plain slash =
+    let met = slash-met l p plain slash in
+    let asked : LexerState = asking l p in
+    let left = rest-from l.input p met.has met.opens met.before in
+    let less = again-left asked.state.seen.flag (at_place p asked.input) (subst (λ (c : Cursor). 0 < length (rest c)) (sym met.there) (opens-some (rest (at_place p l.input)) met.opens)) in
+    let here : length (rest (at_place p asked.input)) ≡ length (rest (at_place p l.input)) = ap (λ c. length (rest c)) met.there in
+    omega (arith, left, less, here, room-le (previous (state_behind asked (reading_of asked)).state.seen))
+
+-- and the read of it ends behind it
+pub beyond-slash : (l : LexerState) (p : BytePos) → l.reread ≡ None → last_slash (state_behind l (reading_of l)).state.seen ≡ Some p → p.0 < place (reading_of (asking l p)).input
+beyond-slash l p plain slash =
+    let met = slash-met l p plain slash in
+    let here : Cursor = at_place p (asking l p).input in
+    let n : ℕ = length (regular_expression (rest here)).spelling in
+    let at : place here ≡ p.0 = ap place met.there ∙ place-there l.input p met.has in
+    let some : 0 < length (rest here) = subst (λ (c : Cursor). 0 < length (rest c)) (sym met.there) (opens-some (rest (at_place p l.input)) met.opens) in
+    let more = further here.text here.at (here.at + n) (let one = spelled-some (rest here) in omega (arith, one)) (let left = length-drop here.at here.text in omega (arith, some, left)) in
+    omega (arith, at, more)

@@ -78,6 +78,6 @@ found-among ps p (Ok i) within found up =
 found-among ps p (Err i) within found up =
     let parted = found (λ a b d le some. higher (get_or ps a d).0 (get_or ps b d).0 p.0 (ascend-two ps a b d up le some)) in
     let none : (k : ℕ) → k < length ps → ((get_or ps k p).0 == p.0) ≡ false = λ k some.
-        unsigned_ties (get_or ps k p).0 p.0
-        ∙ ⊎_elim (λ before. ap is_eq (parted.0 k p (omega arith) before)) (λ behind. ap is_eq (parted.1 k p behind some)) (cases_lt k i) in
+    unsigned_ties (get_or ps k p).0 p.0
+    ∙ ⊎_elim (λ before. ap is_eq (parted.0 k p (omega arith) before)) (λ behind. ap is_eq (parted.1 k p behind some)) (cases_lt k i) in
     sym (list_any_none (λ (q : BytePos). q.0 == p.0) ps (All-from_get_or (λ (q : BytePos). (q.0 == p.0) ≡ false) ps p none))

@@ -14,6 +14,7 @@ use Rattle.ecma_stream.specs.Slashes.{slash_answered}
 use Rattle.ecma_stream.proofs.EndingLemmas.{end_found, state-behind, tokens_run_out}
 use Rattle.ecma_slashes.specs.Rereads.{ReadsBy, SlashRule, behind_by, found_by, last_read, meets_expression, names, names_answer, read_steps}
 use Rattle.ecma_slashes.proofs.FewerLemmas.{fewer-again}
+use Rattle.ecma_slashes.proofs.RereadLemmas.{reread-steps}
 
 -- nothing was found
 abbrev pub ended_by : Option SpannedView → Bool
@@ -49,19 +50,13 @@ read-once rule s found l meets finds at =
       after = at ∙ ap (λ b. state_of (act_all s (read_steps b))) (sym meets);
     }
 
--- where the second read begins
-again-begins : (s : Session) (l asked : LexerState) (p : BytePos) → l ≡ state_of (act_on s Read) → Some p ≡ slash_answered l → asked ≡ state_rereading (Some p) l → asked ≡ state_of (last_read true s)
-again-begins s l asked p at told sets =
-    sets ∙ ap (state_rereading (Some p)) at ∙ sym (ap (λ o. state_of (reread_from (act_on s Read) o).after) (slash-there s l (Some p) at told))
-
 pub read-twice : (rule : SlashRule) (s : Session) (found : Option SpannedView) (l asked now done : LexerState) (p : BytePos) → meets_expression rule s ≡ true → l ≡ state_of (act_on s Read) → Some p ≡ slash_answered l
     → asked ≡ state_rereading (Some p) l → found ≡ (reading_of asked).found → now ≡ state_behind asked (reading_of asked) → done ≡ state_rereading None now → ReadsBy rule s found done
 read-twice rule s found l asked now done p meets at told sets finds moved withdrawn =
-    let begins = again-begins s l asked p at told sets in
-    let read : now ≡ state_of (act_on (last_read true s) Read) = moved ∙ ap (λ x. state_behind x (reading_of x)) begins ∙ sym (state-behind (last_read true s)) in
+    let again = reread-steps (act_on s Read) l asked now done p at (sym told) sets moved withdrawn in
     record {
-      finds = finds ∙ ap (λ x. (reading_of x).found) begins ∙ ap (λ b. (reading_of (state_of (last_read b s))).found) (sym meets);
-      after = withdrawn ∙ ap (state_rereading None) read ∙ ap (λ b. state_of (act_all s (read_steps b))) (sym meets);
+      finds = finds ∙ ap (λ x. (reading_of x).found) again.begins ∙ ap (λ b. (reading_of (state_of (last_read b s))).found) (sym meets);
+      after = again.ends ∙ ap (λ b. state_of (act_all s (read_steps b))) (sym meets);
     }
 
 -- Fewer tokens may come behind it

@@ -1,6 +1,6 @@
 -- Reading with no parser above: each slash that begins a regular expression, as a rule says, is read again.
 use Rattle.std.specs.Prelude.{ℕ, zero, suc, ◌≡◌, ◌==◌, nat_lt, Bool, true, false, ◌&&◌, List, [], ◌∷◌, ◌++◌, Option, Some, None, is_some, length}
-use Rattle.std.specs.List.{count_by, list_any}
+use Rattle.std.specs.List.{count_by, list_all, list_any}
 use Rattle.ecma_place.specs.Cursor.{Cursor}
 use Rattle.ecma_place.specs.declared.place.BytePos.{BytePos}
 use Rattle.ecma_syntax.specs.declared.context.Context.{Context}
@@ -110,9 +110,9 @@ are_free_by rule s = is_free s && is_free (last_read (meets_expression rule s) s
 -- Whole runs
 
 -- nothing more once the end was answered
-abbrev pub unless_ended : Bool → List Step → List Step
-unless_ended true steps = []
-unless_ended false steps = steps
+abbrev pub unless_ended : {X : Type 0} → Bool → List X → List X
+unless_ended true xs = []
+unless_ended false xs = xs
 
 -- the steps of so many tokens, or of all up to the end
 abbrev pub all_by : SlashRule → ℕ → Session → List Step
@@ -130,6 +130,26 @@ entered settings context input = act_on (start_of settings input) (SetCtx contex
 -- the steps by which it is read to the end
 abbrev pub text_steps_by : SlashRule → Settings → Context → Cursor → List Step
 text_steps_by rule settings context input = SetCtx context ∷ steps_to_end_by rule (entered settings context input)
+
+-- The slashes that are read again: that of a token, those of so many tokens, and those of a text
+
+abbrev pub met_in : Bool → Option BytePos → List BytePos
+met_in false slash = []
+met_in true None = []
+met_in true (Some p) = p ∷ []
+
+abbrev pub met_by : SlashRule → Session → List BytePos
+met_by rule s = met_in (meets_expression rule s) (last_slash (seen_of (act_on s Read).past))
+
+abbrev pub all_met : SlashRule → ℕ → Session → List BytePos
+all_met rule zero s = []
+all_met rule (suc n) s = met_by rule s ++ unless_ended (has_ended (behind_by rule s).past) (all_met rule n (behind_by rule s))
+
+unfoldable pub met_to_end : SlashRule → Session → List BytePos
+met_to_end rule s = all_met rule (enough s.input) s
+
+abbrev pub text_met : SlashRule → Settings → Context → Cursor → List BytePos
+text_met rule settings context input = met_to_end rule (entered settings context input)
 
 -- how many slashes steps read again
 abbrev pub is_reread : Step → Bool
@@ -181,3 +201,13 @@ abbrev pub TextsAreReadPlainly : Type 0
 TextsAreReadPlainly =
     (rule : SlashRule) (settings : Settings) (context : Context) (input : Cursor) → context.ignore_error ≡ false
     → IsPlainRun settings input (text_steps_by rule settings context input)
+
+-- The steps by which a text is read with the slashes at places read as many again as are met, all of them among the places;
+-- and where that is as many as there are places, each was met.
+pub record CountsMet (places : List BytePos) (settings : Settings) (context : Context) (input : Cursor) : Type 0 where
+  pub counted : rereads (text_steps_by (at_places places) settings context input) ≡ length (text_met (at_places places) settings context input)
+  pub among : list_all (is_among places) (text_met (at_places places) settings context input) ≡ true
+  pub all : rereads (text_steps_by (at_places places) settings context input) ≡ length places → text_met (at_places places) settings context input ≡ places
+
+abbrev pub RereadsCountMet : Type 0
+RereadsCountMet = (places : List BytePos) (settings : Settings) (context : Context) (input : Cursor) → ascend places ≡ true → CountsMet places settings context input

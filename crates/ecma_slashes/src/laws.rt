@@ -1,5 +1,5 @@
 //! Laws of runs in which the slashes that a rule names are read again.
-ghost use Rattle.ecma_slashes.specs.Rereads.{RunsByRuleAreRuns, RunsByRuleEnd, TextsAreReadOut, TextsAreReadPlainly};
+ghost use Rattle.ecma_slashes.specs.Rereads.{RereadsCountMet, RunsByRuleAreRuns, RunsByRuleEnd, TextsAreReadOut, TextsAreReadPlainly};
 
 /// Whichever slashes are read again, reading comes to the end of every text.
 pub fn runs_by_rule_end()
@@ -21,4 +21,10 @@ pub fn texts_are_read_out()
 /// is clean exactly where it leaves nothing wrong, and `canonical` answers that it is not for nothing but errors.
 pub fn texts_are_read_plainly()
     ensures { TextsAreReadPlainly }
+{}
+
+/// Where the slashes at places are named, the steps by which a text is read read as many slashes again as are met, each at
+/// one of the places, in their order; and where these are as many as there are places, each place was that of a slash.
+pub fn rereads_count_met()
+    ensures { RereadsCountMet }
 {}

@@ -19,7 +19,15 @@ use ecma_syntax::Context;
 use ecma_token::TokenAndSpan;
 use std::alloc::{AllocError, Global};
 
-/// Reads the next token into a slot as [`read_by`] does, and says whether a slash was read again.
+/// Reads the next token, as [`read_by`] answers it, into a slot that is kept, and says whether a slash was read again. Our
+/// own.
+///
+/// The caller knows what that of [`read_by`] does.
+///
+/// # Errors
+///
+/// `AllocError` where there is no memory; each later read answers the same. Which token the slot then holds is not said: that
+/// which stood in it, or the slash.
 pub fn read_telling<'a>(
     lexer: &mut Lexer<'a>,
     slot: &mut Option<TokenAndSpan<'a>>,
