@@ -88,6 +88,9 @@ struct ecma_answer ecma_tokens(const uint8_t *text, size_t text_len, uint32_t op
 struct ecma_answer ecma_comments(const uint8_t *text, size_t text_len, uint32_t options, const uint32_t *slashes,
                                  size_t slashes_len, struct ecma_comment *out, size_t out_len);
 
+struct ecma_answer ecma_canonical(const uint8_t *text, size_t text_len, uint32_t options, const uint32_t *slashes,
+                                  size_t slashes_len, uint8_t *out, size_t out_len);
+
 #ifdef __cplusplus
 }
 #endif

@@ -1,4 +1,4 @@
-/* Tells of the tokens or comments of a file: ecma_rows tokens|comments FILE OPTIONS [PLACE..]. A line has the numbers of a row;
+/* Tells of the tokens, the comments or the canonical text of a file: tokens|comments|canonical FILE OPTIONS [PLACE..]. A line has the numbers of a row;
    the last line has the status and the count. It asks for the number of tokens first, and gives room for as many rows. */
 #include "ecma.h"
 #include <stdio.h>
@@ -48,9 +48,21 @@ static struct ecma_answer tell_comments(const uint8_t *text, size_t len, uint32_
     return told;
 }
 
+static struct ecma_answer tell_canonical(const uint8_t *text, size_t len, uint32_t options, const uint32_t *slashes,
+                                         size_t slashes_len) {
+    uint8_t none;
+    struct ecma_answer counted = ecma_canonical(text, len, options, slashes, slashes_len, &none, 0);
+    uint8_t *bytes = (uint8_t *)calloc(counted.count + 1, 1);
+    struct ecma_answer told = ecma_canonical(text, len, options, slashes, slashes_len, bytes, counted.count);
+    fwrite(bytes, 1, told.count, stdout);
+    putchar('\n');
+    free(bytes);
+    return told;
+}
+
 int main(int argc, char **argv) {
     if (argc < 4) {
-        fprintf(stderr, "%s tokens|comments FILE OPTIONS [PLACE..]\n", argv[0]);
+        fprintf(stderr, "%s tokens|comments|canonical FILE OPTIONS [PLACE..]\n", argv[0]);
         return 2;
     }
     size_t len;
@@ -61,8 +73,14 @@ int main(int argc, char **argv) {
     for (size_t i = 0; i < slashes_len; i++) {
         slashes[i] = (uint32_t)strtoul(argv[4 + i], NULL, 10);
     }
-    struct ecma_answer told = strcmp(argv[1], "comments") == 0 ? tell_comments(text, len, options, slashes, slashes_len)
-                                                                : tell_tokens(text, len, options, slashes, slashes_len);
+    struct ecma_answer told;
+    if (strcmp(argv[1], "comments") == 0) {
+        told = tell_comments(text, len, options, slashes, slashes_len);
+    } else if (strcmp(argv[1], "canonical") == 0) {
+        told = tell_canonical(text, len, options, slashes, slashes_len);
+    } else {
+        told = tell_tokens(text, len, options, slashes, slashes_len);
+    }
     printf("status %u count %zu\n", (unsigned)told.status, told.count);
     free(slashes);
     free(text);

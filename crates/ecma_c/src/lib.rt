@@ -3,11 +3,14 @@
 
 ghost use Rattle.std.specs.Prelude.{◌≡◌, false, map, true};
 ghost use Rattle.ecma_rows.specs.Asked.{judged, place_at};
+ghost use Rattle.ecma_rows.specs.Canon.{canon_told};
 ghost use Rattle.ecma_rows.specs.Rows.{comment_rows, token_rows};
 ghost use Rattle.ecma_rows.specs.Told.{told_by};
 ghost use Rattle.ecma_c.specs.Exported.{Counts, Tells, exported, exported_or_none};
 
-use ecma_rows::{Answer, CommentRow, Status, TokenRow, count_tokens, tell_comments, tell_tokens};
+use ecma_rows::{
+    Answer, CommentRow, Status, TokenRow, count_tokens, tell_canonical, tell_comments, tell_tokens,
+};
 use std::alloc::{AllocError, Global};
 
 /// What a call came to: the number of its status ([`Status::number`]), and how many rows there are to tell.
@@ -80,4 +83,18 @@ pub extern "C" fn ecma_comments(
     ensures { Tells (told_by true comment_rows (judged options (map place_at slashes.now) text.now)) out.old out.new result }
 {
     EcmaAnswer::of_told(tell_comments(alloc, text, options, slashes, out))
+}
+
+/// Writes the canonical text to `out` ([`tell_canonical`]); status 5 where there is no memory.
+#[unsafe(no_mangle)]
+pub extern "C" fn ecma_canonical(
+    alloc: Global,
+    text: &[u8],
+    options: u32,
+    slashes: &[u32],
+    out: &mut [u8],
+) -> EcmaAnswer
+    ensures { Tells (canon_told (judged options (map place_at slashes.now) text.now)) out.old out.new result }
+{
+    EcmaAnswer::of_told(tell_canonical(alloc, text, options, slashes, out))
 }

@@ -3,3 +3,4 @@ pub mod RoomLemmas
 pub mod Telling
 pub mod FewTokens
 pub mod Judging
+pub mod CanonCases

@@ -1,4 +1,5 @@
 pub mod Asked
+pub mod Canon
 pub mod Rows
 pub mod Tally
 pub mod Told

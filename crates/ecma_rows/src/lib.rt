@@ -2,6 +2,7 @@
 #![tactic(auto)]
 
 mod begin;
+mod canon;
 mod comments;
 mod outcome;
 mod reading;
@@ -10,6 +11,7 @@ mod room;
 mod tally;
 mod tokens;
 
+pub use canon::tell_canonical;
 pub use comments::{CommentRow, tell_comments};
 pub use outcome::{Answer, Status};
 pub use reading::Options;

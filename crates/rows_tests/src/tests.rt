@@ -1,5 +1,6 @@
 //! Rows of tokens and comments, and what calls answer.
 
+mod canon;
 mod comments;
 mod requests;
 mod tokens;
