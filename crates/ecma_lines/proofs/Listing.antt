@@ -21,7 +21,7 @@ use Rattle.ecma_options.specs.Begin.{begin, begin_if, context, settings, whole}
 use Rattle.ecma_lines.specs.ErrorLines.{errors_from, errors_text, found_lines, list_lines, token_lines}
 use Rattle.ecma_lines.specs.Lines.{line, lines, tokens_from, tokens_text}
 use Rattle.ecma_lines.specs.Rereads.{AllWithin, Stands, session_behind}
-use Rattle.ecma_lines.specs.declared.rereads.Reread.{Reread}
+use Rattle.ecma_lines.specs.declared.rereads.ReadAgain.{ReadAgain}
 use Rattle.ecma_lines.proofs.RereadLemmas.{in-order-within, rereads-standing}
 use Rattle.ecma_options.specs.declared.options.Options.{Options}
 
@@ -50,7 +50,7 @@ pub session_behind-standing : (collects : Bool) (o : Options) (rereads bytes : L
 session_behind-standing collects o rereads bytes s opened = rereads-standing (whole bytes) 0 (begin collects o bytes) rereads s (begin-standing collects o bytes) opened
 
 -- nothing is read again where a run begins, and nothing was read
-pub begin-stands : (collects : Bool) (o : Options) (bytes : List ℕ) (opened : Reread) → lexer_state opened.lexer ≡ state_of (begin collects o bytes) → opened.tokens.items ≡ [] → Stands (begin collects o bytes) opened
+pub begin-stands : (collects : Bool) (o : Options) (bytes : List ℕ) (opened : ReadAgain) → lexer_state opened.lexer ≡ state_of (begin collects o bytes) → opened.tokens.items ≡ [] → Stands (begin collects o bytes) opened
 begin-stands collects o bytes opened at none = go (o.«module» || o.strict) at
   where
     go : (b : Bool) → lexer_state opened.lexer ≡ state_of (begin_if b o (start_of (settings collects o) (whole bytes))) → Stands (begin_if b o (start_of (settings collects o) (whole bytes))) opened
@@ -67,7 +67,7 @@ text-length bytes s now utf8 standing same_start same_text =
     omega (arith, start, bound, all)
 
 -- the tokens up to there stand in the text
-pub first-within : (bytes : List ℕ) (s : Session) (opened : Reread) → IsUtf8 bytes → Standing (whole bytes) s → Stands s opened → AllWithin (length bytes) (map spanned_view opened.tokens.items)
+pub first-within : (bytes : List ℕ) (s : Session) (opened : ReadAgain) → IsUtf8 bytes → Standing (whole bytes) s → Stands s opened → AllWithin (length bytes) (map spanned_view opened.tokens.items)
 first-within bytes s opened utf8 standing stands =
     subst (AllWithin (length bytes)) (sym stands.kept)
     (in-order-within (place (whole bytes)) (place s.input) (length bytes) (kept_back s.past) standing.order (text-length bytes s s.input utf8 standing refl refl))
@@ -112,7 +112,7 @@ pub listed-plain : (o : Options) (rereads bytes : List ℕ) (text_of : SpannedVi
 listed-plain o rereads bytes text_of l out so = so_far-plain so.session so.count l so.state
 
 -- that of the first tokens
-pub listed-start : (o : Options) (rereads bytes : List ℕ) (text_of : SpannedView → List ℕ) (out : List ℕ) (s : Session) (opened : Reread)
+pub listed-start : (o : Options) (rereads bytes : List ℕ) (text_of : SpannedView → List ℕ) (out : List ℕ) (s : Session) (opened : ReadAgain)
     → session_behind false o rereads bytes ≡ Some s → Stands s opened → out ≡ flat_map text_of (map spanned_view opened.tokens.items)
     → Listed o rereads bytes text_of (lexer_state opened.lexer) out
 listed-start o rereads bytes text_of out s opened at stands first =

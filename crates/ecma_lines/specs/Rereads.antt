@@ -11,7 +11,7 @@ use Rattle.ecma_options.specs.Begin.{begin}
 use Rattle.ecma_options.specs.declared.options.Options.{Options}
 use Rattle.ecma_stdio.specs.declared.fault.Fault.{Fault}
 use Rattle.ecma_stdio.specs.declared.fault.Fault.TheVariants.{NoSlash, OutOfMemory}
-use Rattle.ecma_lines.specs.declared.rereads.Reread.{Reread}
+use Rattle.ecma_lines.specs.declared.rereads.ReadAgain.{ReadAgain}
 
 -- the steps that read the last token again
 abbrev pub rereading : List Step
@@ -29,13 +29,13 @@ abbrev pub session_behind : Bool → Options → List ℕ → List ℕ → Optio
 session_behind comments options rereads bytes = behind_rereads 0 (begin comments options bytes) rereads
 
 -- a lexer has come to a session where nothing is read again, and these are the tokens that are kept, in order
-pub record Stands (s : Session) (o : Reread) : Type 0 where
+pub record Stands (s : Session) (o : ReadAgain) : Type 0 where
   pub state : lexer_state o.lexer ≡ state_of s
   pub plain : s.reread ≡ None
   pub kept : map spanned_view o.tokens.items ≡ reverse (kept_back s.past)
 
 -- it has come there; or not, as the end came before, and then no slash was answered there
-abbrev pub CameTo : Session → Bool → Reread → Type 0
+abbrev pub CameTo : Session → Bool → ReadAgain → Type 0
 CameTo s true o = Stands s o
 CameTo s false o = slash_answered (state_of s) ≡ None
 

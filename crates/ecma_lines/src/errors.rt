@@ -8,7 +8,7 @@ ghost use Rattle.ecma_lines.specs.ErrorLines as rows;
 ghost use Rattle.ecma_lines.specs.MessageView.{view_message};
 ghost use Rattle.ecma_lines.specs.Rereads.{Lacks};
 
-use crate::rereads::{Reread, open};
+use crate::rereads::{ReadAgain, open};
 use ecma_lexer::{Lexer, Tokens};
 use ecma_options::Options;
 use ecma_place::{Span, Spanned};
@@ -125,7 +125,7 @@ pub fn errors_text(
         (λ out. rows.errors_text options rereads.now text.now ≡ Some out.items)
         (λ fault. Lacks (rows.errors_text options rereads.now text.now) fault) }
 {
-    let Reread { mut lexer, tokens } = open(alloc, false, options, rereads, text)?;
+    let ReadAgain { mut lexer, tokens } = open(alloc, false, options, rereads, text)?;
     let mut out = Vec::new(alloc);
     push_refusals(alloc, &mut out, &tokens)?;
     'tokens: while push_next(alloc, &mut out, &mut lexer)? {}

@@ -7,7 +7,7 @@ ghost use Rattle.ecma_lexer.specs.Session.{Session, kept_back, kept_of, kept_tok
 ghost use Rattle.ecma_lines.specs.Rereads.{Stands};
 
 use crate::lines::next_kept;
-use crate::rereads::Reread;
+use crate::rereads::ReadAgain;
 use ecma_lexer::{Kept, Lexer};
 use ecma_token::TokenAndSpan;
 use std::alloc::{AllocError, Global};
@@ -38,7 +38,7 @@ fn keep_rest(kept: &mut Vec<Kept>, lexer: &mut Lexer) -> Result<(), AllocError>
 
 /// What is kept of all tokens of a text: of those up to the last that is read again, and of those behind them. The lexer
 /// reads to the end, behind which its comments may be handed over.
-pub fn keep_tokens(alloc: Global, opened: &mut Reread) -> Result<Vec<Kept>, AllocError>
+pub fn keep_tokens(alloc: Global, opened: &mut ReadAgain) -> Result<Vec<Kept>, AllocError>
     requires { opened.old.lexer.reread ≡ None }
     ensures tokens { (s : Session) → Stands s opened.old → IfOk result (λ kept. kept.items ≡ kept_tokens (read_out s)) }
     ensures errors { (s : Session) → Stands s opened.old → OnOk result ((lexer_state opened.new.lexer).errors ≡ errors_of s) }

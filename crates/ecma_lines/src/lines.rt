@@ -6,7 +6,7 @@ ghost use Rattle.ecma_token.specs.View.{spanned_view};
 ghost use Rattle.ecma_lines.specs.Lines as rows;
 ghost use Rattle.ecma_lines.specs.Rereads.{AllWithin, Lacks};
 
-use crate::rereads::{Reread, open};
+use crate::rereads::{ReadAgain, open};
 use ecma_lexer::{Kept, Lexer};
 use ecma_options::Options;
 use ecma_stdio::{Fault, push_escaped};
@@ -145,7 +145,7 @@ pub fn tokens_text(
         (λ out. rows.tokens_text options rereads.now text.now ≡ Some out.items)
         (λ fault. Lacks (rows.tokens_text options rereads.now text.now) fault) }
 {
-    let Reread { mut lexer, tokens } = open(alloc, false, options, rereads, text)?;
+    let ReadAgain { mut lexer, tokens } = open(alloc, false, options, rereads, text)?;
     let mut out = Vec::new(alloc);
     push_lines(alloc, &mut out, text.as_bytes(), &tokens)?;
     'tokens: while let Some(token) = next_kept(&mut lexer)? {

@@ -15,12 +15,12 @@ use std::alloc::{AllocError, Global};
 
 /// A lexer behind the last token that is read again, and the tokens up to there, in order.
 #[derive(Drop)]
-pub struct Reread<'a> {
+pub struct ReadAgain<'a> {
     pub lexer: Lexer<'a>,
     pub tokens: Vec<TokenAndSpan<'a>>,
 }
 
-impl<'a> Reread<'a> {
+impl<'a> ReadAgain<'a> {
     /// Reads so many tokens; whether there were so many.
     fn read_on(&mut self, count: u64) -> Result<bool, AllocError>
         ensures { (s : Session) → Stands s self.old → IfOk result (λ all. CameTo (behind_reads count s) all self.new) }
@@ -96,13 +96,13 @@ pub fn open<'a>(
     options: Options,
     rereads: &[u64],
     text: &'a str,
-) -> Result<Reread<'a>, Fault>
+) -> Result<ReadAgain<'a>, Fault>
     requires { length text.now < 2 ^ 32 }
     ensures { MatchResult result
         (λ opened. (s : Session) × (session_behind comments options rereads.now text.now ≡ Some s) × Stands s opened)
         (λ fault. Lacks (session_behind comments options rereads.now text.now) fault) }
 {
-    let mut opened = Reread {
+    let mut opened = ReadAgain {
         lexer: begin(alloc, comments, options, text)?,
         tokens: Vec::new(alloc),
     };

@@ -3,7 +3,7 @@ use Rattle.std.proofs.lemmas.Grind.{reverse_onto}
 use Rattle.std.proofs.lemmas.List.{map-append}
 use Rattle.ecma_token.specs.View.{spanned_view}
 use Rattle.ecma_lines.proofs.RereadLemmas.{emptied, without-last}
-use Rattle.ecma_lines.proofs.rereads.Reread.replace_last.Goals as goal
+use Rattle.ecma_lines.proofs.rereads.ReadAgain.replace_last.Goals as goal
 
 pub returns-clause-tokens : goal.returns-clause-tokens
 returns-clause-tokens c ks same =

@@ -8,7 +8,7 @@ use Rattle.ecma_lexer.specs.Run.{act_on, reading_of}
 use Rattle.ecma_lexer.specs.Session.{lexer_state, state_of}
 use Rattle.ecma_lexer.specs.Slashes.{slash_answered}
 use Rattle.ecma_lines.proofs.RereadLemmas.{no-slash-behind, token-behind}
-use Rattle.ecma_lines.proofs.rereads.Reread.read_on.Goals as goal
+use Rattle.ecma_lines.proofs.rereads.ReadAgain.read_on.Goals as goal
 
 pub returns-in-None : goal.returns-in-None
 returns-in-None c s at =

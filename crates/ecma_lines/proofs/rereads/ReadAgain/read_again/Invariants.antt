@@ -2,7 +2,7 @@
 use Rattle.std.proofs.Common.{◌≡◌, drop}
 use Rattle.ecma_lexer.specs.Session.{Session}
 use Rattle.ecma_lines.specs.Rereads.{Stands, behind_rereads}
-use Rattle.ecma_lines.proofs.rereads.Reread.read_again.Given as goal
+use Rattle.ecma_lines.proofs.rereads.ReadAgain.read_again.Given as goal
 
 abbrev pub invariant-loop-number : goal.invariant-loop-number
 invariant-loop-number l =
