@@ -47,6 +47,15 @@ enum ecma_comment_flag {
     ECMA_TRAILING = 2
 };
 
+/* Where an error was found. */
+enum ecma_error_source {
+    /* A token is one. */
+    ECMA_ERROR_TOKEN = 0,
+    ECMA_ERROR_RECORDED = 1,
+    /* It waits until the code is known to be a module. */
+    ECMA_ERROR_WAITING = 2
+};
+
 /* A token: where it begins and ends, in bytes from the text's start, its kind (ecma_kinds.h), and its flags. */
 struct ecma_token {
     uint32_t lo;
@@ -66,6 +75,15 @@ struct ecma_comment {
     uint32_t flags;
 };
 
+/* An error: where it begins and ends, where it was found, and where its message begins and ends among all messages, joined. */
+struct ecma_error {
+    uint32_t lo;
+    uint32_t hi;
+    uint32_t source;
+    size_t message_lo;
+    size_t message_hi;
+};
+
 /* How many rows there are, also where there was no room for all of them, and the status. */
 struct ecma_answer {
     size_t count;
@@ -74,10 +92,11 @@ struct ecma_answer {
 
 ECMA_ASSERT(sizeof(struct ecma_token) == 12);
 ECMA_ASSERT(sizeof(struct ecma_comment) == 24);
+ECMA_ASSERT(sizeof(struct ecma_error) == 32);
 ECMA_ASSERT(sizeof(struct ecma_answer) == 16);
 
 /* `text` has text_len bytes; `slashes` has slashes_len places, each behind the one before it, of slashes that begin regular
-   expressions. A pointer to nothing, with the length 0, may be any that is aligned and not null. */
+   expressions. A null pointer is one to nothing, whatever its length says. */
 
 struct ecma_answer ecma_count(const uint8_t *text, size_t text_len, uint32_t options, const uint32_t *slashes,
                               size_t slashes_len);
@@ -88,8 +107,69 @@ struct ecma_answer ecma_tokens(const uint8_t *text, size_t text_len, uint32_t op
 struct ecma_answer ecma_comments(const uint8_t *text, size_t text_len, uint32_t options, const uint32_t *slashes,
                                  size_t slashes_len, struct ecma_comment *out, size_t out_len);
 
+struct ecma_answer ecma_errors(const uint8_t *text, size_t text_len, uint32_t options, const uint32_t *slashes,
+                               size_t slashes_len, struct ecma_error *out, size_t out_len, uint8_t *messages,
+                               size_t messages_len);
+
 struct ecma_answer ecma_canonical(const uint8_t *text, size_t text_len, uint32_t options, const uint32_t *slashes,
                                   size_t slashes_len, uint8_t *out, size_t out_len);
+
+/* The library's functions take no null pointers; by the names of these they do, as pointers to nothing. */
+
+static inline struct ecma_answer ecma_count_or_nothing(const uint8_t *text, size_t text_len, uint32_t options,
+                                                       const uint32_t *slashes, size_t slashes_len) {
+    const uint32_t no_slash = 0;
+    return ecma_count(text ? text : (const uint8_t *)"", text ? text_len : 0, options,
+                      slashes ? slashes : &no_slash, slashes ? slashes_len : 0);
+}
+#define ecma_count ecma_count_or_nothing
+
+static inline struct ecma_answer ecma_tokens_or_nothing(const uint8_t *text, size_t text_len, uint32_t options,
+                                                        const uint32_t *slashes, size_t slashes_len,
+                                                        struct ecma_token *out, size_t out_len) {
+    const uint32_t no_slash = 0;
+    struct ecma_token no_out;
+    return ecma_tokens(text ? text : (const uint8_t *)"", text ? text_len : 0, options,
+                       slashes ? slashes : &no_slash, slashes ? slashes_len : 0,
+                       out ? out : &no_out, out ? out_len : 0);
+}
+#define ecma_tokens ecma_tokens_or_nothing
+
+static inline struct ecma_answer ecma_comments_or_nothing(const uint8_t *text, size_t text_len, uint32_t options,
+                                                          const uint32_t *slashes, size_t slashes_len,
+                                                          struct ecma_comment *out, size_t out_len) {
+    const uint32_t no_slash = 0;
+    struct ecma_comment no_out;
+    return ecma_comments(text ? text : (const uint8_t *)"", text ? text_len : 0, options,
+                         slashes ? slashes : &no_slash, slashes ? slashes_len : 0,
+                         out ? out : &no_out, out ? out_len : 0);
+}
+#define ecma_comments ecma_comments_or_nothing
+
+static inline struct ecma_answer ecma_errors_or_nothing(const uint8_t *text, size_t text_len, uint32_t options,
+                                                        const uint32_t *slashes, size_t slashes_len,
+                                                        struct ecma_error *out, size_t out_len,
+                                                        uint8_t *messages, size_t messages_len) {
+    const uint32_t no_slash = 0;
+    struct ecma_error no_out;
+    uint8_t no_messages;
+    return ecma_errors(text ? text : (const uint8_t *)"", text ? text_len : 0, options,
+                       slashes ? slashes : &no_slash, slashes ? slashes_len : 0,
+                       out ? out : &no_out, out ? out_len : 0,
+                       messages ? messages : &no_messages, messages ? messages_len : 0);
+}
+#define ecma_errors ecma_errors_or_nothing
+
+static inline struct ecma_answer ecma_canonical_or_nothing(const uint8_t *text, size_t text_len, uint32_t options,
+                                                           const uint32_t *slashes, size_t slashes_len,
+                                                           uint8_t *out, size_t out_len) {
+    const uint32_t no_slash = 0;
+    uint8_t no_out;
+    return ecma_canonical(text ? text : (const uint8_t *)"", text ? text_len : 0, options,
+                          slashes ? slashes : &no_slash, slashes ? slashes_len : 0,
+                          out ? out : &no_out, out ? out_len : 0);
+}
+#define ecma_canonical ecma_canonical_or_nothing
 
 #ifdef __cplusplus
 }

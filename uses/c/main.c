@@ -1,5 +1,6 @@
-/* Tells of the tokens, the comments or the canonical text of a file: tokens|comments|canonical FILE OPTIONS [PLACE..]. A line has the numbers of a row;
-   the last line has the status and the count. It asks for the number of tokens first, and gives room for as many rows. */
+/* Tells of the tokens, the comments, the errors or the canonical text of a file: tokens|comments|errors|canonical FILE OPTIONS
+   [PLACE..]. A line has the numbers of a row, that of an error its message too; the last line has the status and the count. It
+   asks for the number of rows first, and gives room for as many. */
 #include "ecma.h"
 #include <stdio.h>
 #include <stdlib.h>
@@ -36,8 +37,7 @@ static struct ecma_answer tell_tokens(const uint8_t *text, size_t len, uint32_t 
 
 static struct ecma_answer tell_comments(const uint8_t *text, size_t len, uint32_t options, const uint32_t *slashes,
                                         size_t slashes_len) {
-    struct ecma_comment none;
-    struct ecma_answer counted = ecma_comments(text, len, options, slashes, slashes_len, &none, 0);
+    struct ecma_answer counted = ecma_comments(text, len, options, slashes, slashes_len, NULL, 0);
     struct ecma_comment *rows = (struct ecma_comment *)calloc(counted.count + 1, sizeof *rows);
     struct ecma_answer told = ecma_comments(text, len, options, slashes, slashes_len, rows, counted.count);
     for (size_t i = 0; i < told.count; i++) {
@@ -48,10 +48,30 @@ static struct ecma_answer tell_comments(const uint8_t *text, size_t len, uint32_
     return told;
 }
 
+/* All rows together say how many bytes the messages have, so that room for these is given last. */
+static struct ecma_answer tell_errors(const uint8_t *text, size_t len, uint32_t options, const uint32_t *slashes,
+                                      size_t slashes_len) {
+    struct ecma_answer counted = ecma_errors(text, len, options, slashes, slashes_len, NULL, 0, NULL, 0);
+    size_t count = counted.count;
+    struct ecma_error *rows = (struct ecma_error *)calloc(count + 1, sizeof *rows);
+    ecma_errors(text, len, options, slashes, slashes_len, rows, count, NULL, 0);
+    size_t messages_len = count > 0 ? rows[count - 1].message_hi : 0;
+    uint8_t *messages = (uint8_t *)calloc(messages_len + 1, 1);
+    struct ecma_answer told = ecma_errors(text, len, options, slashes, slashes_len, rows, count, messages, messages_len);
+    for (size_t i = 0; i < count; i++) {
+        const struct ecma_error *row = &rows[i];
+        printf("%u %u %u ", (unsigned)row->lo, (unsigned)row->hi, (unsigned)row->source);
+        fwrite(messages + row->message_lo, 1, row->message_hi - row->message_lo, stdout);
+        putchar('\n');
+    }
+    free(messages);
+    free(rows);
+    return told;
+}
+
 static struct ecma_answer tell_canonical(const uint8_t *text, size_t len, uint32_t options, const uint32_t *slashes,
                                          size_t slashes_len) {
-    uint8_t none;
-    struct ecma_answer counted = ecma_canonical(text, len, options, slashes, slashes_len, &none, 0);
+    struct ecma_answer counted = ecma_canonical(text, len, options, slashes, slashes_len, NULL, 0);
     uint8_t *bytes = (uint8_t *)calloc(counted.count + 1, 1);
     struct ecma_answer told = ecma_canonical(text, len, options, slashes, slashes_len, bytes, counted.count);
     fwrite(bytes, 1, told.count, stdout);
@@ -62,7 +82,7 @@ static struct ecma_answer tell_canonical(const uint8_t *text, size_t len, uint32
 
 int main(int argc, char **argv) {
     if (argc < 4) {
-        fprintf(stderr, "%s tokens|comments|canonical FILE OPTIONS [PLACE..]\n", argv[0]);
+        fprintf(stderr, "%s tokens|comments|errors|canonical FILE OPTIONS [PLACE..]\n", argv[0]);
         return 2;
     }
     size_t len;
@@ -76,6 +96,8 @@ int main(int argc, char **argv) {
     struct ecma_answer told;
     if (strcmp(argv[1], "comments") == 0) {
         told = tell_comments(text, len, options, slashes, slashes_len);
+    } else if (strcmp(argv[1], "errors") == 0) {
+        told = tell_errors(text, len, options, slashes, slashes_len);
     } else if (strcmp(argv[1], "canonical") == 0) {
         told = tell_canonical(text, len, options, slashes, slashes_len);
     } else {

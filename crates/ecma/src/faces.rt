@@ -246,7 +246,7 @@ fn tell_unmet(report: &mut Report, named: &[BytePos], met: &[BytePos]) -> Result
     Ok(())
 }
 
-/// What is told of a text: its errors, and what was asked for. The slashes at these places begin regular expressions.
+/// What is reported of a text: its errors, and what was asked for. The slashes at these places begin regular expressions.
 pub fn tell<'a>(
     alloc: Global,
     asked: Asked,

@@ -31,7 +31,7 @@ fn refuse<E: Write>(alloc: Global, faults: &mut E, name: &str, failure: Failure)
     }
 }
 
-/// Writes what is told of a text, and its faults, and answers the status.
+/// Writes what is reported of a text, and its faults, and answers the status.
 fn tell_of<W: Write, E: Write>(
     alloc: Global,
     asked: Asked,

@@ -14,17 +14,17 @@ pub struct Position {
     pub column: u32,
 }
 
-/// What is told of a part of a text besides what all rows have.
+/// What is reported of a part of a text besides what all rows have.
 #[derive(Clone, Copy, Debug, PartialEq, Eq)]
 pub enum More {
     Nothing,
-    /// Of a token: whether a line terminator, or nothing, stands before it.
+    /// Of a token: whether a line terminator, or nothing, comes before it.
     LineBreak(bool),
-    /// Of a comment: on which side of its token it stands, and the token's place.
+    /// Of a comment: on which side of its token it is, and the token's place.
     Beside { side: &'static str, token: BytePos },
 }
 
-/// What is told of a part of a text.
+/// What is reported of a part of a text.
 #[derive(Clone, Copy)]
 pub struct Row<'r> {
     pub kind: &'r str,
@@ -137,7 +137,7 @@ impl<'a> Report<'a> {
         }
     }
 
-    /// What stands before the text of a row in its line.
+    /// What comes before the text of a row in its line.
     fn head(&self, row: Row) -> Result<String, AllocError> {
         let kind = row.kind;
         let lo = row.span.lo.0;

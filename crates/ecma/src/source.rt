@@ -17,7 +17,7 @@ pub enum Failure {
 }
 
 impl Failure {
-    /// What is told of it.
+    /// What is reported of it.
     pub fn message(self) -> &'static str {
         match self {
             Failure::NotRead => "cannot be read",

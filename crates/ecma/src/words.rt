@@ -5,7 +5,7 @@ use ecma_options::Options;
 use ecma_place::BytePos;
 use std::alloc::{AllocError, Global};
 
-/// What is told of each text.
+/// What is reported of each text.
 #[derive(Clone, Copy, Debug, PartialEq, Eq)]
 pub enum Face {
     Tokens,

@@ -1,7 +1,9 @@
 -- What C is answered.
-use Rattle.std.specs.Prelude.{◌≡◌, ◌⊎◌, List, Result, Ok, Err}
+use Rattle.std.specs.Prelude.{ℕ, ◌≡◌, ◌⊎◌, List, Result, Ok, Err}
+use Rattle.ecma_rows.specs.ErrorRows.{Sourced, TellsErrors}
 use Rattle.ecma_rows.specs.Told.{IsTold, Told, count_of, status_number}
 use Rattle.std.specs.declared.alloc.AllocError.{AllocError}
+use Rattle.ecma_rows.specs.declared.errors.ErrorRow.{ErrorRow}
 use Rattle.ecma_rows.specs.declared.outcome.Answer.{Answer}
 use Rattle.ecma_c.specs.declared.EcmaAnswer.{EcmaAnswer}
 
@@ -29,3 +31,12 @@ Tells told old new answer = (answer ≡ no_memory) ⊎ IsExported told old new a
 
 abbrev pub Counts : {R : Type 0} → Told R → EcmaAnswer → Type 0
 Counts told answer = (answer ≡ no_memory) ⊎ (answer ≡ exported (count_of told))
+
+-- the same of errors, which have two rooms
+pub record ExportsErrors (told : Told Sourced) (old_rows rows : List ErrorRow) (old_bytes bytes : List ℕ) (answer : EcmaAnswer) : Type 0 where
+  pub plain : Answer
+  pub is : answer ≡ exported plain
+  pub tells : TellsErrors told old_rows rows old_bytes bytes plain
+
+abbrev pub ToldErrors : Told Sourced → List ErrorRow → List ErrorRow → List ℕ → List ℕ → EcmaAnswer → Type 0
+ToldErrors told old_rows rows old_bytes bytes answer = (answer ≡ no_memory) ⊎ ExportsErrors told old_rows rows old_bytes bytes answer

@@ -4,16 +4,18 @@
 ghost use Rattle.std.specs.Prelude.{◌≡◌, false, map, true};
 ghost use Rattle.ecma_rows.specs.Asked.{judged, place_at};
 ghost use Rattle.ecma_rows.specs.Canon.{canon_told};
+ghost use Rattle.ecma_rows.specs.ErrorRows.{all_errors};
 ghost use Rattle.ecma_rows.specs.Rows.{comment_rows, token_rows};
 ghost use Rattle.ecma_rows.specs.Told.{told_by};
-ghost use Rattle.ecma_c.specs.Exported.{Counts, Tells, exported, exported_or_none};
+ghost use Rattle.ecma_c.specs.Exported.{Counts, Tells, ToldErrors, exported, exported_or_none};
 
 use ecma_rows::{
-    Answer, CommentRow, Status, TokenRow, count_tokens, tell_canonical, tell_comments, tell_tokens,
+    Answer, CommentRow, ErrorRow, Status, TokenRow, count_tokens, write_canonical, write_comments,
+    write_errors, write_tokens,
 };
 use std::alloc::{AllocError, Global};
 
-/// What a call came to: the number of its status ([`Status::number`]), and how many rows there are to tell.
+/// What a call came to: the number of its status ([`Status::number`]), and how many rows there are.
 #[repr(C)]
 #[derive(Clone, Copy, Debug, PartialEq, Eq)]
 pub struct EcmaAnswer {
@@ -57,7 +59,7 @@ pub extern "C" fn ecma_count(
     EcmaAnswer::of_told(count_tokens(alloc, text, options, slashes))
 }
 
-/// Writes a row for each token to `out` ([`tell_tokens`]); status 5 where there is no memory.
+/// Writes a row for each token to `out` ([`write_tokens`]); status 5 where there is no memory.
 #[unsafe(no_mangle)]
 pub extern "C" fn ecma_tokens(
     alloc: Global,
@@ -68,10 +70,10 @@ pub extern "C" fn ecma_tokens(
 ) -> EcmaAnswer
     ensures { Tells (told_by false token_rows (judged options (map place_at slashes.now) text.now)) out.old out.new result }
 {
-    EcmaAnswer::of_told(tell_tokens(alloc, text, options, slashes, out))
+    EcmaAnswer::of_told(write_tokens(alloc, text, options, slashes, out))
 }
 
-/// Writes a row for each comment to `out` ([`tell_comments`]); status 5 where there is no memory.
+/// Writes a row for each comment to `out` ([`write_comments`]); status 5 where there is no memory.
 #[unsafe(no_mangle)]
 pub extern "C" fn ecma_comments(
     alloc: Global,
@@ -82,10 +84,25 @@ pub extern "C" fn ecma_comments(
 ) -> EcmaAnswer
     ensures { Tells (told_by true comment_rows (judged options (map place_at slashes.now) text.now)) out.old out.new result }
 {
-    EcmaAnswer::of_told(tell_comments(alloc, text, options, slashes, out))
+    EcmaAnswer::of_told(write_comments(alloc, text, options, slashes, out))
 }
 
-/// Writes the canonical text to `out` ([`tell_canonical`]); status 5 where there is no memory.
+/// Writes a row for each error to `out`, and their messages to `messages` ([`write_errors`]); status 5 where there is no memory.
+#[unsafe(no_mangle)]
+pub extern "C" fn ecma_errors(
+    alloc: Global,
+    text: &[u8],
+    options: u32,
+    slashes: &[u32],
+    out: &mut [ErrorRow],
+    messages: &mut [u8],
+) -> EcmaAnswer
+    ensures { ToldErrors (told_by false all_errors (judged options (map place_at slashes.now) text.now)) out.old out.new messages.old messages.new result }
+{
+    EcmaAnswer::of_told(write_errors(alloc, text, options, slashes, out, messages))
+}
+
+/// Writes the canonical text to `out` ([`write_canonical`]); status 5 where there is no memory.
 #[unsafe(no_mangle)]
 pub extern "C" fn ecma_canonical(
     alloc: Global,
@@ -96,5 +113,5 @@ pub extern "C" fn ecma_canonical(
 ) -> EcmaAnswer
     ensures { Tells (canon_told (judged options (map place_at slashes.now) text.now)) out.old out.new result }
 {
-    EcmaAnswer::of_told(tell_canonical(alloc, text, options, slashes, out))
+    EcmaAnswer::of_told(write_canonical(alloc, text, options, slashes, out))
 }

@@ -16,7 +16,7 @@ use Rattle.ecma_escape.specs.declared.escape.Refusal.TheVariants as because
 use Rattle.ecma_grammar.specs.Found.{error_over}
 use Rattle.ecma_grammar.specs.Fronts.{next_is, after}
 use Rattle.ecma_grammar.specs.Escapes.{Use, Escape, Refused, two_digits_wanted, four_digits_wanted, code_point_wanted, escape_spelling, is_surrogate, hex_escape, code_escape, four_escape, braced_escape, unicode_refusal, unicode_escape, out_of_range, no_brace, escape_of, escape_behind, lead, HexLetter, OctalDigit, LineEnd, Single, InWord, hex_front, is_hex_digit, is_octal_digit, octal_digits, octal_front, line_end}
-use Rattle.ecma_token.specs.View.{plain}
+use Rattle.ecma_token.specs.View.{plain_kind}
 use Rattle.ecma_token.specs.declared.error.SyntaxError.{ExpectedUnicodeEscape, InvalidStrEscape}
 use Rattle.ecma_escape.specs.declared.escape.Use.{Use as Place}
 use Rattle.ecma_escape.specs.declared.escape.Use.TheVariants as place
@@ -301,20 +301,20 @@ at-other within (d ∷ cs) c e =
     let same : d ≡ c = cc in
     rw same refl
 
-pub at-end : (w : Place) (text : Text) → slice_get text 0 ≡ None → is_word w ≡ false → Refused (92 ∷ []) (error_at (plain InvalidStrEscape) 0) ≡ escape_behind (use_of w) text
+pub at-end : (w : Place) (text : Text) → slice_get text 0 ≡ None → is_word w ≡ false → Refused (92 ∷ []) (error_at (plain_kind InvalidStrEscape) 0) ≡ escape_behind (use_of w) text
 at-end w (c ∷ cs) e h = cc
 at-end place.InString [] e h = refl
 at-end place.InTemplate [] e h = refl
 at-end place.InWord [] e h = cc
 
-pub in-word : (w : Place) (text : Text) → is_word w ≡ true → next_is 117 text ≡ false → Refused (92 ∷ []) (error_at (plain ExpectedUnicodeEscape) 0) ≡ escape_behind (use_of w) text
+pub in-word : (w : Place) (text : Text) → is_word w ≡ true → next_is 117 text ≡ false → Refused (92 ∷ []) (error_at (plain_kind ExpectedUnicodeEscape) 0) ≡ escape_behind (use_of w) text
 in-word place.InString text h not = cc
 in-word place.InTemplate text h not = cc
 in-word place.InWord [] h not = refl
 in-word place.InWord (c ∷ cs) h not =
     rw not (go (c == 120) (is_octal_digit c) (is_line_terminator c))
   where
-    go : (x y z : Bool) → Refused (92 ∷ []) (error_at (plain ExpectedUnicodeEscape) 0) ≡ escape_of InWord (cond x HexLetter (cond y OctalDigit (cond z LineEnd Single))) c cs
+    go : (x y z : Bool) → Refused (92 ∷ []) (error_at (plain_kind ExpectedUnicodeEscape) 0) ≡ escape_of InWord (cond x HexLetter (cond y OctalDigit (cond z LineEnd Single))) c cs
     go true y z = refl
     go false true z = refl
     go false false true = refl

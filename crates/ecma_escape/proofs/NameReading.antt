@@ -8,7 +8,7 @@ use Rattle.ecma_place.specs.Text.{Text, byte_len}
 use Rattle.ecma_place.specs.Atom.{AtomView, owned_atom, borrowed_atom}
 use Rattle.ecma_place.specs.Character.{is_ident_part}
 use Rattle.ecma_place.specs.Cursor.{Cursor, rest, place, passed}
-use Rattle.ecma_token.specs.View.{ErrorView, plain}
+use Rattle.ecma_token.specs.View.{ErrorView, plain_kind}
 use Rattle.ecma_token.specs.declared.error.SyntaxError.{InvalidIdentChar}
 use Rattle.ecma_escape.specs.declared.escape.Refusal.{Refusal}
 use Rattle.ecma_escape.specs.declared.escape.Meaning.{Meaning}
@@ -46,7 +46,7 @@ named-said is_first (answer.Refused refusal) s e p q h n at not = absurd (not re
 named-said is_first (answer.Character c) s e p q h n at not = go (may_stand is_first c) refl ∙ ap (λ x. map (fault_behind p) (faults_in (named_piece is_first x))) h
   where
     fault : ℕ → ℕ → Fault
-    fault a b = record { blame = Always; error = record { kind = plain InvalidIdentChar; span = span_of a b } }
+    fault a b = record { blame = Always; error = record { kind = plain_kind InvalidIdentChar; span = span_of a b } }
 
     go : (b : Bool) → may_stand is_first c ≡ b → named_faults b p q ≡ map (fault_behind p) (faults_in (named_piece is_first (Accepted s (c ∷ []) [])))
     go true t = rw t refl
@@ -57,7 +57,7 @@ named-said is_first answer.Spelling (c ∷ (d ∷ cs)) e p q h n at not =
     let s : Text = c ∷ (d ∷ cs) in
     let parts = subst IsNamed (sym h) n in
     let there : q ≡ p + length s = at ∙ ap (λ k. p + k) parts.1 in
-    let fault : ℕ → ℕ → Fault = λ (a b : ℕ). record { blame = Always; error = record { kind = plain InvalidIdentChar; span = span_of a b } } in
+    let fault : ℕ → ℕ → Fault = λ (a b : ℕ). record { blame = Always; error = record { kind = plain_kind InvalidIdentChar; span = span_of a b } } in
     ap (λ a. fault a q ∷ []) (let same : p ≡ p + 0 = omega arith in same) ∙ ap (λ b. fault (p + 0) b ∷ []) there
     ∙ ap (λ x. map (fault_behind p) (faults_in (named_piece is_first x))) h
 

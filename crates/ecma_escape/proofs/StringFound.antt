@@ -13,7 +13,7 @@ use Rattle.ecma_place.specs.declared.run.Quote.{Quote as Mark}
 use Rattle.ecma_place.specs.declared.run.Quote.TheVariants.{Single, Double}
 use Rattle.ecma_place.proofs.MoveLemmas.{place-passed}
 use Rattle.ecma_place.proofs.RunLemmas.{first-cons, passed-later-by, text-passed}
-use Rattle.ecma_token.specs.View.{ErrorView, TokenView, plain_token, plain, owns_nothing}
+use Rattle.ecma_token.specs.View.{ErrorView, TokenView, plain_token, plain_kind, owns_nothing}
 use Rattle.ecma_token.specs.declared.token.Token.{Str}
 use Rattle.ecma_token.specs.declared.error.SyntaxError.{UnterminatedStrLit}
 use Rattle.ecma_grammar.specs.declared.found.Blame.TheVariants.{Always}
@@ -172,8 +172,8 @@ literal-accepted quote old one now far atom was said new start first moved v s m
     go false same here n onward =
         let there : place now ≡ place old + byte_len (opened quote one) = ap place here ∙ end-place quote old one first moved in
         let low : start ≡ place old + 0 = at ∙ omega arith in
-        let fault : ℕ → ℕ → Fault = λ (a b : ℕ). record { blame = Always; error = record { kind = plain UnterminatedStrLit; span = span_of a b } } in
-        let closing : closing_faults false start (place now) ≡ map (fault_behind (place old)) (record { blame = Always; error = error_over (plain UnterminatedStrLit) (byte_len (opened quote one)) } ∷ []) =
+        let fault : ℕ → ℕ → Fault = λ (a b : ℕ). record { blame = Always; error = record { kind = plain_kind UnterminatedStrLit; span = span_of a b } } in
+        let closing : closing_faults false start (place now) ≡ map (fault_behind (place old)) (record { blame = Always; error = error_over (plain_kind UnterminatedStrLit) (byte_len (opened quote one)) } ∷ []) =
         ap (λ a. fault a (place now) ∷ []) low ∙ ap (λ b. fault (place old + 0) b ∷ []) there in
         record {
           value = ap (λ a. Ok (plain_token (Str a (borrowed_atom (encode_utf8_all (opened quote one)))))) same;

@@ -4,7 +4,7 @@ use Rattle.std.proofs.lemmas.List.{drop_at, append_cancel_left}
 use Rattle.std.proofs.lemmas.Bool.{and_parts}
 use Rattle.ecma_place.specs.Text.{Text, byte_len}
 use Rattle.ecma_place.specs.Character.{is_line_break}
-use Rattle.ecma_token.specs.View.{ErrorView, plain}
+use Rattle.ecma_token.specs.View.{ErrorView, plain_kind}
 use Rattle.ecma_token.specs.declared.error.SyntaxError.{UnterminatedStrLit}
 use Rattle.ecma_grammar.specs.declared.found.Blame.TheVariants.{Always}
 use Rattle.ecma_grammar.specs.Found.{Fault, error_over}
@@ -140,7 +140,7 @@ must_close quote b behind clean extent = go (ending quote (remainder cutter tt t
 
     go : (e : Ending) → ending quote (remainder cutter tt text) ≡ e → is_clean (found_string quote opened ps e) ≡ true
         → (found_string quote opened ps e).spelling ≡ quote ∷ b → IsClosed quote b behind
-    go Unclosed e clean extent = absurd (always_last (faults_of 1 ps) (error_over (plain UnterminatedStrLit) (byte_len opened)) clean)
+    go Unclosed e clean extent = absurd (always_last (faults_of 1 ps) (error_over (plain_kind UnterminatedStrLit) (byte_len opened)) clean)
     go (BadEscape spelling error) e clean extent = cc
     go Closed e clean extent =
         let c = cut cutter (string_is_cutter quote) tt text in
@@ -188,7 +188,7 @@ string_is_pieces quote text clean = go (ending quote (remainder (string_cutter q
 
     go : (e : Ending) → is_clean (found_string quote opened ps e) ≡ true → (found_string quote opened ps e).spelling ≡ opened ++ quote ∷ []
     go Closed clean = refl
-    go Unclosed clean = absurd (always_last (faults_of 1 ps) (error_over (plain UnterminatedStrLit) (byte_len opened)) clean)
+    go Unclosed clean = absurd (always_last (faults_of 1 ps) (error_over (plain_kind UnterminatedStrLit) (byte_len opened)) clean)
     go (BadEscape spelling error) clean = cc
 
 ending_front : (quote : ℕ) (opened : Text) (ps : List Piece) (rest : Text) → IsFrontOf (found_string quote opened ps (ending quote rest)).spelling (opened ++ rest)

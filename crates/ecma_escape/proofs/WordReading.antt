@@ -18,7 +18,7 @@ use Rattle.ecma_syntax.specs.declared.word.WordKind.TheVariants as kind
 use Rattle.ecma_syntax.specs.declared.word.Word.{Word}
 use Rattle.ecma_syntax.specs.declared.word.Word.TheVariants as word_of_text
 use Rattle.ecma_syntax.proofs.Words.{word_of-kind}
-use Rattle.ecma_token.specs.View.{ErrorView, plain}
+use Rattle.ecma_token.specs.View.{ErrorView, plain_kind}
 use Rattle.ecma_token.specs.declared.error.SyntaxError.{EscapeInReservedWord}
 use Rattle.ecma_escape.specs.EscapeMeanings.{opens_escape}
 use Rattle.ecma_grammar.specs.Found.{FoundView, Scanned, fault_behind, value_behind, placeless, found_at, scanned, span_of}
@@ -62,7 +62,7 @@ word-value context p spelling (Err error) = refl
 word-value context p spelling (Ok text) = go text.is_borrowed (is_reserved context (word_of text.bytes))
   where
     refused : ℕ → ℕ → Result Word ErrorView
-    refused low high = Err (record { kind = plain (EscapeInReservedWord text); span = span_of low high })
+    refused low high = Err (record { kind = plain_kind (EscapeInReservedWord text); span = span_of low high })
 
     go : (x y : Bool) → cond x (Ok (word_of text.bytes)) (cond y (refused p (p + byte_len spelling)) (Ok (owned_word (word_of text.bytes))))
         ≡ value_behind placeless p (cond x (Ok (word_of text.bytes)) (cond y (refused 0 (byte_len spelling)) (Ok (owned_word (word_of text.bytes)))))

@@ -1,6 +1,6 @@
 -- The parts of what is answered of an escape.
 use Rattle.std.specs.Prelude.{ℕ, Bool, true, false, List, [], ◌∷◌, encode_utf8_all}
-use Rattle.ecma_token.specs.View.{plain}
+use Rattle.ecma_token.specs.View.{plain_kind}
 use Rattle.ecma_token.specs.declared.error.SyntaxError.{LegacyOctal}
 use Rattle.ecma_escape.specs.declared.escape.Meaning.{Meaning}
 use Rattle.ecma_escape.specs.declared.escape.Meaning.TheVariants as answer
@@ -20,7 +20,7 @@ answer_value spelling (answer.Refused refusal) = []
 abbrev pub answer_faults : Meaning → List Fault
 answer_faults answer.Nothing = []
 answer_faults (answer.Character c) = []
-answer_faults (answer.Octal c) = record { blame = Strict; error = error_over (plain LegacyOctal) 2 } ∷ []
+answer_faults (answer.Octal c) = record { blame = Strict; error = error_over (plain_kind LegacyOctal) 2 } ∷ []
 answer_faults answer.Spelling = []
 answer_faults (answer.Refused refusal) = []
 

@@ -9,7 +9,7 @@ use Rattle.ecma_syntax.specs.Reserved.{is_reserved}
 use Rattle.ecma_syntax.specs.Word.{word_of}
 use Rattle.ecma_syntax.specs.declared.context.Context.{Context}
 use Rattle.ecma_syntax.specs.declared.word.Word.{Word}
-use Rattle.ecma_token.specs.View.{ErrorView, plain}
+use Rattle.ecma_token.specs.View.{ErrorView, plain_kind}
 use Rattle.ecma_token.specs.declared.error.SyntaxError.{InvalidIdentChar, EscapeInReservedWord}
 use Rattle.ecma_escape.specs.declared.escape.Meaning.{Meaning}
 use Rattle.ecma_escape.specs.declared.escape.Meaning.TheVariants as answer
@@ -37,7 +37,7 @@ is_named is_first (answer.Refused refusal) = false
 -- an escape from the place `start` to the place `end` that may be named or may not
 abbrev pub named_faults : Bool → ℕ → ℕ → List Fault
 named_faults true start end = []
-named_faults false start end = record { blame = Always; error = record { kind = plain InvalidIdentChar; span = span_of start end } } ∷ []
+named_faults false start end = record { blame = Always; error = record { kind = plain_kind InvalidIdentChar; span = span_of start end } } ∷ []
 
 -- the end of a word, as that of a string that is closed or ends at a refused escape
 abbrev pub as_ending : WordEnding → Ending
@@ -68,7 +68,7 @@ cow_atom text = record { bytes = cow_str_bytes text; is_borrowed = is_borrowed_o
 abbrev pub escaped_word_at : Context → Span → AtomView → Result Word ErrorView
 escaped_word_at context span text =
     if is_reserved context (word_of text.bytes)
-    then Err (record { kind = plain (EscapeInReservedWord text); span = span })
+    then Err (record { kind = plain_kind (EscapeInReservedWord text); span = span })
     else Ok (owned_word (word_of text.bytes))
 
 -- the word of a name over this span

@@ -4,7 +4,7 @@ use Rattle.ecma_place.specs.Atom.{AtomView}
 use Rattle.ecma_place.specs.Cursor.{Cursor, rest, place, passed}
 use Rattle.ecma_place.specs.declared.run.Quote.{Quote}
 use Rattle.ecma_place.specs.Run.{quote_byte}
-use Rattle.ecma_token.specs.View.{ErrorView, plain}
+use Rattle.ecma_token.specs.View.{ErrorView, plain_kind}
 use Rattle.ecma_token.specs.declared.error.SyntaxError.{UnterminatedStrLit}
 use Rattle.ecma_grammar.specs.declared.found.Blame.TheVariants.{Always}
 use Rattle.ecma_grammar.specs.Found.{Fault, error_behind, span_of}
@@ -56,4 +56,4 @@ behind_pieces quote c = behind_refused (ending_from quote c) (end_from (quoted q
 -- a string from the place `start` to the place `end` that is not closed
 abbrev pub closing_faults : Bool → ℕ → ℕ → List Fault
 closing_faults true start end = []
-closing_faults false start end = record { blame = Always; error = record { kind = plain UnterminatedStrLit; span = span_of start end } } ∷ []
+closing_faults false start end = record { blame = Always; error = record { kind = plain_kind UnterminatedStrLit; span = span_of start end } } ∷ []

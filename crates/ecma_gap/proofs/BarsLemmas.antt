@@ -10,7 +10,7 @@ use Rattle.ecma_place.specs.Character.{is_line_terminator}
 use Rattle.ecma_place.specs.Cursor.{Cursor, rest, place, passed}
 use Rattle.ecma_place.specs.declared.comment.Comment.{Comment}
 use Rattle.ecma_place.specs.declared.place.Span.{Span}
-use Rattle.ecma_token.specs.View.{ErrorView, plain, error_view, IsErrorAt}
+use Rattle.ecma_token.specs.View.{ErrorView, plain_kind, error_view, IsErrorAt}
 use Rattle.ecma_token.specs.declared.error.Error.{Error}
 use Rattle.ecma_token.specs.declared.error.SyntaxError.{TS1185}
 use Rattle.ecma_token.specs.declared.kind.TokenKind.{TokenKind}
@@ -74,7 +74,7 @@ bars-shown error faults comments flag = record { error = error; faults = faults;
 
 error-shown : (n : ℕ) (e : Error) (span : Span) → IsErrorAt e TS1185 span → span ≡ span_of n (n + 7) → error_view e ≡ error_behind n bars_error
 error-shown n e span is there =
-    let shown : Span → ErrorView = λ (s : Span). record { kind = plain TS1185; span = s } in
+    let shown : Span → ErrorView = λ (s : Span). record { kind = plain_kind TS1185; span = s } in
     let zero : n ≡ n + 0 = omega arith in
     rw (is.kind_is, is.span_is, there) (ap (λ low. shown (span_of low (n + 7))) zero)
 

@@ -337,7 +337,7 @@ hex_front digits text f = go (length digits == 2) refl
     go true e = rw e (behind_same (92 ∷ (120 ∷ [])) digits text f)
     go false e = rw e (behind_same (92 ∷ (120 ∷ [])) digits text f)
 
--- the letter that an opening names
+-- the letter that an escape names
 abbrev pub Names : Lead → ℕ → Type 0
 Names UnicodeLetter c = 117 ≡ c
 Names HexLetter c = 120 ≡ c

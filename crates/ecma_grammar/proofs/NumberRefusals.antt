@@ -7,7 +7,7 @@ use Rattle.ecma_token.specs.declared.token.Radix.{Radix}
 use Rattle.ecma_token.specs.declared.token.Radix.TheVariants.{Decimal}
 use Rattle.ecma_token.specs.declared.error.Error.{Error}
 use Rattle.ecma_token.specs.declared.error.SyntaxError.{SyntaxError, ExpectedDigit, NumLitTerminatedWithExp}
-use Rattle.ecma_token.specs.View.{KindView, ErrorView, IsErrorAt, plain, error_view, kind_view}
+use Rattle.ecma_token.specs.View.{KindView, ErrorView, IsErrorAt, plain_kind, error_view, kind_view}
 use Rattle.ecma_grammar.specs.Found.{error_at, error_behind, span_of}
 use Rattle.ecma_grammar.specs.Numbers.{digit, digit_refusal, Exponent, NoExponent, Scaled, exponent_refusal, IsRun}
 use Rattle.ecma_grammar.proofs.RunReading.{run-bytes}
@@ -39,14 +39,14 @@ digit_refusal-behind m n k radix run sum = go (list_any (digit radix) run) refl
   where
     go : (x : Bool) → list_any (digit radix) run ≡ x → option_map (error_behind m) (digit_refusal n radix run) ≡ digit_refusal k radix run
     go true e = rw e refl
-    go false e = rw e (ap Some (spanned_shifted m n k (byte_len run) (plain (ExpectedDigit radix)) sum))
+    go false e = rw e (ap Some (spanned_shifted m n k (byte_len run) (plain_kind (ExpectedDigit radix)) sum))
 
 pub exponent_refusal-behind : (m n k : ℕ) (exponent : Exponent) (rest : Text) → m + n ≡ k
     → option_map (error_behind m) (exponent_refusal n exponent rest) ≡ exponent_refusal k exponent rest
 exponent_refusal-behind m n k NoExponent rest sum = refl
 exponent_refusal-behind m n k (Scaled mark [] []) [] sum =
     let there : m + (n + byte_len (mark ∷ [])) ≡ k + byte_len (mark ∷ []) = omega arith in
-    ap (λ (p : ℕ). Some (error_at (plain NumLitTerminatedWithExp) p)) there
+    ap (λ (p : ℕ). Some (error_at (plain_kind NumLitTerminatedWithExp) p)) there
 exponent_refusal-behind m n k (Scaled mark [] []) (c ∷ cs) sum = digit_refusal-behind m _ _ Decimal [] (let there : m + (n + byte_len (mark ∷ [])) ≡ k + byte_len (mark ∷ []) = omega arith in there)
 exponent_refusal-behind m n k (Scaled mark [] (d ∷ ds)) rest sum = digit_refusal-behind m _ _ Decimal (d ∷ ds) (let there : m + (n + byte_len (mark ∷ [])) ≡ k + byte_len (mark ∷ []) = omega arith in there)
 exponent_refusal-behind m n k (Scaled mark (s ∷ ss) run) rest sum = digit_refusal-behind m _ _ Decimal run (let there : m + (n + byte_len (mark ∷ (s ∷ ss))) ≡ k + byte_len (mark ∷ (s ∷ ss)) = omega arith in there)

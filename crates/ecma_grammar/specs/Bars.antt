@@ -3,7 +3,7 @@
 use Rattle.std.specs.Prelude.{◌≡◌, ℕ, Bool, true, false, List, [], ◌∷◌, ◌++◌, codes, length, drop, Option, Some, None, Err, if◌then◌else◌}
 use Rattle.ecma_place.specs.Text.{Text}
 use Rattle.ecma_place.specs.declared.comment.Comment.{Comment}
-use Rattle.ecma_token.specs.View.{TokenView, ErrorView, plain}
+use Rattle.ecma_token.specs.View.{TokenView, ErrorView, plain_kind}
 use Rattle.ecma_token.specs.declared.error.SyntaxError.{TS1185}
 use Rattle.ecma_grammar.specs.declared.gap_mode.GapMode.{GapMode}
 use Rattle.ecma_grammar.specs.Comments.{comments_of, collected}
@@ -42,7 +42,7 @@ behind_bars text = drop (length (bars_spelling text)) text
 
 -- the error lies over the bars, and is the first of the faults; both are counted from the first bar
 abbrev pub bars_error : ErrorView
-bars_error = error_over (plain TS1185) 7
+bars_error = error_over (plain_kind TS1185) 7
 
 abbrev pub bars_faults_at : ℕ → Text → List Fault
 bars_faults_at n text = faults_of None n (bars_elements text)

@@ -6,7 +6,7 @@ use Rattle.std.specs.Str.Parse.{digits_value}
 use Rattle.ecma_place.specs.Text.{Text}
 use Rattle.ecma_place.specs.Atom.{AtomView, owned_atom}
 use Rattle.ecma_place.specs.Character.{is_line_terminator}
-use Rattle.ecma_token.specs.View.{KindView, ErrorView, plain, bad_escape}
+use Rattle.ecma_token.specs.View.{KindView, ErrorView, plain_kind, bad_escape}
 use Rattle.ecma_token.specs.declared.error.SyntaxError.{InvalidIdentChar, LegacyOctal, InvalidUnicodeEscape, InvalidStrEscape, ExpectedUnicodeEscape}
 use Rattle.ecma_grammar.specs.declared.found.Blame.TheVariants.{Always, Strict}
 use Rattle.ecma_grammar.specs.Found.{Fault, Scanned, error_over, error_at, span_of}
@@ -115,9 +115,9 @@ octal_digits text =
 
 -- counts in strict code only; a template refuses it behind its first digit
 abbrev pub legacy_escape : Use → ℕ → Text → Escape
-legacy_escape InTemplate c digits = Refused (92 ∷ (c ∷ [])) (error_over (plain LegacyOctal) 2)
+legacy_escape InTemplate c digits = Refused (92 ∷ (c ∷ [])) (error_over (plain_kind LegacyOctal) 2)
 legacy_escape within c digits =
-    Accepted (92 ∷ digits) (digits_value 8 digits ∷ []) (record { blame = Strict; error = error_over (plain LegacyOctal) 2 } ∷ [])
+    Accepted (92 ∷ digits) (digits_value 8 digits ∷ []) (record { blame = Strict; error = error_over (plain_kind LegacyOctal) 2 } ∷ [])
 
 -- `\0` alone is the null character
 abbrev pub octal_escape : Use → ℕ → Text → Escape
@@ -127,7 +127,7 @@ octal_escape within c cs =
 -- Code points
 
 abbrev pub surrogate_faults : Use → ℕ → List Fault
-surrogate_faults InWord n = record { blame = Always; error = error_over (plain InvalidIdentChar) n } ∷ []
+surrogate_faults InWord n = record { blame = Always; error = error_over (plain_kind InvalidIdentChar) n } ∷ []
 surrogate_faults within n = []
 
 -- a surrogate is no character: its value is what is written of it
@@ -155,7 +155,7 @@ out_of_range within digits =
     Refused (codes "\\u{" ++ digits) (unicode_refusal within code_point_wanted (3 + length digits) (3 + length digits))
 
 abbrev pub no_brace : Use → Text → Escape
-no_brace within digits = Refused (codes "\\u{" ++ digits) (unicode_refusal within (plain InvalidUnicodeEscape) 3 (3 + length digits))
+no_brace within digits = Refused (codes "\\u{" ++ digits) (unicode_refusal within (plain_kind InvalidUnicodeEscape) 3 (3 + length digits))
 
 -- one digit or more in braces, as many as there are, and what follows them
 abbrev pub braced_escape : Use → Text → Text → Escape
@@ -179,7 +179,7 @@ unicode_escape within text =
 -- a word has escapes of code points alone
 abbrev pub escape_of : Use → Lead → ℕ → Text → Escape
 escape_of within UnicodeLetter c cs = unicode_escape within cs
-escape_of InWord lead c cs = Refused (92 ∷ []) (error_at (plain ExpectedUnicodeEscape) 0)
+escape_of InWord lead c cs = Refused (92 ∷ []) (error_at (plain_kind ExpectedUnicodeEscape) 0)
 escape_of within HexLetter c cs = hex_escape (take 2 (hex_front cs))
 escape_of within OctalDigit c cs = octal_escape within c cs
 escape_of within LineEnd c cs = Accepted (92 ∷ line_end c cs) [] []
@@ -187,8 +187,8 @@ escape_of within Single c cs = Accepted (92 ∷ (c ∷ [])) (single_value c ∷ 
 
 -- a backslash that ends the text
 abbrev pub bare : Use → Escape
-bare InWord = Refused (92 ∷ []) (error_at (plain ExpectedUnicodeEscape) 0)
-bare within = Refused (92 ∷ []) (error_at (plain InvalidStrEscape) 0)
+bare InWord = Refused (92 ∷ []) (error_at (plain_kind ExpectedUnicodeEscape) 0)
+bare within = Refused (92 ∷ []) (error_at (plain_kind InvalidStrEscape) 0)
 
 -- the escape whose backslash stands before the text
 abbrev pub escape_behind : Use → Text → Escape

@@ -5,7 +5,7 @@ use Rattle.std.specs.List.{list_all, list_any}
 use Rattle.ecma_place.specs.Text.{Text, byte_len}
 use Rattle.ecma_place.specs.Atom.{AtomView, borrowed_atom}
 use Rattle.ecma_place.specs.Character.{is_ident_start, is_line_terminator}
-use Rattle.ecma_token.specs.View.{TokenView, ErrorView, plain, plain_token}
+use Rattle.ecma_token.specs.View.{TokenView, ErrorView, plain_kind, plain_token}
 use Rattle.ecma_token.specs.declared.error.SyntaxError.{UnterminatedRegExp}
 use Rattle.ecma_token.specs.declared.token.Token.{Regex}
 use Rattle.ecma_grammar.specs.declared.gap_mode.GapMode.{GapMode}
@@ -155,7 +155,7 @@ closed_expression body found =
 abbrev pub open_expression : Text → Scanned TokenView
 open_expression text =
     record {
-      value = Err (error_over (plain UnterminatedRegExp) (byte_len (47 ∷ line text)));
+      value = Err (error_over (plain_kind UnterminatedRegExp) (byte_len (47 ∷ line text)));
       faults = [];
       spelling = 47 ∷ line text;
       line_break = false;

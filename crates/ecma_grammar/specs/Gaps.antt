@@ -4,7 +4,7 @@ use Rattle.std.specs.Prelude.{◌≡◌, ◌≤◌, ℕ, ◌+◌, Bool, true, fa
 use Rattle.std.specs.List.{list_any, list_all}
 use Rattle.ecma_place.specs.Text.{Text, byte_len}
 use Rattle.ecma_place.specs.Character.{is_white_space, is_line_terminator}
-use Rattle.ecma_token.specs.View.{plain}
+use Rattle.ecma_token.specs.View.{plain_kind}
 use Rattle.ecma_token.specs.declared.error.SyntaxError.{SyntaxError, UnterminatedBlockComment, LegacyCommentInModule, TS1185}
 use Rattle.ecma_grammar.specs.declared.found.Blame.{Blame}
 use Rattle.ecma_grammar.specs.declared.found.Blame.TheVariants.{Always, Module}
@@ -139,7 +139,7 @@ has_line_break mode text = mode.first || list_any is_line_terminator (gap_spelli
 -- What is wrong in a gap
 
 abbrev pub fault_between : Blame → SyntaxError → ℕ → ℕ → Fault
-fault_between blame kind low high = record { blame = blame; error = record { kind = plain kind; span = span_of low high } }
+fault_between blame kind low high = record { blame = blame; error = record { kind = plain_kind kind; span = span_of low high } }
 
 -- HTML-like comments count in module code only (B.1)
 abbrev pub legacy_comment : ℕ → ℕ → List Fault

@@ -10,7 +10,7 @@ use Rattle.ecma_place.specs.Atom.{AtomView, borrowed_atom, owned_atom}
 use Rattle.ecma_place.specs.Character.{is_ident_start}
 use Rattle.ecma_syntax.specs.declared.settings.NumberRule.{NumberRule}
 use Rattle.ecma_syntax.specs.declared.settings.NumberRule.TheVariants.{Crate, Standard}
-use Rattle.ecma_token.specs.View.{TokenView, ErrorView, plain, plain_token}
+use Rattle.ecma_token.specs.View.{TokenView, ErrorView, plain_kind, plain_token}
 use Rattle.ecma_token.specs.declared.error.SyntaxError.{ExpectedDigit, IdentAfterNum, LegacyDecimal, LegacyOctal, NumLitTerminatedWithExp, NumericSeparatorIsAllowedOnlyBetweenTwoDigits, TS1085}
 use Rattle.ecma_token.specs.declared.token.Radix.{Radix}
 use Rattle.ecma_token.specs.declared.token.Radix.TheVariants.{Binary, Octal, Decimal, Hex}
@@ -208,7 +208,7 @@ faulty_separators allowed radix seen n (c ∷ cs) =
 
 -- a faulty separator behind n bytes of its run; its error reaches from the run's start to it
 abbrev pub separator_fault : ℕ → Fault
-separator_fault n = record { blame = Always; error = error_over (plain NumericSeparatorIsAllowedOnlyBetweenTwoDigits) n }
+separator_fault n = record { blame = Always; error = error_over (plain_kind NumericSeparatorIsAllowedOnlyBetweenTwoDigits) n }
 
 abbrev pub run_faults : Bool → Radix → Text → List Fault
 run_faults allowed radix run = map separator_fault (faulty_separators allowed radix false 0 run)
@@ -223,7 +223,7 @@ run_faults_behind n radix run = map (fault_behind n) (run_faults true radix run)
 
 -- a legacy run with `8` or `9` counts in strict code only
 abbrev pub legacy_faults : Text → List Fault
-legacy_faults run = if is_legacy run then record { blame = Strict; error = error_over (plain LegacyDecimal) (byte_len run) } ∷ [] else []
+legacy_faults run = if is_legacy run then record { blame = Strict; error = error_over (plain_kind LegacyDecimal) (byte_len run) } ∷ [] else []
 
 abbrev pub fraction_faults : ℕ → Fraction → List Fault
 fraction_faults n NoFraction = []
@@ -244,20 +244,20 @@ part_faults rule (DecimalRun run fraction exponent) =
 -- what is said of a legacy octal that is not refused, as TypeScript does or not
 abbrev pub octal_faults : Bool → Number → List Fault
 octal_faults true (OctalRun run) =
-    record { blame = Always; error = error_over (plain TS1085) (byte_len run) } ∷ (record { blame = Strict; error = error_over (plain LegacyOctal) (byte_len run) } ∷ [])
-octal_faults false (OctalRun run) = record { blame = Strict; error = error_over (plain LegacyOctal) (byte_len run) } ∷ []
+    record { blame = Always; error = error_over (plain_kind TS1085) (byte_len run) } ∷ (record { blame = Strict; error = error_over (plain_kind LegacyOctal) (byte_len run) } ∷ [])
+octal_faults false (OctalRun run) = record { blame = Strict; error = error_over (plain_kind LegacyOctal) (byte_len run) } ∷ []
 octal_faults ts1085 number = []
 
 -- Why a number is refused
 
 -- a run without a digit, behind n bytes
 abbrev pub digit_refusal : ℕ → Radix → Text → Option ErrorView
-digit_refusal n radix run = if list_any (digit radix) run then None else Some (record { kind = plain (ExpectedDigit radix); span = span_of n (n + byte_len run) })
+digit_refusal n radix run = if list_any (digit radix) run then None else Some (record { kind = plain_kind (ExpectedDigit radix); span = span_of n (n + byte_len run) })
 
 -- the text ends right behind the mark, or no digit stands behind mark and sign
 abbrev pub exponent_refusal : ℕ → Exponent → Text → Option ErrorView
 exponent_refusal n NoExponent rest = None
-exponent_refusal n (Scaled mark [] []) [] = Some (error_at (plain NumLitTerminatedWithExp) (n + byte_len (mark ∷ [])))
+exponent_refusal n (Scaled mark [] []) [] = Some (error_at (plain_kind NumLitTerminatedWithExp) (n + byte_len (mark ∷ [])))
 exponent_refusal n (Scaled mark sign run) rest = digit_refusal (n + byte_len (mark ∷ sign)) Decimal run
 
 abbrev pub part_refusal : Number → Text → Option ErrorView
@@ -274,7 +274,7 @@ is_big_number number = false
 -- what follows a number begins with a character that may not
 abbrev pub next_refusal : NumberRule → Number → Text → Option ErrorView
 next_refusal rule number rest =
-    if next_passes (may_not_follow rule (is_big_number number)) rest then Some (error_at (plain IdentAfterNum) (byte_len (number_text number))) else None
+    if next_passes (may_not_follow rule (is_big_number number)) rest then Some (error_at (plain_kind IdentAfterNum) (byte_len (number_text number))) else None
 
 abbrev pub or_else : Option ErrorView → Option ErrorView → Option ErrorView
 or_else (Some e) other = Some e

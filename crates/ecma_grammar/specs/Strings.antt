@@ -4,7 +4,7 @@ use Rattle.std.specs.List.{list_any}
 use Rattle.ecma_place.specs.Text.{Text, byte_len}
 use Rattle.ecma_place.specs.Atom.{AtomView, borrowed_atom, owned_atom}
 use Rattle.ecma_place.specs.Character.{is_line_break}
-use Rattle.ecma_token.specs.View.{TokenView, ErrorView, plain, plain_token}
+use Rattle.ecma_token.specs.View.{TokenView, ErrorView, plain_kind, plain_token}
 use Rattle.ecma_token.specs.declared.error.SyntaxError.{UnterminatedStrLit}
 use Rattle.ecma_token.specs.declared.token.Token.{Str}
 use Rattle.ecma_grammar.specs.declared.found.Blame.TheVariants.{Always}
@@ -116,7 +116,7 @@ found_string quote opened ps Closed = scanned_string (Ok (string_token ps (opene
 found_string quote opened ps Unclosed =
     scanned_string
     (Ok (string_token ps opened))
-    (faults_of 1 ps ++ record { blame = Always; error = error_over (plain UnterminatedStrLit) (byte_len opened) } ∷ [])
+    (faults_of 1 ps ++ record { blame = Always; error = error_over (plain_kind UnterminatedStrLit) (byte_len opened) } ∷ [])
     opened
 found_string quote opened ps (BadEscape spelling error) =
     scanned_string (Err (error_behind (byte_len opened) error)) (faults_of 1 ps) (opened ++ spelling)

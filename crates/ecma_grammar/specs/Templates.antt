@@ -6,7 +6,7 @@ use Rattle.ecma_place.specs.Text.{Text, byte_len}
 use Rattle.ecma_place.specs.Atom.{AtomView, borrowed_atom, owned_atom}
 use Rattle.ecma_place.specs.Character.{is_line_terminator}
 use Rattle.ecma_token.specs.Kinds.{kind_of}
-use Rattle.ecma_token.specs.View.{TokenView, ErrorView, plain, plain_token, refused_template}
+use Rattle.ecma_token.specs.View.{TokenView, ErrorView, plain_kind, plain_token, refused_template}
 use Rattle.ecma_token.specs.declared.error.SyntaxError.{UnterminatedTpl}
 use Rattle.ecma_token.specs.declared.kind.TokenKind.TheVariants.{Template}
 use Rattle.ecma_token.specs.declared.token.Token.{BackQuote, DollarLBrace, Template', Ok'}
@@ -132,7 +132,7 @@ found_text value ps = record { value = value; faults = []; spelling = raw_text p
 
 -- text that meets the end is refused, with an escape in it that is refused or without
 abbrev pub text_of : List TemplatePiece → TemplateEnd → Scanned TokenView
-text_of ps AtEnd = found_text (Err (error_over (plain UnterminatedTpl) (byte_len (raw_text ps)))) ps
+text_of ps AtEnd = found_text (Err (error_over (plain_kind UnterminatedTpl) (byte_len (raw_text ps)))) ps
 text_of ps AtBackQuote = found_text (Ok (template_token ps)) ps
 text_of ps AtDollarBrace = found_text (Ok (template_token ps)) ps
 

@@ -10,7 +10,7 @@ use Rattle.ecma_syntax.specs.declared.context.Context.{Context}
 use Rattle.ecma_syntax.specs.declared.word.IdentLike.TheVariants.{Known, Other}
 use Rattle.ecma_syntax.specs.declared.word.Word.{Word}
 use Rattle.ecma_syntax.specs.declared.word.Word.TheVariants.{Keyword, Null, True, False, Ident}
-use Rattle.ecma_token.specs.View.{ErrorView, plain}
+use Rattle.ecma_token.specs.View.{ErrorView, plain_kind}
 use Rattle.ecma_token.specs.declared.error.SyntaxError.{EscapeInReservedWord, InvalidIdentChar}
 use Rattle.ecma_grammar.specs.declared.found.Blame.TheVariants.{Always}
 use Rattle.ecma_grammar.specs.declared.gap_mode.GapMode.{GapMode}
@@ -47,7 +47,7 @@ abbrev pub named_piece : Bool → Escape → Option Piece
 named_piece is_first (Refused spelling error) = None
 named_piece is_first (Accepted spelling [] faults) = Some (Escaped spelling [] faults)
 named_piece is_first (Accepted spelling (c ∷ []) faults) =
-    Some (Escaped spelling (c ∷ []) (if may_stand is_first c then faults else record { blame = Always; error = error_over (plain InvalidIdentChar) (byte_len spelling) } ∷ []))
+    Some (Escaped spelling (c ∷ []) (if may_stand is_first c then faults else record { blame = Always; error = error_over (plain_kind InvalidIdentChar) (byte_len spelling) } ∷ []))
 named_piece is_first (Accepted spelling (c ∷ d ∷ cs) faults) = Some (Escaped spelling (c ∷ d ∷ cs) faults)
 
 abbrev pub word_piece_of : Bool → WordRole → Text → Option Piece
@@ -115,7 +115,7 @@ owned_word (Ident (Other text)) = Ident (Other (owned_atom text.bytes))
 abbrev pub escaped_word : Context → Text → AtomView → Result Word ErrorView
 escaped_word context spelling text =
     if is_reserved context (word_of text.bytes)
-    then Err (error_over (plain (EscapeInReservedWord text)) (byte_len spelling))
+    then Err (error_over (plain_kind (EscapeInReservedWord text)) (byte_len spelling))
     else Ok (owned_word (word_of text.bytes))
 
 -- a word is the row of the table of words for its unescaped text

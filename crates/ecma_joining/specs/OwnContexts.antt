@@ -28,7 +28,7 @@ opens_text kind = false
 
 -- Laws
 
--- In plain contexts every token that is no template's leaves plain contexts, and so do a back quote and `${` in a template.
+-- In own contexts every token that is no template's leaves own contexts, and so do a back quote and `${` in a template.
 abbrev pub ContextsStayOwn : Type 0
 ContextsStayOwn =
     ((before : Before) (contexts : Contexts) (kind : TokenKind) (flag : Bool) → are_own contexts ≡ true → tpl_on_top contexts ≡ false

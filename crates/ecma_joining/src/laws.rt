@@ -82,7 +82,7 @@ pub fn expression_is_faultless()
     ensures { ExpressionIsFaultless }
 {}
 
-/// In plain contexts, without template text on top, every token leaves plain contexts.
+/// In own contexts, without template text on top, every token leaves own contexts.
 pub fn contexts_stay_own()
     ensures { ContextsStayOwn }
 {}

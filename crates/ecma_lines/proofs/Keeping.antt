@@ -1,5 +1,5 @@
 -- A loop that keeps the tokens of a text, and whether they are clean.
-use Rattle.std.proofs.Common.{◌≡◌, ◌∙◌, ℕ, ◌-◌, suc, Bool, true, false, not, ◌&&◌, ◌||◌, List, [], ◌∷◌, ◌++◌, Some, None, Result, Ok, Err, MatchResult, inl, map, refl, reverse, sym, subst, ap, arith}
+use Rattle.std.proofs.Common.{◌≡◌, ◌∙◌, ℕ, ◌-◌, suc, Bool, true, false, not, ◌&&◌, List, [], ◌∷◌, ◌++◌, Some, None, Result, Ok, Err, MatchResult, inl, map, refl, reverse, sym, subst, ap, arith}
 use Rattle.std.specs.List.{All, list_all}
 use Rattle.std.specs.Prelude.{encode_utf8_all, fold, if◌then◌else◌, is_some}
 use Rattle.std.proofs.lemmas.Option.{none-some}
@@ -25,7 +25,7 @@ use Rattle.ecma_lexer.specs.declared.step.Step.{Step}
 use Rattle.ecma_lexer.specs.declared.step.Step.TheVariants.{SetCtx}
 use Rattle.ecma_lexer.proofs.EndingLemmas.{ReadSoFar, read_tokens, reads_out, so_far-end, so_far-start, so_far-token}
 use Rattle.ecma_lexer.proofs.KeptPlaces.{steps_keep_places}
-use Rattle.ecma_options.specs.Begin.{begin, begin_if, context, settings, whole}
+use Rattle.ecma_options.specs.Begin.{begin, context, settings, whole}
 use Rattle.ecma_lines.specs.CanonText.{KeepsCleanly, canon_from, canon_text, canonical_bytes, unless_too_long}
 use Rattle.ecma_lines.specs.Rereads.{Fails, behind_rereads, session_behind, rereading, unless_no_slash}
 use Rattle.ecma_options.specs.declared.options.Options.{Options}
@@ -159,11 +159,7 @@ rereads-steps kept s (n ∷ ns) t e = go (is_some (slash_answered (state_of ther
         (reads (n - kept) ++ (rereading ++ steps), same ∙ sym (fold-append act_on s (reads (n - kept)) (rereading ++ steps) ∙ fold-append act_on there rereading steps))
 
 pub begin-steps : (collects : Bool) (o : Options) (bytes : List ℕ) → (steps : List Step) × (begin collects o bytes ≡ fold act_on (start_of (settings collects o) (whole bytes)) steps)
-begin-steps collects o bytes = go (o.«module» || o.strict)
-  where
-    go : (b : Bool) → (steps : List Step) × (begin_if b o (start_of (settings collects o) (whole bytes)) ≡ fold act_on (start_of (settings collects o) (whole bytes)) steps)
-    go true = (SetCtx (context o) ∷ [], refl)
-    go false = ([], refl)
+begin-steps collects o bytes = (SetCtx (context o) ∷ [], refl)
 
 -- where the reads come to the end is where some steps come to
 pub read_out-steps : (collects : Bool) (o : Options) (rereads bytes : List ℕ) (s : Session) → session_behind collects o rereads bytes ≡ Some s

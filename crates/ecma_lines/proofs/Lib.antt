@@ -2,6 +2,5 @@ pub mod Covering
 pub mod Gathering
 pub mod Keeping
 pub mod Listing
-pub mod Messages
 pub mod RereadLemmas
 pub mod Replies

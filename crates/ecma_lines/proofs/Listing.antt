@@ -1,5 +1,5 @@
 -- A loop that lists the tokens of a text.
-use Rattle.std.proofs.Common.{◌≡◌, ℕ, suc, ◌<◌, ◌≤◌, Bool, true, false, ◌||◌, List, [], ◌∷◌, ◌++◌, Option, Some, None, IsUtf8, length, take, drop, take-append-drop, append-nil, map, refl, sym, subst, ap, ◌∙◌, arith}
+use Rattle.std.proofs.Common.{◌≡◌, ℕ, suc, ◌<◌, ◌≤◌, Bool, true, false, List, [], ◌∷◌, ◌++◌, Option, Some, None, IsUtf8, length, take, drop, take-append-drop, append-nil, map, refl, sym, subst, ap, ◌∙◌, arith}
 use Rattle.std.specs.Prelude.{option_map, flat_map, is_some}
 use Rattle.std.specs.Str.{chars}
 use Rattle.std.proofs.lemmas.Str.{encodes-chars}
@@ -17,7 +17,7 @@ use Rattle.ecma_lexer.specs.Run.{mode_of, reading_of, start_of, state_behind}
 use Rattle.ecma_lexer.proofs.EndLemmas.{reading-on}
 use Rattle.ecma_lexer.proofs.EndingLemmas.{ReadSoFar, plain-reading, read_tokens, so_far-end, so_far-plain, so_far-start, so_far-token, tokens_run_out}
 use Rattle.ecma_lexer.proofs.TilingLemmas.{Standing, act_standing, fold_standing, session_standing}
-use Rattle.ecma_options.specs.Begin.{begin, begin_if, context, settings, whole}
+use Rattle.ecma_options.specs.Begin.{begin, context, settings, whole}
 use Rattle.ecma_lines.specs.ErrorLines.{errors_from, errors_text, found_lines, list_lines, token_lines}
 use Rattle.ecma_lines.specs.Lines.{line, lines, tokens_from, tokens_text}
 use Rattle.ecma_lines.specs.Rereads.{AllWithin, Stands, session_behind}
@@ -40,22 +40,14 @@ byte_len-take-le n text =
 
 -- the tokens of a run stand in the text, also behind the setting of a context
 begin-standing : (collects : Bool) (o : Options) (bytes : List ℕ) → Standing (whole bytes) (begin collects o bytes)
-begin-standing collects o bytes = go (o.«module» || o.strict)
-  where
-    go : (b : Bool) → Standing (whole bytes) (begin_if b o (start_of (settings collects o) (whole bytes)))
-    go true = act_standing (whole bytes) (start_of (settings collects o) (whole bytes)) (SetCtx (context o)) (session_standing (settings collects o) (whole bytes) [])
-    go false = session_standing (settings collects o) (whole bytes) []
+begin-standing collects o bytes = act_standing (whole bytes) (start_of (settings collects o) (whole bytes)) (SetCtx (context o)) (session_standing (settings collects o) (whole bytes) [])
 
 pub session_behind-standing : (collects : Bool) (o : Options) (rereads bytes : List ℕ) (s : Session) → session_behind collects o rereads bytes ≡ Some s → Standing (whole bytes) s
 session_behind-standing collects o rereads bytes s opened = rereads-standing (whole bytes) 0 (begin collects o bytes) rereads s (begin-standing collects o bytes) opened
 
 -- nothing is read again where a run begins, and nothing was read
 pub begin-stands : (collects : Bool) (o : Options) (bytes : List ℕ) (opened : ReadAgain) → lexer_state opened.lexer ≡ state_of (begin collects o bytes) → opened.tokens.items ≡ [] → Stands (begin collects o bytes) opened
-begin-stands collects o bytes opened at none = go (o.«module» || o.strict) at
-  where
-    go : (b : Bool) → lexer_state opened.lexer ≡ state_of (begin_if b o (start_of (settings collects o) (whole bytes))) → Stands (begin_if b o (start_of (settings collects o) (whole bytes))) opened
-    go true at = record { state = at; plain = refl; kept = ap (map spanned_view) none }
-    go false at = record { state = at; plain = refl; kept = ap (map spanned_view) none }
+begin-stands collects o bytes opened at none = record { state = at; plain = refl; kept = ap (map spanned_view) none }
 
 -- all bytes of a text that a run stands in
 text-length : (bytes : List ℕ) (s : Session) (now : Cursor) → IsUtf8 bytes → Standing (whole bytes) s → now.start ≡ s.input.start → now.text ≡ s.input.text → place now ≤ length bytes

@@ -1,12 +1,12 @@
 -- What is written of the errors of a text: a line each. The form of the lines is our own choice.
 use Rattle.std.specs.Prelude.{ℕ, false, List, [], ◌∷◌, ◌++◌, Option, Some, None, codes, decimal, flat_map, option_map}
 use Rattle.ecma_place.specs.declared.place.Span.{Span}
-use Rattle.ecma_token.specs.View.{ErrorView, SpannedView, TokenView, error_token}
+use Rattle.ecma_token.specs.View.{ErrorView, SpannedView, refusal_of}
 use Rattle.ecma_lexer.specs.Disposition as lists
 use Rattle.ecma_lexer.specs.Ending.{errors_of, tokens_of}
 use Rattle.ecma_lexer.specs.Session.{Session}
 use Rattle.ecma_stdio.specs.Escaped.{escaped}
-use Rattle.ecma_lines.specs.MessageView.{view_message}
+use Rattle.ecma_token.specs.MessageView.{view_message}
 use Rattle.ecma_lines.specs.Rereads.{session_behind}
 use Rattle.ecma_options.specs.declared.options.Options.{Options}
 
@@ -20,11 +20,6 @@ error_line what e = error_head what e.span ++ escaped (view_message e.kind) ++ 1
 
 abbrev pub error_lines : List ℕ → List ErrorView → List ℕ
 error_lines what errors = flat_map (error_line what) errors
-
--- the error of a token that is one
-abbrev pub refusal_of : TokenView → List ErrorView
-refusal_of (error_token kind span) = record { kind = kind; span = span } ∷ []
-refusal_of _ = []
 
 abbrev pub token_lines : SpannedView → List ℕ
 token_lines t = error_lines (codes "token") (refusal_of t.token)

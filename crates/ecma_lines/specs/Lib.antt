@@ -6,6 +6,5 @@ pub mod ErrorLines
 pub mod Explanation
 pub mod Gathered
 pub mod Lines
-pub mod MessageView
 pub mod Rereads
 pub mod Reply

@@ -1,5 +1,5 @@
 //! What is written of the comments of a text: a line each.
-ghost use Rattle.std.specs.Prelude.{◌≡◌, ◌++◌, ◌∷◌, [], None, Some, ◌^◌, ◌<◌, true, is_some, length, string_bytes, IfOk, IfErr, MatchResult, OnOk, OnErr};
+ghost use Rattle.std.specs.Prelude.{◌≡◌, ◌++◌, None, Some, ◌^◌, ◌<◌, true, is_some, length, string_bytes, IfOk, MatchResult, OnOk};
 ghost use Rattle.ecma_lexer.specs.Ending.{comments_of};
 ghost use Rattle.ecma_lexer.specs.HandOver.{has_comments};
 ghost use Rattle.ecma_lexer.specs.Run.{reading_of, state_behind};
@@ -8,53 +8,11 @@ ghost use Rattle.ecma_lines.specs.CommentLines as rows;
 ghost use Rattle.ecma_lines.specs.Rereads.{Lacks};
 
 use crate::rereads::open;
-use ecma_lexer::{BufferedComment, BufferedCommentKind, Lexer, hand_comments};
+use ecma_lexer::{BufferedComment, BufferedCommentKind, CommentList, Lexer, hand_comments};
 use ecma_options::{Options, pass_next};
-use ecma_place::{BytePos, Comment, CommentKind, Comments};
+use ecma_place::CommentKind;
 use ecma_stdio::{Fault, push_escaped};
 use std::alloc::{AllocError, Global};
-
-/// The comments that were handed over, in order.
-#[derive(Drop)]
-struct Handed<'a> {
-    comments: Vec<BufferedComment<'a>>,
-}
-
-impl<'a> Handed<'a> {
-    /// Adds a comment, or gives it back where there is no memory for it.
-    fn add(&mut self, buffered: BufferedComment<'a>) -> Result<(), Comment<'a>>
-        ensures ok { OnOk result (self.new.comments.items ≡ self.old.comments.items ++ buffered.entry ∷ []) }
-        ensures err { OnErr result (self.new.comments.items ≡ self.old.comments.items) }
-        ensures back { IfErr result (λ c. c ≡ buffered.entry.comment) }
-    {
-        self.comments
-            .push(buffered)
-            .map_err(|failed| failed.value.comment)
-    }
-}
-
-impl<'a> Comments<'a> for Handed<'a> {
-    ghost use Rattle.std.specs.Prelude.{map};
-    ghost use Rattle.ecma_lexer.specs.HandOver.{added_of};
-
-    ghost added = { λ s. map added_of s.comments.items };
-
-    fn add_leading(&mut self, pos: BytePos, comment: Comment<'a>) -> Result<(), Comment<'a>> {
-        self.add(BufferedComment {
-            kind: BufferedCommentKind::Leading,
-            pos,
-            comment,
-        })
-    }
-
-    fn add_trailing(&mut self, pos: BytePos, comment: Comment<'a>) -> Result<(), Comment<'a>> {
-        self.add(BufferedComment {
-            kind: BufferedCommentKind::Trailing,
-            pos,
-            comment,
-        })
-    }
-}
 
 /// The comments of a lexer that answered the end, in the order in which it hands them over.
 pub fn take_comments<'a>(
@@ -63,11 +21,9 @@ pub fn take_comments<'a>(
 ) -> Result<Vec<BufferedComment<'a>>, AllocError>
     ensures { has_comments (lexer_state lexer.old) ≡ true → IfOk result (λ v. v.items ≡ (lexer_state lexer.old).comments) }
 {
-    let mut handed = Handed {
-        comments: Vec::new(alloc),
-    };
-    hand_comments(lexer, &mut handed)?;
-    Ok(handed.comments)
+    let mut comments = CommentList::new(alloc);
+    hand_comments(lexer, &mut comments)?;
+    Ok(comments.into_vec())
 }
 
 fn side_name(kind: BufferedCommentKind) -> &'static str

@@ -1,11 +1,11 @@
 //! What is written of the errors of a text: a line each.
 ghost use Rattle.std.specs.Prelude.{◌≡◌, ◌++◌, ◌^◌, ◌<◌, Some, codes, flat_map, length, map, string_bytes, is_some, IfOk, MatchResult, OnOk};
 ghost use Rattle.std.specs.Cow.{cow_str_bytes};
-ghost use Rattle.ecma_token.specs.View.{error_view, kind_view, spanned_view, token_view};
+ghost use Rattle.ecma_token.specs.View.{error_view, kind_view, refusal_of, spanned_view, token_view};
 ghost use Rattle.ecma_lexer.specs.Run.{reading_of, state_behind};
 ghost use Rattle.ecma_lexer.specs.Session.{lexer_state};
 ghost use Rattle.ecma_lines.specs.ErrorLines as rows;
-ghost use Rattle.ecma_lines.specs.MessageView.{view_message};
+ghost use Rattle.ecma_token.specs.MessageView.{view_message};
 ghost use Rattle.ecma_lines.specs.Rereads.{Lacks};
 
 use crate::rereads::{ReadAgain, open};
@@ -27,7 +27,7 @@ fn head(alloc: Global, what: &str, span: Span) -> Result<String, AllocError>
 }
 
 /// What is wrong.
-#[tactic(auto, using(crate::proofs::Messages::message_of_view))]
+#[tactic(auto, using(ecma_token::proofs::MessageLemmas::message_of_view))]
 fn message(alloc: Global, kind: &SyntaxError) -> Result<CowStr<'static>, AllocError>
     ensures { IfOk result (λ text. cow_str_bytes text ≡ view_message (kind_view kind.now)) }
 {
@@ -63,7 +63,7 @@ fn push_errors(
 
 /// Adds the line of the error of a token that is one.
 fn push_refusal(alloc: Global, out: &mut Vec<u8>, token: &Token) -> Result<(), AllocError>
-    ensures { OnOk result (out.new.items ≡ out.old.items ++ rows.error_lines (codes "token") (rows.refusal_of (token_view token.now))) }
+    ensures { OnOk result (out.new.items ≡ out.old.items ++ rows.error_lines (codes "token") (refusal_of (token_view token.now))) }
 {
     match token {
         Token::Error(error) => push_error(alloc, out, "token", error),

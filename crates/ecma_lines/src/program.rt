@@ -37,7 +37,7 @@ fn reply<R: Read>(alloc: Global, words: &[String], reader: &mut R) -> Result<Vec
     Ok(text)
 }
 
-/// Writes what the words ask for of the input, or one line that tells of a fault, and answers the exit
+/// Writes what the words ask for of the input, or one line that names a fault, and answers the exit
 /// status.
 pub fn run<R: Read, W: Write>(alloc: Global, words: &[String], reader: &mut R, writer: &mut W) -> u8
     // There is an input, the reader's own where it tells its bytes, and the writer was answered to it.

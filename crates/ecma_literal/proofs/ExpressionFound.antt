@@ -6,7 +6,7 @@ use Rattle.ecma_place.specs.Atom.{AtomView, borrowed_atom}
 use Rattle.ecma_place.specs.declared.place.Span.{Span}
 use Rattle.ecma_place.specs.Cursor.{Cursor, rest, place, passed}
 use Rattle.ecma_place.proofs.MoveLemmas.{byte_len-append, place-passed}
-use Rattle.ecma_token.specs.View.{ErrorView, TokenView, plain, plain_token, owns_nothing}
+use Rattle.ecma_token.specs.View.{ErrorView, TokenView, plain_kind, plain_token, owns_nothing}
 use Rattle.ecma_token.specs.declared.error.SyntaxError.{UnterminatedRegExp}
 use Rattle.ecma_token.specs.declared.token.Token.{Regex}
 use Rattle.ecma_grammar.specs.Found.{Fault, Scanned, FoundView, error_behind, fault_behind, value_behind, token_behind, placeless, found_at, span_of}
@@ -136,12 +136,12 @@ open_moved old one two first open_end moved =
     let size = ap (λ (s : Scanned TokenView). length s.spelling) (regex_open old one first open_end) in
     passed-both old one two 1 _ _ first moved (omega (arith, size))
 
-pub open_found : (n : ℕ) (text : Text) (error : ErrorView) (extent : Span) → error ≡ record { kind = plain UnterminatedRegExp; span = extent } → extent ≡ span_of n (n + byte_len (47 ∷ line text))
+pub open_found : (n : ℕ) (text : Text) (error : ErrorView) (extent : Span) → error ≡ record { kind = plain_kind UnterminatedRegExp; span = extent } → extent ≡ span_of n (n + byte_len (47 ∷ line text))
     → seen (Err error) [] extent ≡ found_at token_behind n (open_expression text)
 open_found n text error extent e x =
     let low : n ≡ n + 0 = omega arith in
     let place : span_of n (n + byte_len (47 ∷ line text)) ≡ span_of (n + 0) (n + byte_len (47 ∷ line text)) = ap (λ (a : ℕ). span_of a (n + byte_len (47 ∷ line text))) low in
-    let kind : Span → ErrorView = λ (s : Span). record { kind = plain UnterminatedRegExp; span = s } in
+    let kind : Span → ErrorView = λ (s : Span). record { kind = plain_kind UnterminatedRegExp; span = s } in
     rw (e, x) (ap (λ (s : Span). seen (Err (kind s)) [] (span_of n (n + byte_len (47 ∷ line text)))) place)
 
 -- no flags

@@ -5,7 +5,7 @@ use Rattle.std.specs.List.{list_all, list_any}
 use Rattle.ecma_place.specs.Text.{Text, byte_len}
 use Rattle.ecma_place.specs.Atom.{AtomView, borrowed_atom}
 use Rattle.ecma_place.specs.declared.place.Span.{Span}
-use Rattle.ecma_token.specs.View.{KindView, ErrorView, TokenView, plain, plain_token, refused_template}
+use Rattle.ecma_token.specs.View.{KindView, ErrorView, TokenView, plain_kind, plain_token, refused_template}
 use Rattle.ecma_token.specs.declared.error.SyntaxError.{UnterminatedTpl}
 use Rattle.ecma_token.specs.declared.token.Token.{BackQuote, DollarLBrace, Template', Ok'}
 use Rattle.ecma_grammar.specs.Found.{FoundView, error_behind, span_of, token_behind, found_at}
@@ -75,7 +75,7 @@ text-spelling ps AtBackQuote = refl
 text-spelling ps AtDollarBrace = refl
 
 pub unterminated : (opened n : ℕ) (ps : List TemplatePiece) (end : TemplateEnd) (error : ErrorView) (extent : Span) (flag : Bool) → end ≡ AtEnd
-    → error ≡ record { kind = plain UnterminatedTpl; span = span_of opened (n + byte_len (raw_text ps)) }
+    → error ≡ record { kind = plain_kind UnterminatedTpl; span = span_of opened (n + byte_len (raw_text ps)) }
     → extent ≡ span_of n (n + byte_len (raw_text ps)) → flag ≡ list_any is_break ps → seen (Err error) extent flag ≡ template_found opened n (text_of ps end)
 unterminated opened n ps end error extent flag e f s b = rw (e, f, s, b) refl
 

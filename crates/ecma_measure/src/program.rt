@@ -38,7 +38,7 @@ fn timed<C: Clock, R: Read>(
     Ok(speed_text(alloc, &measured, text.len())?.into_bytes())
 }
 
-/// Writes what the words ask for of the input, or one line that tells of a fault, and answers the exit
+/// Writes what the words ask for of the input, or one line that names a fault, and answers the exit
 /// status.
 pub fn run<C: Clock, R: Read, W: Write>(
     clock: &C,

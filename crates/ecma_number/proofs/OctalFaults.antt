@@ -4,7 +4,7 @@ use Rattle.ecma_place.specs.Text.{Text, byte_len}
 use Rattle.ecma_place.specs.declared.place.Span.{Span}
 use Rattle.ecma_token.specs.declared.token.Radix.TheVariants.{Decimal}
 use Rattle.ecma_token.specs.declared.error.SyntaxError.{SyntaxError, LegacyOctal, TS1085}
-use Rattle.ecma_token.specs.View.{plain}
+use Rattle.ecma_token.specs.View.{plain_kind}
 use Rattle.ecma_grammar.specs.declared.found.Blame.{Blame}
 use Rattle.ecma_grammar.specs.declared.found.Blame.TheVariants.{Always, Strict}
 use Rattle.ecma_grammar.specs.Found.{Fault, fault_behind, span_of}
@@ -12,7 +12,7 @@ use Rattle.ecma_grammar.specs.Numbers.{OctalRun, octal_faults, legacy_faults, is
 use Rattle.ecma_grammar.proofs.RunReading.{run-bytes}
 
 abbrev fault : Blame → SyntaxError → Span → Fault
-fault blame kind span = record { blame = blame; error = record { kind = plain kind; span = span } }
+fault blame kind span = record { blame = blame; error = record { kind = plain_kind kind; span = span } }
 
 -- the bytes of a run from a place on
 over_run : (start : ℕ) (run : Text) (span : Span) → IsRun Decimal run → span ≡ span_of start (start + length run) → span ≡ span_of (start + 0) (start + byte_len run)

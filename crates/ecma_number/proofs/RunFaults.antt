@@ -10,7 +10,7 @@ use Rattle.ecma_place.specs.Text.{Text, byte_len}
 use Rattle.ecma_token.specs.declared.token.Radix.{Radix}
 use Rattle.ecma_token.specs.declared.token.Radix.TheVariants.{Decimal}
 use Rattle.ecma_token.specs.declared.error.SyntaxError.{LegacyDecimal}
-use Rattle.ecma_token.specs.View.{plain}
+use Rattle.ecma_token.specs.View.{plain_kind}
 use Rattle.ecma_place.specs.declared.place.Span.{Span}
 use Rattle.ecma_grammar.specs.declared.found.Blame.TheVariants.{Strict}
 use Rattle.ecma_grammar.specs.Found.{Fault, fault_behind}
@@ -80,10 +80,10 @@ mark-length mark sign e s =
 
 pub legacy_said : (start : ℕ) (run : Text) (span : Span) (was now : List Fault) → IsRun Decimal run → is_legacy run ≡ true
     → span ≡ record { lo = record { 0 = start }; hi = record { 0 = start + length run } }
-    → now ≡ was ++ (record { blame = Strict; error = record { kind = plain LegacyDecimal; span = span } } ∷ [])
+    → now ≡ was ++ (record { blame = Strict; error = record { kind = plain_kind LegacyDecimal; span = span } } ∷ [])
     → now ≡ was ++ map (fault_behind start) (legacy_faults run)
 legacy_said start run span was now all legacy place e =
     let bytes : byte_len run ≡ length run = ap length (run-bytes Decimal run all) in
     let zero : start ≡ start + 0 = omega arith in
     let there = place ∙ ap (λ (low : ℕ). let span : Span = record { lo = record { 0 = low }; hi = record { 0 = start + length run } } in span) zero in
-    rw (legacy, bytes) (e ∙ ap (λ s. was ++ (record { blame = Strict; error = record { kind = plain LegacyDecimal; span = s } } ∷ [])) there)
+    rw (legacy, bytes) (e ∙ ap (λ s. was ++ (record { blame = Strict; error = record { kind = plain_kind LegacyDecimal; span = s } } ∷ [])) there)

@@ -1,5 +1,5 @@
 -- Where the reading of a text begins.
-use Rattle.std.specs.Prelude.{ℕ, Bool, true, false, ◌||◌, List, if◌then◌else◌}
+use Rattle.std.specs.Prelude.{ℕ, Bool, false, List, if◌then◌else◌}
 use Rattle.std.specs.Str.{chars}
 use Rattle.ecma_place.specs.Cursor.{Cursor}
 use Rattle.ecma_syntax.specs.Defaults.{no_context}
@@ -9,10 +9,10 @@ use Rattle.ecma_syntax.specs.declared.settings.NumberRule.{NumberRule}
 use Rattle.ecma_syntax.specs.declared.settings.NumberRule.TheVariants.{Standard}
 use Rattle.ecma_syntax.specs.declared.settings.Syntax.{Syntax}
 use Rattle.ecma_syntax.specs.declared.settings.Syntax.TheVariants.{Typescript}
-use Rattle.ecma_lexer.specs.Run.{act_on, start_of}
-use Rattle.ecma_lexer.specs.Session.{Session}
-use Rattle.ecma_lexer.specs.declared.settings.Settings.{Settings}
-use Rattle.ecma_lexer.specs.declared.step.Step.TheVariants.{SetCtx}
+use Rattle.ecma_state.specs.Run.{act_on, start_of}
+use Rattle.ecma_state.specs.Session.{Session}
+use Rattle.ecma_state.specs.declared.settings.Settings.{Settings}
+use Rattle.ecma_state.specs.declared.step.Step.TheVariants.{SetCtx}
 use Rattle.ecma_options.specs.declared.options.Options.{Options}
 
 -- TypeScript with every option off
@@ -37,10 +37,6 @@ context o = record no_context { «module» = o.«module»; strict = o.strict }
 abbrev pub whole : List ℕ → Cursor
 whole bytes = record { start = 0; text = chars bytes; at = 0 }
 
--- the run begins with the setting of a context where one is asked for
-abbrev pub begin_if : Bool → Options → Session → Session
-begin_if true o s = act_on s (SetCtx (context o))
-begin_if false o s = s
-
+-- the run begins with the setting of the context
 abbrev pub begin : Bool → Options → List ℕ → Session
-begin comments o bytes = begin_if (o.«module» || o.strict) o (start_of (settings comments o) (whole bytes))
+begin comments o bytes = act_on (start_of (settings comments o) (whole bytes)) (SetCtx (context o))

@@ -2,7 +2,7 @@
 ghost use Rattle.std.specs.Prelude.{◌≡◌};
 ghost use Rattle.ecma_options.specs.Begin as starts;
 
-use ecma_lexer::Settings;
+use ecma_state::Settings;
 use ecma_syntax::{Context, EsVersion, NumberRule, Syntax, TsSyntax};
 
 /// How a text is read, as the words of a program say. By default as a script in sloppy mode, and as no TypeScript.

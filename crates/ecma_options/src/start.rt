@@ -1,12 +1,12 @@
 //! Where the reading of a text begins, and going on token by token.
 ghost use Rattle.std.specs.Prelude.{◌≡◌, ◌^◌, ◌<◌, IfOk, OnOk, is_some, length};
-ghost use Rattle.ecma_lexer.specs.Run.{reading_of, state_behind};
-ghost use Rattle.ecma_lexer.specs.Session.{lexer_state, state_of};
+ghost use Rattle.ecma_state.specs.Run.{reading_of, state_behind};
+ghost use Rattle.ecma_state.specs.Session.{lexer_state, state_of};
 ghost use Rattle.ecma_options.specs.Begin as starts;
 
 use crate::options::Options;
-use ecma_lexer::{Lexer, Settings, Tokens};
 use ecma_place::{BytePos, StringInput};
+use ecma_stream::{Lexer, Tokens};
 use std::alloc::{AllocError, Global};
 
 /// The lexer of a text that starts at the place 0. `comments` says whether comments are collected.
@@ -25,17 +25,10 @@ pub fn begin<'a>(
     requires { length text.now < 2 ^ 32 }
     ensures { IfOk result (λ lexer. lexer_state lexer ≡ state_of (starts.begin comments options text.now)) }
 {
-    let Settings {
-        syntax,
-        target,
-        comments,
-        numbers,
-    } = options.settings(comments);
+    let settings = options.settings(comments);
     let input = StringInput::new(text, BytePos(0));
-    let mut lexer = Lexer::with_rule(alloc, syntax, target, input, comments, numbers);
-    if options.module || options.strict {
-        lexer.set_ctx(options.context())?;
-    }
+    let mut lexer = Lexer::with_settings(alloc, &settings, input);
+    lexer.set_ctx(options.context())?;
     Ok(lexer)
 }
 

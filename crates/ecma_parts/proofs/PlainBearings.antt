@@ -12,7 +12,7 @@ use Rattle.ecma_token.specs.declared.kind.TokenKind.TheVariants.{Regex, Shebang,
 use Rattle.ecma_parts.specs.Bearing.{Bearing, behind_kind, turned_in}
 use Rattle.ecma_parts.specs.Instance.{was_shebang}
 
--- what plain steps keep: plain contexts, and that no token but a shebang was given at the start and behind a shebang
+-- what plain steps keep: own contexts, and that no token but a shebang was given at the start and behind a shebang
 pub record IsPlain (b : Bearing) : Type 0 where
   pub contexts : are_own b.contexts ≡ true
   pub start : b.shebang_allowed ≡ true → b.first ≡ true

@@ -8,9 +8,9 @@ mod asked;
 mod cover;
 mod faces;
 mod kept;
+mod numbers;
 mod reading;
 mod rows;
-mod store;
 mod told;
 mod whole;
 
@@ -23,5 +23,6 @@ fn main(rt: HostRuntime) -> io::Result<()> {
     whole::play(&rt, alloc)?;
     cover::play(&rt, alloc)?;
     faces::play(&rt, alloc)?;
+    numbers::play(&rt, alloc)?;
     told::play(&rt, alloc)
 }

@@ -1,9 +1,8 @@
 //! Texts read to their end, and each slash again, with a copy of the lexer made before each read.
 use crate::asked::Way;
 use crate::rows::{DEEP, TEXTS, contexts, opened};
-use crate::store::Store;
 use crate::told::{take_told, tell_comments, tell_errors};
-use ecma_lexer::{Lexer, Tokens, hand_comments};
+use ecma_lexer::{CommentList, Lexer, Tokens, hand_comments};
 use std::alloc::Global;
 use std::io;
 
@@ -36,11 +35,9 @@ fn tell_refused<'a>(
         Err(_) => "refused",
     };
     let slash = lexer.last_slash().is_some();
-    let mut store = Store {
-        given: Vec::new(alloc),
-    };
+    let mut store = CommentList::new(alloc);
     let handed = hand_comments(lexer, &mut store)?;
-    let comments = store.given.len();
+    let comments = store.as_slice().len();
     let errors = take_told(alloc, lexer)?;
     let same = errors.as_str() == take_told(alloc, &mut before.copy()?)?.as_str();
     let name = way.name();
@@ -90,14 +87,12 @@ fn read_out(rt: &impl Print, alloc: Global, way: Way, lexer: &mut Lexer) -> io::
     }
     tell_errors(rt, "recorded", lexer.take_errors().as_slice())?;
     tell_errors(rt, "waiting", lexer.module_errors())?;
-    let mut store = Store {
-        given: Vec::new(alloc),
-    };
+    let mut store = CommentList::new(alloc);
     if hand_comments(lexer, &mut store).is_err() {
         let rest = hand_comments(lexer, &mut store)?;
         println!(rt; "refused hand_comments: rest handed {rest}")?;
     }
-    tell_comments(rt, &store.given)
+    tell_comments(rt, store.as_slice())
 }
 
 fn play_texts(rt: &impl Print, alloc: Global, way: Way) -> io::Result<()> {

@@ -43,14 +43,7 @@ impl<'a> Runner<'a> {
     fn new(alloc: Global, settings: &Settings, input: StringInput<'a>) -> Runner<'a>
         ensures { Follows (start_of settings.now input.entry) [] result }
     {
-        let lexer = Lexer::with_rule(
-            alloc,
-            settings.syntax,
-            settings.target,
-            input,
-            settings.comments,
-            settings.numbers,
-        );
+        let lexer = Lexer::with_settings(alloc, settings, input);
         Runner {
             player: Player::new(alloc, lexer),
             saves: Vec::new(alloc),

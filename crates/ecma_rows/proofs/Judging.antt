@@ -3,7 +3,7 @@ use Rattle.std.proofs.Common.{◌≡◌, ℕ, ◌<◌, ◌≤◌, List, Ok, Err,
 use Rattle.std.proofs.lemmas.Str.{is_utf8-from_IsUtf8, IsUtf8-from_is_utf8}
 use Rattle.ecma_slashes.specs.Rereads.{SlashRule}
 use Rattle.ecma_rows.specs.Asked.{judged_text}
-use Rattle.ecma_rows.specs.declared.reading.Options.{Options}
+use Rattle.ecma_options.specs.declared.options.Options.{Options}
 use Rattle.ecma_rows.specs.declared.outcome.Status.TheVariants.{NotUtf8, TooLong}
 
 pub not_utf8 : (o : Options) (rule : SlashRule) (bytes : List ℕ) → ¬ (IsUtf8 bytes) → judged_text o rule bytes ≡ Err NotUtf8

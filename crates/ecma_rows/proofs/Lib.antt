@@ -4,3 +4,4 @@ pub mod Telling
 pub mod FewTokens
 pub mod Judging
 pub mod CanonCases
+pub mod ErrorLemmas

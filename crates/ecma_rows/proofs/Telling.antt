@@ -1,13 +1,13 @@
 -- A loop that tells of tokens while it reads.
 use Rattle.std.proofs.Common.{◌≡◌, ◌∙◌, ◌+◌, Bool, true, false, List, [], ◌∷◌, ◌++◌, append-nil, cond, Option, Some, None, length, drop, map, reverse, refl, sym, subst, ap, arith}
-use Rattle.std.specs.Prelude.{is_some, option_map}
-use Rattle.std.proofs.lemmas.List.{length-append}
+use Rattle.std.specs.Prelude.{flat_map, is_some, option_map}
+use Rattle.std.proofs.lemmas.List.{length-append, map-append}
 use Rattle.std.proofs.lemmas.List.Sums.{fold-append, sum_by-append}
-use Rattle.std.proofs.lemmas.Grind.{reverse_onto}
+use Rattle.std.proofs.lemmas.Grind.{flat_map-append, reverse_onto}
 use Rattle.ecma_place.specs.declared.place.BytePos.{BytePos}
-use Rattle.ecma_token.specs.View.{SpannedView}
+use Rattle.ecma_token.specs.View.{ErrorView, SpannedView, error_view, refusal_of}
 use Rattle.ecma_state.specs.Run.{act_all, act_on, given_in, reading_of, reread_from}
-use Rattle.ecma_state.specs.Session.{LexerState, Past, Session, kept_back, seen_of, state_of}
+use Rattle.ecma_state.specs.Session.{LexerState, Past, Session, kept_back, lexer_state, seen_of, state_of}
 use Rattle.ecma_state.specs.State.{last_slash}
 use Rattle.ecma_state.specs.declared.step.Step.{Step}
 use Rattle.ecma_state.specs.declared.step.Step.TheVariants.{Read}
@@ -15,8 +15,8 @@ use Rattle.ecma_slashes.specs.Rereads.{SlashRule, StepsOn, behind_by, found_by, 
 use Rattle.ecma_slashes.proofs.RunLemmas.{SoFar, so-far-end, so-far-next, so-far-start}
 use Rattle.ecma_slashes.proofs.TokenLemmas.{met-slash}
 use Rattle.ecma_rows.specs.Asked.{read_out}
-use Rattle.ecma_rows.specs.Rows.{token_row, token_rows}
-use Rattle.ecma_rows.specs.Tally.{IsTallied, ReadsRow, TellsOn, one_if, rows_of}
+use Rattle.ecma_rows.specs.Rows.{token_errors, token_row, token_rows}
+use Rattle.ecma_rows.specs.Tally.{IsTallied, ReadsRow, TellsOn, errors_found, errors_in, one_if, rows_of}
 use Rattle.ecma_rows.specs.Told.{written}
 use Rattle.ecma_rows.specs.declared.tally.ReadRow.{ReadRow}
 use Rattle.ecma_rows.specs.declared.tally.Tally.{Tally}
@@ -63,16 +63,28 @@ kept-by rule s plain = go (meets_expression rule s) refl
 
 -- Rows
 
-map-append : {A B : Type 0} → (f : A → B) (xs ys : List A) → map f (xs ++ ys) ≡ map f xs ++ map f ys
-map-append f [] ys = refl
-map-append f (x ∷ xs) ys = ap (λ more. f x ∷ more) (map-append f xs ys)
-
 rows-with : (found : Option SpannedView) (ts : List SpannedView) → map token_row (reverse (kept_with found ts)) ≡ map token_row (reverse ts) ++ rows_of (option_map token_row found)
 rows-with None ts = sym (append-nil (map token_row (reverse ts)))
 rows-with (Some t) ts = ap (map token_row) (reverse_onto ts t []) ∙ map-append token_row (reverse ts) (t ∷ [])
 
 pub rows-behind : (rule : SlashRule) (s : Session) → s.reread ≡ None → token_rows (behind_by rule s) ≡ token_rows s ++ rows_of (option_map token_row (found_by rule s))
 rows-behind rule s plain = ap (λ ts. map token_row (reverse ts)) (kept-by rule s plain) ∙ rows-with (found_by rule s) (kept_back s.past)
+
+-- Errors
+
+errors_among : List SpannedView → List ErrorView
+errors_among ts = flat_map (λ t. refusal_of t.token) ts
+
+errors-with : (found : Option SpannedView) (ts : List SpannedView) → errors_among (reverse (kept_with found ts)) ≡ errors_among (reverse ts) ++ errors_found found
+unfolding errors_among
+errors-with None ts = sym (append-nil (errors_among (reverse ts)))
+errors-with (Some t) ts =
+    ap errors_among (reverse_onto ts t []) ∙ flat_map-append (λ (x : SpannedView). refusal_of x.token) (reverse ts) (t ∷ [])
+    ∙ ap (λ more. errors_among (reverse ts) ++ more) (append-nil (refusal_of t.token))
+
+pub errors-behind : (rule : SlashRule) (s : Session) → s.reread ≡ None → token_errors (behind_by rule s) ≡ token_errors s ++ errors_found (found_by rule s)
+unfolding errors_among
+errors-behind rule s plain = ap (λ ts. errors_among (reverse ts)) (kept-by rule s plain) ∙ errors-with (found_by rule s) (kept_back s.past)
 
 -- Counts
 
@@ -93,68 +105,76 @@ some-map f (Some x) = refl
 
 -- one more token was told of
 pub tells-on : (rule : SlashRule) (s : Session) (steps : List Step) (before old new : List TokenRow) (was tally : Tally) (read : ReadRow) (more : Bool) (l : LexerState)
-    → s.reread ≡ None → IsTallied steps s before old was → ReadsRow rule s read l → more ≡ is_some read.row
+    → s.reread ≡ None → IsTallied steps s before old was → ReadsRow rule s read l → lexer_state tally.lexer ≡ l → more ≡ is_some read.row
     → tally.tokens ≡ was.tokens + one_if (is_some read.row) → tally.rereads ≡ was.rereads + one_if read.again
+    → map error_view tally.errors.items ≡ map error_view was.errors.items ++ errors_in read.error
     → ((rows : List TokenRow) (room : List TokenRow) → was.tokens ≡ length rows → old ≡ written rows room → new ≡ written (rows ++ rows_of read.row) room)
-    → TellsOn rule s steps before new tally more l
-tells-on rule s steps before old new was tally read more l plain so reads told tokens counted writes =
+    → TellsOn rule s steps before new tally more
+tells-on rule s steps before old new was tally read more l plain so reads shows told tokens counted kept writes =
     let rows : token_rows (behind_by rule s) ≡ token_rows s ++ rows_of read.row = rows-behind rule s plain ∙ ap (λ o. token_rows s ++ rows_of o) (sym reads.finds) in
     record {
       told = told ∙ ap is_some reads.finds ∙ some-map token_row (found_by rule s);
-      after = reads.after;
+      after = shows ∙ reads.after;
       tallied =
           record {
             tokens = tokens ∙ ap (λ n. n + one_if (is_some read.row)) so.tokens ∙ sym (rows-length (token_rows s) read.row) ∙ ap length (sym rows);
             rereads = counted ∙ ap (λ n. n + one_if read.again) so.rereads ∙ ap (λ b. rereads steps + one_if b) reads.twice
                 ∙ ap (λ n. rereads steps + n) (sym (counts-one (meets_expression rule s))) ∙ sym (count-append steps (steps_by rule s));
+            errors = kept ∙ ap (λ es. es ++ errors_in read.error) so.errors ∙ ap (λ es. token_errors s ++ es) reads.refuses ∙ sym (errors-behind rule s plain);
             rows = writes (token_rows s) before so.tokens so.rows ∙ ap (λ rows. written rows before) (sym rows);
           };
     }
 
 -- The loop
 
--- so many tokens were told of behind a session, and a lexer shows where that led
-pub record Going (rule : SlashRule) (begun : Session) (before room : List TokenRow) (tally : Tally) (l : LexerState) : Type 0 where
+-- so many tokens were read behind a session, and the lexer shows where that led
+pub record Going (rule : SlashRule) (begun : Session) (before room : List TokenRow) (tally : Tally) : Type 0 where
   pub steps : List Step
-  pub so : SoFar rule begun [] steps l
+  pub so : SoFar rule begun [] steps (lexer_state tally.lexer)
   pub tallied : IsTallied steps so.here before room tally
 
 -- the session is where the steps lead
 at-steps : (rule : SlashRule) (begun : Session) (steps : List Step) (l : LexerState) (so : SoFar rule begun [] steps l) → so.here ≡ act_all begun steps
 at-steps rule begun steps l so = so.there ∙ ap (act_all begun) (sym so.behind)
 
-pub going-start : (rule : SlashRule) (s : Session) (before : List TokenRow) (tally : Tally) (l : LexerState) → l ≡ state_of s → s.reread ≡ None → s.past ≡ [] → tally.tokens ≡ 0 → tally.rereads ≡ 0
-    → Going rule s before before tally l
-going-start rule s before tally l at plain none tokens counted =
+pub going-start : (rule : SlashRule) (s : Session) (before : List TokenRow) (tally : Tally) → lexer_state tally.lexer ≡ state_of s → s.reread ≡ None → s.past ≡ [] → tally.tokens ≡ 0 → tally.rereads ≡ 0
+    → tally.errors.items ≡ [] → Going rule s before before tally
+going-start rule s before tally at plain none tokens counted clean =
+    let l = lexer_state tally.lexer in
     let so = so-far-start rule s [] l at plain in
     let rows : token_rows s ≡ [] = ap (λ past. map token_row (reverse (kept_back past))) none in
-    let tallied : IsTallied [] s before before tally = record { tokens = tokens ∙ sym (ap length rows); rereads = counted; rows = sym (ap (λ r. written r before) rows) } in
+    let errors : token_errors s ≡ [] = ap (λ past. flat_map (λ (t : SpannedView). refusal_of t.token) (reverse (kept_back past))) none in
+    let tallied : IsTallied [] s before before tally = record { tokens = tokens ∙ sym (ap length rows); rereads = counted; errors = ap (map error_view) clean ∙ sym errors; rows = sym (ap (λ r. written r before) rows) } in
     record { steps = []; so = so; tallied = subst (λ x. IsTallied [] x before before tally) (sym (at-steps rule s [] l so)) tallied }
 
 -- by the steps that were added
-steps-on : (rule : SlashRule) (s : Session) (steps : List Step) (before room : List TokenRow) (tally : Tally) (more : Bool) (l : LexerState) → TellsOn rule s steps before room tally more l
-    → StepsOn rule s steps (steps ++ steps_by rule s) more l
-steps-on rule s steps before room tally more l on = record { adds = refl; told = on.told; after = on.after }
+steps-on : (rule : SlashRule) (s : Session) (steps : List Step) (before room : List TokenRow) (tally : Tally) (more : Bool) → TellsOn rule s steps before room tally more
+    → StepsOn rule s steps (steps ++ steps_by rule s) more (lexer_state tally.lexer)
+steps-on rule s steps before room tally more on = record { adds = refl; told = on.told; after = on.after }
 
 -- and so behind one more token
 led : (rule : SlashRule) (s : Session) (steps : List Step) (l : LexerState) (so : SoFar rule s [] steps l) → behind_by rule so.here ≡ act_all s (steps ++ steps_by rule so.here)
 led rule s steps l so = ap (λ x. act_all x (steps_by rule so.here)) (at-steps rule s steps l so) ∙ sym (fold-append act_on s steps (steps_by rule so.here))
 
-pub going-next : (rule : SlashRule) (s : Session) (before old room : List TokenRow) (was tally : Tally) (l next : LexerState) (go : Going rule s before old was l)
-    → TellsOn rule go.so.here go.steps before room tally true next → Going rule s before room tally next
-going-next rule s before old room was tally l next go on =
+pub going-next : (rule : SlashRule) (s : Session) (before old room : List TokenRow) (was tally : Tally) (go : Going rule s before old was)
+    → TellsOn rule go.so.here go.steps before room tally true → Going rule s before room tally
+going-next rule s before old room was tally go on =
     let here = go.so.here in
+    let l = lexer_state was.lexer in
+    let next = lexer_state tally.lexer in
     let steps : List Step = go.steps ++ steps_by rule here in
-    let so = so-far-next rule s [] go.steps steps l next go.so (steps-on rule here go.steps before room tally true next on) in
+    let so = so-far-next rule s [] go.steps steps l next go.so (steps-on rule here go.steps before room tally true on) in
     record { steps = steps; so = so; tallied = subst (λ x. IsTallied steps x before room tally) (sym (at-steps rule s steps next so ∙ sym (led rule s go.steps l go.so))) on.tallied }
 
--- behind the read that answers the end all tokens were told of, and the lexer shows where that led
-pub going-end : (rule : SlashRule) (s : Session) (before old room : List TokenRow) (was tally : Tally) (l next : LexerState) (go : Going rule s before old was l)
-    → TellsOn rule go.so.here go.steps before room tally false next
-    → IsTallied (steps_to_end_by rule s) (read_out rule s) before room tally × (next ≡ state_of (read_out rule s))
-going-end rule s before old room was tally l next go on =
+-- behind the read that answers the end all tokens were read, and the lexer shows where that led
+pub going-end : (rule : SlashRule) (s : Session) (before old room : List TokenRow) (was tally : Tally) (go : Going rule s before old was)
+    → TellsOn rule go.so.here go.steps before room tally false
+    → IsTallied (steps_to_end_by rule s) (read_out rule s) before room tally × (lexer_state tally.lexer ≡ state_of (read_out rule s))
+going-end rule s before old room was tally go on =
     let here = go.so.here in
-    let all = so-far-end rule s [] go.steps (go.steps ++ steps_by rule here) l next go.so (steps-on rule here go.steps before room tally false next on) in
+    let l = lexer_state was.lexer in
+    let next = lexer_state tally.lexer in
+    let all = so-far-end rule s [] go.steps (go.steps ++ steps_by rule here) l next go.so (steps-on rule here go.steps before room tally false on) in
     let steps : go.steps ++ steps_by rule here ≡ steps_to_end_by rule s = all.0 in
     let out : behind_by rule here ≡ read_out rule s = led rule s go.steps l go.so ∙ ap (act_all s) steps in
     (subst (λ x. IsTallied (steps_to_end_by rule s) x before room tally) out (subst (λ x. IsTallied x (behind_by rule here) before room tally) steps on.tallied), all.1)

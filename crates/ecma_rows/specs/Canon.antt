@@ -5,7 +5,8 @@ use Rattle.ecma_state.specs.declared.step.Step.{Step}
 use Rattle.ecma_slashes.specs.Rereads.{text_steps_by}
 use Rattle.ecma_clean.specs.Clean.{is_clean}
 use Rattle.ecma_clean.specs.Sharing.{canonical_text_of}
-use Rattle.ecma_rows.specs.Asked.{AskedView, context, settings, whole}
+use Rattle.ecma_options.specs.Begin.{context, settings, whole}
+use Rattle.ecma_rows.specs.Asked.{AskedView}
 use Rattle.ecma_rows.specs.Told.{Told, Nothing, Rows, are_met}
 use Rattle.ecma_rows.specs.declared.outcome.Status.{Status}
 use Rattle.ecma_rows.specs.declared.outcome.Status.TheVariants.{NoSlash, NotClean, TooLong}

@@ -1,5 +1,6 @@
 pub mod Asked
 pub mod Canon
+pub mod ErrorRows
 pub mod Rows
 pub mod Tally
 pub mod Told

@@ -2,29 +2,18 @@
 ghost use Rattle.std.specs.Prelude.{◌≡◌, map, IfOk, OnErr};
 ghost use Rattle.ecma_rows.specs.Asked.{judged, place_at};
 ghost use Rattle.ecma_rows.specs.Canon.{canon_told};
-ghost use Rattle.ecma_rows.specs.Told.{IsTold, written};
+ghost use Rattle.ecma_rows.specs.Told.{IsTold};
 
 use crate::outcome::{Answer, Status};
 use crate::request::{judge, places};
-use crate::room::put;
+use crate::room::write_all;
 use ecma_canonical::{Canon, canonical};
 use ecma_place::BytePos;
 use ecma_slashes::{count_rereads, steps_by};
 use std::alloc::{AllocError, Global};
 
-/// Writes bytes to the room, as many as fit.
-fn write_bytes(bytes: &[u8], room: &mut [u8])
-    ensures { room.new ≡ written bytes.now room.old }
-{
-    let mut count = 0;
-    for byte in bytes {
-        put(room, count, *byte);
-        count += 1;
-    }
-}
-
 /// Writes the canonical text of a text to the room, as many bytes as fit. The count is the number of its bytes. What is taken
-/// is as of [`tell_tokens`](crate::tell_tokens). Nothing is told, and the room is as before, where the answer is `Refused`,
+/// is as of [`write_tokens`](crate::write_tokens). Nothing is written where the answer is `Refused`,
 /// `NotUtf8`, `TooLong`, `NoSlash` or `NotClean`, judged in this order, but that `TooLong` is also answered, last, where the
 /// canonical text is longer than places go. Our own.
 ///
@@ -32,7 +21,7 @@ fn write_bytes(bytes: &[u8], room: &mut [u8])
 ///
 /// `AllocError` where there is no memory; the room is then as before.
 #[tactic(auto, using(crate::proofs::CanonCases::canon_text, crate::proofs::CanonCases::canon_too_long, crate::proofs::CanonCases::canon_not_clean))]
-pub fn tell_canonical(
+pub fn write_canonical(
     alloc: Global,
     text: &[u8],
     bits: u32,
@@ -57,7 +46,7 @@ pub fn tell_canonical(
     match canonical(alloc, &settings, asked.text, start, &steps)? {
         Canon::Text(canon) => {
             let bytes = canon.as_bytes();
-            write_bytes(bytes, out);
+            write_all(bytes, out);
             Ok(Answer::of_count(true, bytes.len() <= out.len(), bytes.len()))
         }
         Canon::NotClean => Ok(Answer::of_status(Status::NotClean)),

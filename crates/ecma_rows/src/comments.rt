@@ -5,11 +5,11 @@ ghost use Rattle.ecma_rows.specs.Rows as rows;
 ghost use Rattle.ecma_rows.specs.Rows.{comment_rows};
 ghost use Rattle.ecma_rows.specs.Told.{IsTold, told_by, written};
 
-use crate::begin::begin;
 use crate::outcome::Answer;
 use crate::request::{judge, places};
 use crate::room::put;
-use crate::tally::tell_all;
+use crate::tally::tally_all;
+use ecma_options::begin;
 use ecma_place::CommentKind;
 use ecma_state::{BufferedComment, BufferedCommentKind};
 use std::alloc::{AllocError, Global};
@@ -79,12 +79,12 @@ fn write_rows(comments: &[BufferedComment], out: &mut [CommentRow])
 }
 
 /// Writes a row for each comment of a text to the room, as many as fit, in the order in which the lexer hands them over. What
-/// is taken and answered is as of [`tell_tokens`](crate::tell_tokens), but that comments are counted.
+/// is taken and answered is as of [`write_tokens`](crate::write_tokens), but that comments are counted.
 ///
 /// # Errors
 ///
 /// `AllocError` where there is no memory; the room is then as before.
-pub fn tell_comments(
+pub fn write_comments(
     alloc: Global,
     text: &[u8],
     bits: u32,
@@ -99,11 +99,11 @@ pub fn tell_comments(
         Ok(asked) => asked,
         Err(status) => return Ok(Answer::of_status(status)),
     };
-    let mut lexer = begin(alloc, true, asked)?;
-    let tally = tell_all(&mut lexer, asked.slashes, &mut [])?;
-    let (_, comments, _) = lexer.into_parts();
-    write_rows(&comments, out);
+    let lexer = begin(alloc, true, asked.options, asked.text)?;
+    let tally = tally_all(alloc, lexer, asked.slashes, &mut [])?;
     let is_met = asked.is_met(tally.rereads);
+    let (_, comments, _) = tally.lexer.into_parts();
+    write_rows(&comments, out);
     let fits = comments.len() <= out.len();
     Ok(Answer::of_count(is_met, fits, comments.len()))
 }

@@ -1,18 +1,19 @@
 //! What a run gives, as rows of numbers for callers that know no enums and own all memory.
 #![tactic(auto)]
 
-mod begin;
+mod bits;
 mod canon;
 mod comments;
+mod errors;
 mod outcome;
-mod reading;
 mod request;
 mod room;
 mod tally;
 mod tokens;
 
-pub use canon::tell_canonical;
-pub use comments::{CommentRow, tell_comments};
+pub use bits::options_of_bits;
+pub use canon::write_canonical;
+pub use comments::{CommentRow, write_comments};
+pub use errors::{ErrorRow, write_errors};
 pub use outcome::{Answer, Status};
-pub use reading::Options;
-pub use tokens::{TokenRow, count_tokens, tell_tokens};
+pub use tokens::{TokenRow, count_tokens, write_tokens};

@@ -5,7 +5,7 @@ ghost use Rattle.ecma_rows.specs.Told as told;
 /// What a call came to.
 #[derive(Clone, Copy, Debug, PartialEq, Eq)]
 pub enum Status {
-    /// All was told.
+    /// All was written.
     Done,
     /// A place that was named is not that of a `/` or `/=` which is read there.
     NoSlash,
@@ -15,9 +15,9 @@ pub enum Status {
     NotClean,
     /// There is no memory.
     OutOfMemory,
-    /// There is no room for all that is told. What fits was told.
+    /// There is no room for all. What fits was written.
     NoRoom,
-    /// An option is unknown, or the places do not ascend, or there are some where the flag is to tell.
+    /// An option is unknown, or the places do not ascend, or some are given though the flag is to say.
     Refused,
     /// The text, or its canonical text, is longer than 4,294,967,295 bytes.
     TooLong,
@@ -41,7 +41,7 @@ impl Status {
     }
 }
 
-/// What a call came to, and how many rows there are to tell, also where there is no room for all of them.
+/// What a call came to, and how many rows there are, also where there is no room for all of them.
 #[derive(Clone, Copy, Debug, PartialEq, Eq)]
 pub struct Answer {
     pub status: Status,
@@ -49,14 +49,14 @@ pub struct Answer {
 }
 
 impl Answer {
-    /// Nothing is told.
+    /// Nothing is written.
     pub(crate) fn of_status(status: Status) -> Answer
         ensures { result ≡ record { status = status; count = 0 } }
     {
         Answer { status, count: 0 }
     }
 
-    /// So many rows are to be told. `is_met` says whether each place that was named is that of a slash, `fits` whether there
+    /// There are so many rows. `is_met` says whether each place that was named is that of a slash, `fits` whether there
     /// is room for all rows.
     pub(crate) fn of_count(is_met: bool, fits: bool, count: usize) -> Answer
         ensures { result ≡ record { status = told.status_of is_met fits; count = count } }

@@ -7,8 +7,9 @@ ghost use Rattle.ecma_rows.specs.Asked as requests;
 ghost use Rattle.ecma_rows.specs.Asked.{asked_view, judged, place_at};
 ghost use Rattle.ecma_rows.specs.Told.{are_met};
 
+use crate::bits::{is_by_flag, options_of_bits};
 use crate::outcome::Status;
-use crate::reading::Options;
+use ecma_options::Options;
 use ecma_place::BytePos;
 use ecma_slashes::{Slashes, ascend};
 use std::alloc::{AllocError, Global};
@@ -47,14 +48,14 @@ pub(crate) fn places(alloc: Global, numbers: &[u32]) -> Result<Vec<BytePos>, All
     Ok(places)
 }
 
-/// Which slashes are read again: those that the flag tells, where it is to tell and no places are given, or those at places
+/// Which slashes are read again: those that the flag says, where it is to say and no places are given, or those at places
 /// that ascend.
-fn slashes_asked<'a>(options: Options, places: &'a [BytePos]) -> Option<Slashes<'a>>
-    ensures rule { IfSome result (λ slashes. requests.rule_asked options places.now ≡ Some (rule_of slashes)) }
-    ensures none { result ≡ None → requests.rule_asked options places.now ≡ None }
+fn slashes_asked<'a>(by_flag: bool, places: &'a [BytePos]) -> Option<Slashes<'a>>
+    ensures rule { IfSome result (λ slashes. requests.rule_asked by_flag places.now ≡ Some (rule_of slashes)) }
+    ensures none { result ≡ None → requests.rule_asked by_flag places.now ≡ None }
     ensures in_order { IfSome result (λ slashes. is_in_order (rule_of slashes) ≡ true) }
 {
-    if options.by_flag {
+    if by_flag {
         return if places.is_empty() {
             Some(Slashes::ByFlag)
         } else {
@@ -112,10 +113,10 @@ pub(crate) fn judge<'a>(
     ensures is_text { IfOk result (λ asked. IsUtf8 asked.text.now) }
     ensures in_order { IfOk result (λ asked. is_in_order (rule_of asked.slashes) ≡ true) }
 {
-    let Some(options) = Options::of_bits(bits) else {
+    let Some(options) = options_of_bits(bits) else {
         return Err(Status::Refused);
     };
-    let Some(slashes) = slashes_asked(options, places) else {
+    let Some(slashes) = slashes_asked(is_by_flag(bits), places) else {
         return Err(Status::Refused);
     };
     judge_text(options, slashes, text)

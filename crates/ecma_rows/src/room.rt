@@ -10,3 +10,14 @@ pub(crate) fn put<R: Copy>(room: &mut [R], count: usize, row: R)
         room[count] = row;
     }
 }
+
+/// Writes rows to the room, in order, as many as fit.
+pub(crate) fn write_all<R: Copy>(rows: &[R], room: &mut [R])
+    ensures { room.new ≡ written rows.now room.old }
+{
+    let mut count = 0;
+    for row in rows {
+        put(room, count, *row);
+        count += 1;
+    }
+}

@@ -1,11 +1,12 @@
-//! The tokens of a text, told as rows while it is read.
-ghost use Rattle.std.specs.Prelude.{◌≡◌, ◌+◌, ◌++◌, ◌<◌, ◌≤◌, ◌^◌, None, [], List, is_some, length, true, IfOk, OnOk};
+//! Rows of tokens, written while a text is read.
+ghost use Rattle.std.specs.Prelude.{◌≡◌, ◌+◌, ◌++◌, ◌<◌, ◌≤◌, ◌^◌, None, [], List, is_some, length, map, option_map, true, IfOk, OnOk};
+ghost use Rattle.ecma_token.specs.View.{error_view, spanned_view};
 ghost use Rattle.ecma_state.specs.Session.{Session, lexer_state, state_of};
 ghost use Rattle.ecma_state.specs.declared.step.Step.{Step};
 ghost use Rattle.ecma_stream.specs.Ending.{most_tokens};
 ghost use Rattle.ecma_slashes.specs.Rereads.{is_in_order, rule_of, steps_to_end_by};
 ghost use Rattle.ecma_rows.specs.Asked.{read_out};
-ghost use Rattle.ecma_rows.specs.Tally.{IsTallied, ReadsRow, TellsOn, one_if, rows_of};
+ghost use Rattle.ecma_rows.specs.Tally.{IsTallied, ReadsRow, TellsOn, errors_found, errors_in, one_if, rows_of};
 ghost use Rattle.ecma_rows.specs.Told.{written};
 ghost use Rattle.ecma_rows.specs.declared.tokens.TokenRow.{TokenRow};
 
@@ -13,27 +14,43 @@ use crate::room::put;
 use crate::tokens::{TokenRow, token_row};
 use ecma_slashes::{Slashes, read_telling};
 use ecma_stream::Lexer;
-use std::alloc::AllocError;
+use ecma_token::{Error, Token, TokenAndSpan};
+use std::alloc::{AllocError, Global};
 
-/// How much was read.
-#[derive(Clone, Copy)]
-pub(crate) struct Tally {
+/// A lexer, and what was read by it.
+#[derive(Drop)]
+pub(crate) struct Tally<'a> {
+    pub(crate) lexer: Lexer<'a>,
     pub(crate) tokens: usize,
     /// How many slashes were read again.
     pub(crate) rereads: usize,
+    /// The errors of the tokens that are one, in order.
+    pub(crate) errors: Vec<Error<'a>>,
 }
 
 /// One read.
-#[derive(Clone, Copy)]
-struct ReadRow {
+#[derive(Drop)]
+struct ReadRow<'a> {
     /// The row of the token, or nothing at the end.
     row: Option<TokenRow>,
+    /// The error of a token that is one.
+    error: Option<Error<'a>>,
     /// Whether a slash was read again.
     again: bool,
 }
 
+/// The error of a token that is one.
+fn error_in<'a>(token: Option<TokenAndSpan<'a>>) -> Option<Error<'a>>
+    ensures { errors_in result ≡ errors_found (option_map spanned_view token.entry) }
+{
+    match token?.token {
+        Token::Error(error) => Some(error),
+        _ => None,
+    }
+}
+
 /// Reads the next token.
-fn read_row(lexer: &mut Lexer, slashes: Slashes) -> Result<ReadRow, AllocError>
+fn read_row<'a>(lexer: &mut Lexer<'a>, slashes: Slashes) -> Result<ReadRow<'a>, AllocError>
     requires no_reread { lexer.old.reread ≡ None }
     requires in_order { is_in_order (rule_of slashes) ≡ true }
     ensures steps { (s : Session) → state_of s ≡ lexer_state lexer.old → IfOk result (λ read.
@@ -47,68 +64,76 @@ fn read_row(lexer: &mut Lexer, slashes: Slashes) -> Result<ReadRow, AllocError>
         Some(token) => Some(token_row(token)),
         None => None,
     };
-    Ok(ReadRow { row, again })
+    let error = error_in(slot);
+    Ok(ReadRow { row, error, again })
 }
 
-/// Takes in what was read, writes its row where there is one, and says whether there is.
-fn take_in(tally: &mut Tally, read: ReadRow, out: &mut [TokenRow]) -> bool
-    requires few { tally.old.tokens < 2 ^ 60 }
-    requires rare { tally.old.rereads < 2 ^ 60 }
-    ensures more { result ≡ is_some read.row }
-    ensures rereads { tally.new.rereads ≡ tally.old.rereads + one_if read.again }
-    ensures tokens { tally.new.tokens ≡ tally.old.tokens + one_if (is_some read.row) }
-    ensures rows { (rows before : List TokenRow) → tally.old.tokens ≡ length rows → out.old ≡ written rows before → out.new ≡ written (rows ++ rows_of read.row) before }
-{
-    if read.again {
-        tally.rereads += 1;
+impl<'a> Tally<'a> {
+    /// Takes in what was read, writes its row where there is one, and says whether there is.
+    fn take_in(&mut self, read: ReadRow<'a>, out: &mut [TokenRow]) -> Result<bool, AllocError>
+        requires few { self.old.tokens < 2 ^ 60 }
+        requires rare { self.old.rereads < 2 ^ 60 }
+        ensures more { IfOk result (λ more. more ≡ is_some read.entry.row) }
+        ensures lexer { OnOk result (self.new.lexer ≡ self.old.lexer) }
+        ensures rereads { OnOk result (self.new.rereads ≡ self.old.rereads + one_if read.entry.again) }
+        ensures tokens { OnOk result (self.new.tokens ≡ self.old.tokens + one_if (is_some read.entry.row)) }
+        ensures errors { OnOk result (map error_view self.new.errors.items ≡ map error_view self.old.errors.items ++ errors_in read.entry.error) }
+        ensures rows { (rows before : List TokenRow) → self.old.tokens ≡ length rows → out.old ≡ written rows before → OnOk result (out.new ≡ written (rows ++ rows_of read.entry.row) before) }
+    {
+        let ReadRow { row, error, again } = read;
+        if again {
+            self.rereads += 1;
+        }
+        if let Some(error) = error {
+            self.errors.push(error)?;
+        }
+        let Some(row) = row else {
+            return Ok(false);
+        };
+        put(out, self.tokens, row);
+        self.tokens += 1;
+        Ok(true)
     }
-    let Some(row) = read.row else {
-        return false;
-    };
-    put(out, tally.tokens, row);
-    tally.tokens += 1;
-    true
-}
 
-/// Reads the next token, tells of it, and says whether there was one.
-fn tell_token(
-    lexer: &mut Lexer,
-    slashes: Slashes,
-    tally: &mut Tally,
-    out: &mut [TokenRow],
-) -> Result<bool, AllocError>
-    requires no_reread { lexer.old.reread ≡ None }
-    requires in_order { is_in_order (rule_of slashes) ≡ true }
-    requires few { tally.old.tokens < 2 ^ 60 }
-    requires rare { tally.old.rereads < 2 ^ 60 }
-    ensures steps { (s : Session) (steps : List Step) (before : List TokenRow) → state_of s ≡ lexer_state lexer.old → s.reread ≡ None → IsTallied steps s before out.old tally.old
-        → IfOk result (λ more. TellsOn (rule_of slashes.entry) s steps before out.new tally.new more (lexer_state lexer.new)) }
-    ensures fewer { IfOk result (λ more. more ≡ true → most_tokens (lexer_state lexer.new) < most_tokens (lexer_state lexer.old)) }
-    ensures no_reread { OnOk result (lexer.new.reread ≡ None) }
-    ensures few { OnOk result (tally.new.tokens ≤ tally.old.tokens + 1) }
-    ensures rare { OnOk result (tally.new.rereads ≤ tally.old.rereads + 1) }
-{
-    let read = read_row(lexer, slashes)?;
-    Ok(take_in(tally, read, out))
+    /// Reads the next token, counts it and writes its row, and says whether there was one.
+    fn read_next(&mut self, slashes: Slashes, out: &mut [TokenRow]) -> Result<bool, AllocError>
+        requires no_reread { self.old.lexer.reread ≡ None }
+        requires in_order { is_in_order (rule_of slashes) ≡ true }
+        requires few { self.old.tokens < 2 ^ 60 }
+        requires rare { self.old.rereads < 2 ^ 60 }
+        ensures steps { (s : Session) (steps : List Step) (before : List TokenRow) → state_of s ≡ lexer_state self.old.lexer → s.reread ≡ None → IsTallied steps s before out.old self.old
+            → IfOk result (λ more. TellsOn (rule_of slashes.entry) s steps before out.new self.new more) }
+        ensures fewer { IfOk result (λ more. more ≡ true → most_tokens (lexer_state self.new.lexer) < most_tokens (lexer_state self.old.lexer)) }
+        ensures no_reread { OnOk result (self.new.lexer.reread ≡ None) }
+        ensures few { OnOk result (self.new.tokens ≤ self.old.tokens + 1) }
+        ensures rare { OnOk result (self.new.rereads ≤ self.old.rereads + 1) }
+    {
+        let read = read_row(&mut self.lexer, slashes)?;
+        let more = self.take_in(read, out)?;
+        Ok(more)
+    }
 }
 
 /// Reads to the end, and writes a row for each token to the room, in order, as many as fit.
-pub(crate) fn tell_all(
-    lexer: &mut Lexer,
+pub(crate) fn tally_all<'a>(
+    alloc: Global,
+    lexer: Lexer<'a>,
     slashes: Slashes,
     out: &mut [TokenRow],
-) -> Result<Tally, AllocError>
-    requires no_reread { lexer.old.reread ≡ None }
+) -> Result<Tally<'a>, AllocError>
+    requires no_reread { lexer.reread ≡ None }
     requires in_order { is_in_order (rule_of slashes) ≡ true }
-    requires short { most_tokens (lexer_state lexer.old) < 2 ^ 60 }
-    ensures told { (s : Session) → state_of s ≡ lexer_state lexer.old → s.past ≡ [] → IfOk result (λ tally.
+    requires short { most_tokens (lexer_state lexer) < 2 ^ 60 }
+    ensures told { (s : Session) → state_of s ≡ lexer_state lexer.entry → s.past ≡ [] → IfOk result (λ tally.
         IsTallied (steps_to_end_by (rule_of slashes.entry) s) (read_out (rule_of slashes.entry) s) out.old out.new tally) }
-    ensures after { (s : Session) → state_of s ≡ lexer_state lexer.old → s.past ≡ [] → OnOk result (lexer_state lexer.new ≡ state_of (read_out (rule_of slashes.entry) s)) }
+    ensures after { (s : Session) → state_of s ≡ lexer_state lexer.entry → s.past ≡ [] → IfOk result (λ tally. lexer_state tally.lexer ≡ state_of (read_out (rule_of slashes.entry) s)) }
 {
     let mut tally = Tally {
+        lexer,
         tokens: 0,
         rereads: 0,
+        errors: Vec::new(alloc),
     };
-    'tokens: while tell_token(lexer, slashes, &mut tally, out)? {}
+    'tokens: while tally.read_next(slashes, out)? {}
     Ok(tally)
 }

@@ -6,11 +6,11 @@ ghost use Rattle.ecma_rows.specs.Rows as rows;
 ghost use Rattle.ecma_rows.specs.Rows.{token_rows};
 ghost use Rattle.ecma_rows.specs.Told.{IsTold, count_of, told_by};
 
-use crate::begin::begin;
 use crate::outcome::Answer;
 use crate::request::{judge, places};
-use crate::tally::tell_all;
+use crate::tally::tally_all;
 use ecma_kinds::kind_number;
+use ecma_options::begin;
 use ecma_place::Span;
 use ecma_syntax::Word;
 use ecma_token::{Token, TokenAndSpan};
@@ -76,16 +76,16 @@ pub(crate) fn token_row(token: &TokenAndSpan) -> TokenRow
 
 /// Writes a row for each token of a text to the room, in order, as many as fit.
 ///
-/// `bits` is a sum of options ([`Options::of_bits`](crate::Options::of_bits)); `slashes` are the places, each behind the one
-/// before it, of `/` and `/=` that begin regular expressions, none where the flag is to tell. The answer is `Done`, or
+/// `bits` is a sum of options ([`options_of_bits`](crate::options_of_bits)); `slashes` are the places, each behind the one
+/// before it, of `/` and `/=` that begin regular expressions, none where the flag is to say. The answer is `Done`, or
 /// `NoRoom` where there are more tokens than room; its count is the number of tokens. What lies behind the rows is as
-/// before. Nothing is told, and the room is as before, where the answer is `Refused`, `NotUtf8` or `TooLong`, judged in
+/// before. Nothing is written where the answer is `Refused`, `NotUtf8` or `TooLong`, judged in
 /// this order; where it is `NoSlash` the place that is not that of a slash changed nothing. Our own.
 ///
 /// # Errors
 ///
 /// `AllocError` where there is no memory: some rows may have been written.
-pub fn tell_tokens(
+pub fn write_tokens(
     alloc: Global,
     text: &[u8],
     bits: u32,
@@ -99,14 +99,14 @@ pub fn tell_tokens(
         Ok(asked) => asked,
         Err(status) => return Ok(Answer::of_status(status)),
     };
-    let mut lexer = begin(alloc, false, asked)?;
-    let tally = tell_all(&mut lexer, asked.slashes, out)?;
+    let lexer = begin(alloc, false, asked.options, asked.text)?;
+    let tally = tally_all(alloc, lexer, asked.slashes, out)?;
     let is_met = asked.is_met(tally.rereads);
     let fits = tally.tokens <= out.len();
     Ok(Answer::of_count(is_met, fits, tally.tokens))
 }
 
-/// How many tokens a text has, judged and read as by [`tell_tokens`]: the answer's status is `Done`, `Refused`, `NotUtf8`,
+/// How many tokens a text has, judged and read as by [`write_tokens`]: the answer's status is `Done`, `Refused`, `NotUtf8`,
 /// `TooLong` or `NoSlash`. Our own.
 ///
 /// # Errors
@@ -125,8 +125,8 @@ pub fn count_tokens(
         Ok(asked) => asked,
         Err(status) => return Ok(Answer::of_status(status)),
     };
-    let mut lexer = begin(alloc, false, asked)?;
-    let tally = tell_all(&mut lexer, asked.slashes, &mut [])?;
+    let lexer = begin(alloc, false, asked.options, asked.text)?;
+    let tally = tally_all(alloc, lexer, asked.slashes, &mut [])?;
     let is_met = asked.is_met(tally.rereads);
     Ok(Answer::of_count(is_met, true, tally.tokens))
 }

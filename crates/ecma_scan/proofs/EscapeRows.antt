@@ -5,7 +5,7 @@ use Rattle.ecma_place.specs.Text.{Text}
 use lib.Utf8.{encode}
 use Rattle.ecma_place.specs.Atom.{owned_atom}
 use Rattle.ecma_place.specs.Character.{is_line_terminator}
-use Rattle.ecma_token.specs.View.{KindView, plain, bad_escape}
+use Rattle.ecma_token.specs.View.{KindView, plain_kind, bad_escape}
 use Rattle.ecma_token.specs.declared.error.SyntaxError.{InvalidIdentChar, LegacyOctal, InvalidUnicodeEscape, InvalidStrEscape, ExpectedUnicodeEscape}
 use Rattle.ecma_grammar.specs.declared.found.Blame.{Blame}
 use Rattle.ecma_grammar.specs.declared.found.Blame.TheVariants.{Always, Strict}
@@ -19,7 +19,7 @@ abbrev fault : Blame → KindView → ℕ → ℕ → Fault
 fault blame kind low high = record { blame = blame; error = record { kind = kind; span = span_of low high } }
 
 abbrev octal : Text → ℕ → Escape
-octal spelling value = Accepted spelling (value ∷ []) (fault Strict (plain LegacyOctal) 0 2 ∷ [])
+octal spelling value = Accepted spelling (value ∷ []) (fault Strict (plain_kind LegacyOctal) 0 2 ∷ [])
 
 -- one character
 
@@ -110,7 +110,7 @@ zeros : escape InString (codes "\\000") ≡ octal (codes "\\000") 0
 unfolding is_line_terminator
 zeros = refl
 
-octal_in_template : escape InTemplate (codes "\\12") ≡ refused (codes "\\1") (plain LegacyOctal) 0 2
+octal_in_template : escape InTemplate (codes "\\12") ≡ refused (codes "\\1") (plain_kind LegacyOctal) 0 2
 unfolding is_line_terminator
 octal_in_template = refl
 
@@ -133,7 +133,7 @@ long_surrogate : escape InString (codes "\\u{0000d800}") ≡ Accepted (codes "\\
 unfolding is_line_terminator
 long_surrogate = refl
 
-surrogate_in_word : escape InWord (codes "\\uDFFF") ≡ Accepted (codes "\\uDFFF") (codes "\\uDFFF") (fault Always (plain InvalidIdentChar) 0 6 ∷ [])
+surrogate_in_word : escape InWord (codes "\\uDFFF") ≡ Accepted (codes "\\uDFFF") (codes "\\uDFFF") (fault Always (plain_kind InvalidIdentChar) 0 6 ∷ [])
 unfolding is_line_terminator
 surrogate_in_word = refl
 
@@ -150,32 +150,32 @@ out_of_range_first : escape InWord (codes "\\u{110000 ") ≡ refused (codes "\\u
 unfolding is_line_terminator
 out_of_range_first = refl
 
-open_brace : escape InString (codes "\\u{41'") ≡ refused (codes "\\u{41") (plain InvalidUnicodeEscape) 0 5
+open_brace : escape InString (codes "\\u{41'") ≡ refused (codes "\\u{41") (plain_kind InvalidUnicodeEscape) 0 5
 unfolding is_line_terminator
 open_brace = refl
 
-open_brace_in_word : escape InWord (codes "\\u{41'") ≡ refused (codes "\\u{41") (plain InvalidUnicodeEscape) 3 5
+open_brace_in_word : escape InWord (codes "\\u{41'") ≡ refused (codes "\\u{41") (plain_kind InvalidUnicodeEscape) 3 5
 unfolding is_line_terminator
 open_brace_in_word = refl
 
 -- a backslash alone
 
-at_the_end : escape InString (codes "\\") ≡ refused (codes "\\") (plain InvalidStrEscape) 0 0
+at_the_end : escape InString (codes "\\") ≡ refused (codes "\\") (plain_kind InvalidStrEscape) 0 0
 at_the_end = refl
 
-end_of_template : escape InTemplate (codes "\\") ≡ refused (codes "\\") (plain InvalidStrEscape) 0 0
+end_of_template : escape InTemplate (codes "\\") ≡ refused (codes "\\") (plain_kind InvalidStrEscape) 0 0
 end_of_template = refl
 
-end_of_word : escape InWord (codes "\\") ≡ refused (codes "\\") (plain ExpectedUnicodeEscape) 0 0
+end_of_word : escape InWord (codes "\\") ≡ refused (codes "\\") (plain_kind ExpectedUnicodeEscape) 0 0
 end_of_word = refl
 
-no_letter : escape InWord (codes "\\n") ≡ refused (codes "\\") (plain ExpectedUnicodeEscape) 0 0
+no_letter : escape InWord (codes "\\n") ≡ refused (codes "\\") (plain_kind ExpectedUnicodeEscape) 0 0
 unfolding is_line_terminator
 no_letter = refl
 
 -- an escape by itself
 
-alone : scanned_escape InString (codes "\\400") ≡ record { value = Ok (Some (owned_atom (codes " "))); faults = fault Strict (plain LegacyOctal) 0 2 ∷ []; spelling = codes "\\40"; line_break = false }
+alone : scanned_escape InString (codes "\\400") ≡ record { value = Ok (Some (owned_atom (codes " "))); faults = fault Strict (plain_kind LegacyOctal) 0 2 ∷ []; spelling = codes "\\40"; line_break = false }
 unfolding is_line_terminator encode
 alone = refl
 
@@ -183,6 +183,6 @@ nothing : scanned_escape InTemplate (codes "\\\na") ≡ scanned None (codes "\\\
 unfolding is_line_terminator encode
 nothing = refl
 
-refused_alone : scanned_escape InTemplate (codes "\\400") ≡ record { value = Err (record { kind = plain LegacyOctal; span = span_of 0 2 }); faults = []; spelling = codes "\\4"; line_break = false }
+refused_alone : scanned_escape InTemplate (codes "\\400") ≡ record { value = Err (record { kind = plain_kind LegacyOctal; span = span_of 0 2 }); faults = []; spelling = codes "\\4"; line_break = false }
 unfolding is_line_terminator encode
 refused_alone = refl

@@ -5,7 +5,7 @@ use lib.Utf8.{encode}
 use Rattle.ecma_place.specs.Text.{Text}
 use Rattle.ecma_place.specs.Atom.{borrowed_atom, owned_atom}
 use Rattle.ecma_place.specs.Character.{is_ident_start, is_ident_part, is_line_terminator}
-use Rattle.ecma_token.specs.View.{TokenView, KindView, plain, bad_escape, plain_token}
+use Rattle.ecma_token.specs.View.{TokenView, KindView, plain_kind, bad_escape, plain_token}
 use Rattle.ecma_token.specs.declared.error.SyntaxError.{SyntaxError, ExpectedUnicodeEscape, InvalidIdentChar, UnterminatedRegExp}
 use Rattle.ecma_token.specs.declared.token.Token.{Token, Regex}
 use Rattle.ecma_grammar.specs.declared.found.Blame.TheVariants.{Always}
@@ -21,7 +21,7 @@ abbrev refused : KindView → ℕ → ℕ → Text → Scanned TokenView
 refused kind low high spelling = record { value = Err (record { kind = kind; span = span_of low high }); faults = []; spelling = spelling; line_break = false }
 
 abbrev always : SyntaxError → ℕ → ℕ → Fault
-always kind low high = record { blame = Always; error = record { kind = plain kind; span = span_of low high } }
+always kind low high = record { blame = Always; error = record { kind = plain_kind kind; span = span_of low high } }
 
 -- `/b/g`
 flagged : regular_expression (codes "/b/g") ≡ read (Regex (borrowed_atom (codes "b")) (borrowed_atom (codes "g"))) [] (codes "/b/g")
@@ -44,7 +44,7 @@ unfolding encode is_ident_start is_ident_part is_line_terminator
 escaped_flag = refl
 
 -- `/b` and a line feed
-unterminated : regular_expression (codes "/b\n") ≡ refused (plain UnterminatedRegExp) 0 2 (codes "/b")
+unterminated : regular_expression (codes "/b\n") ≡ refused (plain_kind UnterminatedRegExp) 0 2 (codes "/b")
 unfolding encode is_ident_start is_ident_part is_line_terminator
 unterminated = refl
 
@@ -59,7 +59,7 @@ unfolding encode is_ident_start is_ident_part is_line_terminator
 class_escape = refl
 
 -- a class that nothing closes: the line is refused
-open_class : regular_expression (codes "/[ab/\nc") ≡ refused (plain UnterminatedRegExp) 0 5 (codes "/[ab/")
+open_class : regular_expression (codes "/[ab/\nc") ≡ refused (plain_kind UnterminatedRegExp) 0 5 (codes "/[ab/")
 unfolding encode is_ident_start is_ident_part is_line_terminator
 open_class = refl
 
@@ -69,12 +69,12 @@ unfolding encode is_ident_start is_ident_part is_line_terminator
 quoted_slash = refl
 
 -- a backslash at the end
-quoted_end : regular_expression (codes "/a\\") ≡ refused (plain UnterminatedRegExp) 0 3 (codes "/a\\")
+quoted_end : regular_expression (codes "/a\\") ≡ refused (plain_kind UnterminatedRegExp) 0 3 (codes "/a\\")
 unfolding encode is_ident_start is_ident_part is_line_terminator
 quoted_end = refl
 
 -- U+2028 behind a backslash
-quoted_line : regular_expression (codes "/a\\" ++ (0x2028 ∷ codes "/")) ≡ refused (plain UnterminatedRegExp) 0 3 (codes "/a\\")
+quoted_line : regular_expression (codes "/a\\" ++ (0x2028 ∷ codes "/")) ≡ refused (plain_kind UnterminatedRegExp) 0 3 (codes "/a\\")
 unfolding encode is_ident_start is_ident_part is_line_terminator
 quoted_line = refl
 
@@ -104,7 +104,7 @@ unfolding encode is_ident_start is_ident_part is_line_terminator
 refused_flag = refl
 
 -- a backslash without `u` in the flags
-no_letter : regular_expression (codes "/a/g\\x") ≡ refused (plain ExpectedUnicodeEscape) 4 4 (codes "/a/g\\")
+no_letter : regular_expression (codes "/a/g\\x") ≡ refused (plain_kind ExpectedUnicodeEscape) 4 4 (codes "/a/g\\")
 unfolding encode is_ident_start is_ident_part is_line_terminator
 no_letter = refl
 

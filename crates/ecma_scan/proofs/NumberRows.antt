@@ -6,7 +6,7 @@ use Rattle.ecma_place.specs.Text.{Text}
 use Rattle.ecma_place.specs.Atom.{borrowed_atom, owned_atom}
 use Rattle.ecma_place.specs.Character.{is_ident_start}
 use Rattle.ecma_syntax.specs.declared.settings.NumberRule.TheVariants.{Crate, Standard}
-use Rattle.ecma_token.specs.View.{TokenView, plain, plain_token}
+use Rattle.ecma_token.specs.View.{TokenView, plain_kind, plain_token}
 use Rattle.ecma_token.specs.declared.error.SyntaxError.{SyntaxError, ExpectedDigit, IdentAfterNum, LegacyDecimal, LegacyOctal, NumLitTerminatedWithExp, NumericSeparatorIsAllowedOnlyBetweenTwoDigits, TS1085}
 use Rattle.ecma_token.specs.declared.token.Radix.TheVariants.{Binary, Octal, Decimal, Hex}
 use Rattle.ecma_token.specs.declared.token.Token.{Token, Num, BigInt}
@@ -20,17 +20,17 @@ read token faults spelling = record { value = Ok (plain_token token); faults = f
 
 -- a number that is refused, and from where to where
 abbrev refused : SyntaxError → ℕ → ℕ → List Fault → Text → Scanned TokenView
-refused kind low high faults spelling = record { value = Err (record { kind = plain kind; span = span_of low high }); faults = faults; spelling = spelling; line_break = false }
+refused kind low high faults spelling = record { value = Err (record { kind = plain_kind kind; span = span_of low high }); faults = faults; spelling = spelling; line_break = false }
 
 abbrev always : SyntaxError → ℕ → ℕ → Fault
-always kind low high = record { blame = Always; error = record { kind = plain kind; span = span_of low high } }
+always kind low high = record { blame = Always; error = record { kind = plain_kind kind; span = span_of low high } }
 
 abbrev separator : ℕ → ℕ → Fault
 separator low high = always NumericSeparatorIsAllowedOnlyBetweenTwoDigits low high
 
 -- over the first n bytes, in strict code
 abbrev legacy : SyntaxError → ℕ → Fault
-legacy kind n = record { blame = Strict; error = record { kind = plain kind; span = span_of 0 n } }
+legacy kind n = record { blame = Strict; error = record { kind = plain_kind kind; span = span_of 0 n } }
 
 -- one decimal number over the whole text, without a whole value and without fault
 abbrev IsPlain : Text → Type 0

@@ -4,7 +4,7 @@ use Rattle.std.specs.Prelude.{codes}
 use Rattle.ecma_place.specs.Atom.{borrowed_atom, owned_atom}
 use lib.Utf8.{encode}
 use Rattle.ecma_place.specs.Character.{is_line_break, is_line_terminator}
-use Rattle.ecma_token.specs.View.{ErrorView, KindView, plain, bad_escape, plain_token}
+use Rattle.ecma_token.specs.View.{ErrorView, KindView, plain_kind, bad_escape, plain_token}
 use Rattle.ecma_token.specs.declared.error.SyntaxError.{LegacyOctal, UnterminatedStrLit, InvalidUnicodeEscape, InvalidStrEscape}
 use Rattle.ecma_token.specs.declared.token.Token.{Str}
 use Rattle.ecma_grammar.specs.declared.found.Blame.{Blame}
@@ -24,7 +24,7 @@ unfolding is_line_break is_line_terminator encode
 closed = refl
 
 -- `'\400'`: a space and `0`; the legacy octal counts in strict code
-octal : string_literal (codes "'\\400'") ≡ scanned_string (Ok (plain_token (Str (owned_atom (codes " 0")) (borrowed_atom (codes "'\\400'"))))) (fault Strict (plain LegacyOctal) 1 3 ∷ []) (codes "'\\400'")
+octal : string_literal (codes "'\\400'") ≡ scanned_string (Ok (plain_token (Str (owned_atom (codes " 0")) (borrowed_atom (codes "'\\400'"))))) (fault Strict (plain_kind LegacyOctal) 1 3 ∷ []) (codes "'\\400'")
 unfolding is_line_break is_line_terminator encode
 octal = refl
 
@@ -34,7 +34,7 @@ unfolding is_line_break is_line_terminator encode
 surrogate = refl
 
 -- `'\u{41'`: no closing brace
-open_brace : string_literal (codes "'\\u{41'") ≡ scanned_string (Err (error (plain InvalidUnicodeEscape) 1 6)) [] (codes "'\\u{41")
+open_brace : string_literal (codes "'\\u{41'") ≡ scanned_string (Err (error (plain_kind InvalidUnicodeEscape) 1 6)) [] (codes "'\\u{41")
 unfolding is_line_break is_line_terminator encode
 open_brace = refl
 
@@ -44,7 +44,7 @@ unfolding is_line_break is_line_terminator encode
 short_hex = refl
 
 -- a quote alone
-unclosed : string_literal (codes "'") ≡ scanned_string (Ok (plain_token (Str (borrowed_atom []) (borrowed_atom (codes "'"))))) (fault Always (plain UnterminatedStrLit) 0 1 ∷ []) (codes "'")
+unclosed : string_literal (codes "'") ≡ scanned_string (Ok (plain_token (Str (borrowed_atom []) (borrowed_atom (codes "'"))))) (fault Always (plain_kind UnterminatedStrLit) 0 1 ∷ []) (codes "'")
 unfolding is_line_break is_line_terminator encode
 unclosed = refl
 
@@ -54,12 +54,12 @@ unfolding is_line_break is_line_terminator encode
 continued = refl
 
 -- a quote and a backslash alone
-lone_backslash : string_literal (codes "'\\") ≡ scanned_string (Err (error (plain InvalidStrEscape) 1 1)) [] (codes "'\\")
+lone_backslash : string_literal (codes "'\\") ≡ scanned_string (Err (error (plain_kind InvalidStrEscape) 1 1)) [] (codes "'\\")
 unfolding is_line_break is_line_terminator encode
 lone_backslash = refl
 
 -- a line feed ends the string
-line_feed : string_literal (codes "'a\nb'") ≡ scanned_string (Ok (plain_token (Str (borrowed_atom (codes "a")) (borrowed_atom (codes "'a"))))) (fault Always (plain UnterminatedStrLit) 0 2 ∷ []) (codes "'a")
+line_feed : string_literal (codes "'a\nb'") ≡ scanned_string (Ok (plain_token (Str (borrowed_atom (codes "a")) (borrowed_atom (codes "'a"))))) (fault Always (plain_kind UnterminatedStrLit) 0 2 ∷ []) (codes "'a")
 unfolding is_line_break is_line_terminator encode
 line_feed = refl
 
@@ -69,7 +69,7 @@ unfolding is_line_break is_line_terminator encode
 line_separator = refl
 
 -- `'/ a`: a string without its quote reaches to the end
-to_the_end : string_literal (codes "'/ a") ≡ scanned_string (Ok (plain_token (Str (borrowed_atom (codes "/ a")) (borrowed_atom (codes "'/ a"))))) (fault Always (plain UnterminatedStrLit) 0 4 ∷ []) (codes "'/ a")
+to_the_end : string_literal (codes "'/ a") ≡ scanned_string (Ok (plain_token (Str (borrowed_atom (codes "/ a")) (borrowed_atom (codes "'/ a"))))) (fault Always (plain_kind UnterminatedStrLit) 0 4 ∷ []) (codes "'/ a")
 unfolding is_line_break is_line_terminator encode
 to_the_end = refl
 
@@ -79,6 +79,6 @@ unfolding is_line_break is_line_terminator encode
 other_quote = refl
 
 -- `'\1\x4'`: the fault before the refusal stays
-fault_and_refusal : string_literal (codes "'\\1\\x4'") ≡ scanned_string (Err (error (bad_escape (codes "2 hex characters")) 3 6)) (fault Strict (plain LegacyOctal) 1 3 ∷ []) (codes "'\\1\\x4")
+fault_and_refusal : string_literal (codes "'\\1\\x4'") ≡ scanned_string (Err (error (bad_escape (codes "2 hex characters")) 3 6)) (fault Strict (plain_kind LegacyOctal) 1 3 ∷ []) (codes "'\\1\\x4")
 unfolding is_line_break is_line_terminator encode
 fault_and_refusal = refl

@@ -5,7 +5,7 @@ use lib.Utf8.{encode}
 use Rattle.ecma_place.specs.Text.{Text}
 use Rattle.ecma_place.specs.Atom.{AtomView, borrowed_atom, owned_atom}
 use Rattle.ecma_place.specs.Character.{is_line_terminator}
-use Rattle.ecma_token.specs.View.{TokenView, KindView, plain, bad_escape, plain_token, refused_template}
+use Rattle.ecma_token.specs.View.{TokenView, KindView, plain_kind, bad_escape, plain_token, refused_template}
 use Rattle.ecma_token.specs.declared.error.SyntaxError.{LegacyOctal, UnterminatedTpl, InvalidUnicodeEscape}
 use Rattle.ecma_token.specs.declared.token.Token.{BackQuote, DollarLBrace, Template', Ok'}
 use Rattle.ecma_grammar.specs.Found.{FoundView, Scanned, scanned, span_of}
@@ -26,7 +26,7 @@ refused kind low high spelling line_break =
 -- text from the place n up to the end, in a template that was opened at the place `opened`
 abbrev unterminated : ℕ → ℕ → ℕ → Bool → FoundView TokenView
 unterminated opened n end line_break =
-    record { value = Err (record { kind = plain UnterminatedTpl; span = span_of opened end }); faults = []; extent = span_of n end; line_break = line_break }
+    record { value = Err (record { kind = plain_kind UnterminatedTpl; span = span_of opened end }); faults = []; extent = span_of n end; line_break = line_break }
 
 -- a back quote, `a${b}c`, a back quote: the text `a`, the `${`, the text `c`, the back quote
 
@@ -125,7 +125,7 @@ refused_before_line = refl
 
 -- escapes
 
-legacy : template_text false (codes "a\\12`") ≡ refused (plain LegacyOctal) 1 3 (codes "a\\12") false
+legacy : template_text false (codes "a\\12`") ≡ refused (plain_kind LegacyOctal) 1 3 (codes "a\\12") false
 unfolding is_line_terminator encode
 legacy = refl
 
@@ -138,7 +138,7 @@ unfolding is_line_terminator encode
 eight = refl
 
 -- the last refusal stays
-two_refusals : template_text false (codes "\\x\\u{41 `") ≡ refused (plain InvalidUnicodeEscape) 2 7 (codes "\\x\\u{41 ") false
+two_refusals : template_text false (codes "\\x\\u{41 `") ≡ refused (plain_kind InvalidUnicodeEscape) 2 7 (codes "\\x\\u{41 ") false
 unfolding is_line_terminator encode
 two_refusals = refl
 

@@ -15,7 +15,7 @@ use Rattle.ecma_syntax.specs.declared.known_ident.KnownIdent.TheVariants.{Type_}
 use Rattle.ecma_syntax.specs.declared.word.IdentLike.TheVariants.{Known, Other}
 use Rattle.ecma_syntax.specs.declared.word.Word.{Word}
 use Rattle.ecma_syntax.specs.declared.word.Word.TheVariants.{Keyword, Ident}
-use Rattle.ecma_token.specs.View.{ErrorView, KindView, plain, bad_escape}
+use Rattle.ecma_token.specs.View.{ErrorView, KindView, plain_kind, bad_escape}
 use Rattle.ecma_token.specs.declared.error.SyntaxError.{EscapeInReservedWord, ExpectedUnicodeEscape, InvalidIdentChar, InvalidUnicodeEscape}
 use Rattle.ecma_grammar.specs.declared.found.Blame.TheVariants.{Always}
 use Rattle.ecma_grammar.specs.Found.{Fault, Scanned, scanned, span_of}
@@ -27,7 +27,7 @@ abbrev error : KindView → ℕ → ℕ → ErrorView
 error kind low high = record { kind = kind; span = span_of low high }
 
 abbrev bad_character : ℕ → ℕ → Fault
-bad_character low high = record { blame = Always; error = error (plain InvalidIdentChar) low high }
+bad_character low high = record { blame = Always; error = error (plain_kind InvalidIdentChar) low high }
 
 -- no context flag is set, apart from `strict`
 abbrev under : Bool → Context
@@ -60,7 +60,7 @@ unfolding is_ident_start is_ident_part is_line_terminator encode keyword_of know
 braced = refl
 
 -- `\u0062reak`
-reserved : read (codes "\\u0062reak") ≡ refused (error (plain (EscapeInReservedWord (owned_atom (codes "break")))) 0 10) [] (codes "\\u0062reak")
+reserved : read (codes "\\u0062reak") ≡ refused (error (plain_kind (EscapeInReservedWord (owned_atom (codes "break")))) 0 10) [] (codes "\\u0062reak")
 unfolding is_ident_start is_ident_part is_line_terminator encode keyword_of known_of
 reserved = refl
 
@@ -69,7 +69,7 @@ escaped_let : read (codes "l\\u0065t") ≡ scanned (Keyword Let) (codes "l\\u006
 unfolding is_ident_start is_ident_part is_line_terminator encode keyword_of known_of
 escaped_let = refl
 
-strict_let : word (under true) (codes "l\\u0065t") ≡ refused (error (plain (EscapeInReservedWord (owned_atom (codes "let")))) 0 8) [] (codes "l\\u0065t")
+strict_let : word (under true) (codes "l\\u0065t") ≡ refused (error (plain_kind (EscapeInReservedWord (owned_atom (codes "let")))) 0 8) [] (codes "l\\u0065t")
 unfolding is_ident_start is_ident_part is_line_terminator encode keyword_of known_of
 strict_let = refl
 
@@ -79,11 +79,11 @@ unfolding is_ident_start is_ident_part is_line_terminator encode keyword_of know
 known = refl
 
 -- `\u0065num` and `nul\u006c`
-reserved_name : read (codes "\\u0065num") ≡ refused (error (plain (EscapeInReservedWord (owned_atom (codes "enum")))) 0 9) [] (codes "\\u0065num")
+reserved_name : read (codes "\\u0065num") ≡ refused (error (plain_kind (EscapeInReservedWord (owned_atom (codes "enum")))) 0 9) [] (codes "\\u0065num")
 unfolding is_ident_start is_ident_part is_line_terminator encode keyword_of known_of
 reserved_name = refl
 
-reserved_literal : read (codes "nul\\u006c") ≡ refused (error (plain (EscapeInReservedWord (owned_atom (codes "null")))) 0 9) [] (codes "nul\\u006c")
+reserved_literal : read (codes "nul\\u006c") ≡ refused (error (plain_kind (EscapeInReservedWord (owned_atom (codes "null")))) 0 9) [] (codes "nul\\u006c")
 unfolding is_ident_start is_ident_part is_line_terminator encode keyword_of known_of
 reserved_literal = refl
 
@@ -108,12 +108,12 @@ unfolding is_ident_start is_ident_part is_line_terminator encode keyword_of know
 surrogate = refl
 
 -- `a\x`: the text goes on at `x`
-no_letter : read (codes "a\\x") ≡ refused (error (plain ExpectedUnicodeEscape) 1 1) [] (codes "a\\")
+no_letter : read (codes "a\\x") ≡ refused (error (plain_kind ExpectedUnicodeEscape) 1 1) [] (codes "a\\")
 unfolding is_ident_start is_ident_part is_line_terminator encode keyword_of known_of
 no_letter = refl
 
 -- a backslash alone
-lone_backslash : read (codes "\\") ≡ refused (error (plain ExpectedUnicodeEscape) 0 0) [] (codes "\\")
+lone_backslash : read (codes "\\") ≡ refused (error (plain_kind ExpectedUnicodeEscape) 0 0) [] (codes "\\")
 unfolding is_ident_start is_ident_part is_line_terminator encode keyword_of known_of
 lone_backslash = refl
 
@@ -133,7 +133,7 @@ unfolding is_ident_start is_ident_part is_line_terminator encode keyword_of know
 out_of_range = refl
 
 -- `a\u{41 `: no closing brace
-open_brace : read (codes "a\\u{41 ") ≡ refused (error (plain InvalidUnicodeEscape) 4 6) [] (codes "a\\u{41")
+open_brace : read (codes "a\\u{41 ") ≡ refused (error (plain_kind InvalidUnicodeEscape) 4 6) [] (codes "a\\u{41")
 unfolding is_ident_start is_ident_part is_line_terminator encode keyword_of known_of
 open_brace = refl
 

@@ -188,14 +188,7 @@ pub fn steps_by(
     ensures { IfOk result (λ v. v.items ≡ text_steps_by (rule_of slashes.entry) settings.now context record { start = start.0; text = chars source.now; at = 0 }) }
 {
     let input = StringInput::new(source, start);
-    let mut lexer = Lexer::with_rule(
-        alloc,
-        settings.syntax,
-        settings.target,
-        input,
-        settings.comments,
-        settings.numbers,
-    );
+    let mut lexer = Lexer::with_settings(alloc, settings, input);
     lexer.set_ctx(context)?;
     let mut steps = Vec::new(alloc);
     steps.push(Step::SetCtx(context))?;

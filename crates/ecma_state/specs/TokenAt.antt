@@ -7,7 +7,7 @@ use Rattle.ecma_place.specs.declared.comment.Comment.{Comment}
 use Rattle.ecma_syntax.specs.declared.word.Word.{Word}
 use Rattle.ecma_token.specs.declared.token.Token as token
 use Rattle.ecma_token.specs.declared.error.SyntaxError.{UnexpectedChar}
-use Rattle.ecma_token.specs.View.{TokenView, ErrorView, plain, plain_token, error_token, owns_nothing}
+use Rattle.ecma_token.specs.View.{TokenView, ErrorView, plain_kind, plain_token, error_token, owns_nothing}
 use Rattle.ecma_grammar.specs.Bars as bars
 use Rattle.ecma_grammar.specs.Found.{FoundView, Scanned, error_at, found_at, token_behind}
 use Rattle.ecma_grammar.specs.Numbers as numbers
@@ -33,8 +33,8 @@ word_token mode text = as_token (words.word mode.context text)
 
 -- a character with which nothing begins: our own choice, as ECMA-262 has no token for it
 abbrev pub stray : Text → Scanned TokenView
-stray [] = record { value = Err (error_at (plain (UnexpectedChar 0)) 0); faults = []; spelling = []; line_break = false }
-stray (c ∷ cs) = record { value = Err (error_at (plain (UnexpectedChar c)) 0); faults = []; spelling = c ∷ []; line_break = false }
+stray [] = record { value = Err (error_at (plain_kind (UnexpectedChar 0)) 0); faults = []; spelling = []; line_break = false }
+stray (c ∷ cs) = record { value = Err (error_at (plain_kind (UnexpectedChar c)) 0); faults = []; spelling = c ∷ []; line_break = false }
 
 abbrev pub punctuator_or_stray : Option punctuators.Punctuator → Text → Scanned TokenView
 punctuator_or_stray (Some p) text = record { value = Ok (plain_token p.token); faults = []; spelling = p.spelling; line_break = false }

@@ -16,7 +16,7 @@ fn push_escaped_byte(out: &mut Vec<u8>, byte: u8) -> Result<(), AllocError>
     }
 }
 
-/// Adds the bytes so that they stand in one line: a backslash, a line feed and a carriage return are `\\`, `\n` and `\r`.
+/// Adds the bytes so that they take one line: a backslash, a line feed and a carriage return are `\\`, `\n` and `\r`.
 /// Our own.
 ///
 /// # Errors

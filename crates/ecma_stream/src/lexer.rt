@@ -83,6 +83,26 @@ impl<'a> Lexer<'a> {
         Lexer::with_rule(alloc, syntax, target, input, comments, NumberRule::Crate)
     }
 
+    /// A lexer of the rest of `input` by these settings, which takes no memory. Our own.
+    ///
+    /// The place of `input` is the lexer's start place.
+    pub fn with_settings(alloc: Global, settings: &Settings, input: StringInput<'a>) -> Lexer<'a>
+        ensures { lexer_state result ≡ state_of (start_of settings.now input.entry) }
+    {
+        let start = input.cur_pos();
+        Lexer {
+            alloc,
+            settings: *settings,
+            input,
+            context: Context::default(),
+            state: State::new(alloc, settings.syntax, start),
+            reread: None,
+            errors: ErrorLists::new(alloc),
+            comments: CommentsBuffer::new(alloc),
+            refused: false,
+        }
+    }
+
     /// A lexer of the rest of `input`, which reads numbers by this rule, and takes no memory.
     ///
     /// The place of `input` is the lexer's start place. `comments` says whether comments are collected.
@@ -96,23 +116,13 @@ impl<'a> Lexer<'a> {
     ) -> Lexer<'a>
         ensures { lexer_state result ≡ state_of (start_of record { syntax = syntax; target = target; comments = comments; numbers = rule } input.entry) }
     {
-        let start = input.cur_pos();
-        Lexer {
-            alloc,
-            settings: Settings {
-                syntax,
-                target,
-                comments,
-                numbers: rule,
-            },
-            input,
-            context: Context::default(),
-            state: State::new(alloc, syntax, start),
-            reread: None,
-            errors: ErrorLists::new(alloc),
-            comments: CommentsBuffer::new(alloc),
-            refused: false,
-        }
+        let settings = Settings {
+            syntax,
+            target,
+            comments,
+            numbers: rule,
+        };
+        Lexer::with_settings(alloc, &settings, input)
     }
 
     /// Whether a line terminator comes before the last token, or, where the last answer was the end, before that.

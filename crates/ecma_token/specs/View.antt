@@ -1,5 +1,5 @@
 -- Tokens and errors as callers see them: what owns memory is seen as what it holds.
-use Rattle.std.specs.Prelude.{◌≡◌, ℕ, Bool, true, false, not, ◌&&◌, List, map, string_bytes}
+use Rattle.std.specs.Prelude.{◌≡◌, ℕ, Bool, true, false, not, ◌&&◌, List, [], ◌∷◌, map, string_bytes}
 use Rattle.ecma_place.specs.Atom.{AtomView}
 use Rattle.ecma_place.specs.declared.place.Span.{Span}
 use Rattle.ecma_word.specs.Word.{word_owns_nothing}
@@ -11,7 +11,7 @@ use Rattle.ecma_token.specs.declared.error.Error.{Error}
 mutual
   -- what is wrong; a kind that owns nothing but atoms is seen as itself
   pub data KindView : Type 0 where
-    plain : SyntaxError → KindView
+    plain_kind : SyntaxError → KindView
     bad_escape : List ℕ → KindView
     unary : List ℕ → Span → KindView
     unexpected : List ℕ → List ℕ → KindView
@@ -33,7 +33,7 @@ abbrev mutual
   kind_view (UnexpectedTokenWithSuggestions all) = suggestions (map (λ x. x.now) all.items)
   kind_view (Expected' p token got) = expected (token_view token) (string_bytes got)
   kind_view (WithLabel' p q kind at span note) = with_label (kind_view kind) at span note.now
-  kind_view kind = plain kind
+  kind_view kind = plain_kind kind
 
   pub token_view : Token → TokenView
   token_view (Template' raw (Err' p kind span)) = refused_template raw (kind_view kind) span
@@ -44,6 +44,11 @@ abbrev mutual
 pub record ErrorView : Type 0 where
   pub kind : KindView
   pub span : Span
+
+-- the error of a token that is one
+abbrev pub refusal_of : TokenView → List ErrorView
+refusal_of (error_token kind span) = record { kind = kind; span = span } ∷ []
+refusal_of _ = []
 
 abbrev pub error_kind : Error → SyntaxError
 error_kind e = e.inner.value

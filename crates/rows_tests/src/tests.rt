@@ -1,6 +1,7 @@
-//! Rows of tokens and comments, and what calls answer.
+//! Rows of tokens, comments and errors, and what calls answer.
 
 mod canon;
 mod comments;
+mod errors;
 mod requests;
 mod tokens;

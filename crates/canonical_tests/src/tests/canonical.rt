@@ -1,13 +1,13 @@
 //! Canonical texts: those of a list of steps, and of the tokens that it keeps.
-use super::steps::Command::{Allow, Back, Leave, Module, Pop, Read, Reread, Save, Take, Withdraw};
 use super::steps::Steps::{self, Reads, These};
-use super::steps::steps_of;
+use super::steps::steps_over;
 use ecma_lexer::{Canon, Kept, Replay, Settings, Step, canonical, canonical_text, replay};
 use ecma_place::{BytePos, StringInput};
 use ecma_syntax::{EsVersion, NumberRule, Syntax};
 use std::alloc::{AllocError, Global};
 use std::process::Abort;
 use std::test::Fail;
+use step_tables::Command::{Allow, Back, Leave, Module, Pop, Read, Reread, Save, Take, Withdraw};
 
 /// Where a text starts, the text, what is done with it, and its canonical text.
 type Row = (u32, &'static str, Steps, &'static str);
@@ -166,7 +166,7 @@ fn canon_by(
     if !StringInput::fits(text, BytePos(start)) {
         return Err(AllocError);
     }
-    let steps = steps_of(alloc, steps, text.len())?;
+    let steps = steps_over(alloc, steps, text.len())?;
     canonical(alloc, &settings_by(numbers), text, BytePos(start), &steps)
 }
 
@@ -186,7 +186,7 @@ fn joined(alloc: Global, text: &str, start: BytePos, steps: &[Step]) -> Result<S
 
 /// The same for a row.
 fn joined_of(alloc: Global, start: u32, text: &str, steps: Steps) -> Result<String, AllocError> {
-    let steps = steps_of(alloc, steps, text.len())?;
+    let steps = steps_over(alloc, steps, text.len())?;
     joined(alloc, text, BytePos(start), &steps)
 }
 
@@ -243,7 +243,7 @@ fn write_kept(out: &mut String, kept: &[Kept]) -> Result<(), AllocError> {
 
 /// The listing of the tokens that are kept.
 fn listing_of(alloc: Global, text: &str, steps: Steps) -> Result<String, AllocError> {
-    let steps = steps_of(alloc, steps, text.len())?;
+    let steps = steps_over(alloc, steps, text.len())?;
     let found = played(alloc, text, &steps)?;
     let mut out = String::new(alloc);
     write_kept(&mut out, &found.kept)?;

@@ -90,7 +90,7 @@ fn write_given<'a>(
         Err(_) => "refused",
     };
     write_note(out, words)?;
-    write!(out, " {}", store.given.len())
+    write!(out, " {}", store.given.as_slice().len())
 }
 
 fn write_hand_overs<'a>(
@@ -115,7 +115,7 @@ fn write_stored<'a>(
     store: &mut Store<'a>,
 ) -> Result<(), AllocError> {
     write_given(out, lexer, store)?;
-    write_comments(out, &store.given)
+    write_comments(out, store.given.as_slice())
 }
 
 /// Reads to the end, and hands the comments over, once to a store and twice to another.

@@ -1,6 +1,6 @@
 //! Beginnings of texts: the text of each row, cut between any two characters, is read to its end.
 use super::listing::Row;
-use super::played::{assert_kept, most_reads, played, push_reads};
+use super::played::{assert_kept, played};
 use super::{
     attached, code, copies, errors, gaps, numbers, reader_texts, strings, templates, words,
 };
@@ -10,6 +10,7 @@ use ecma_syntax::{Context, EsSyntax, EsVersion, NumberRule, Syntax, TsSyntax};
 use std::alloc::{AllocError, Global};
 use std::process::Abort;
 use std::test::Fail;
+use step_tables::{most_reads, push_reads};
 
 /// Texts of other tables.
 const MORE_TEXTS: &[&str] = &[

@@ -1,9 +1,9 @@
 //! Buffers of comments.
-ghost use Rattle.std.specs.Prelude.{◌≡◌, ◌++◌, ◌∷◌, [], map, OnOk, OnErr, IfErr};
+ghost use Rattle.std.specs.Prelude.{map};
 ghost use Rattle.ecma_state.specs.HandOver.{added_of};
 
 use super::listing::{write_comment, write_comments, write_note};
-use ecma_lexer::{BufferedComment, BufferedCommentKind, CommentsBuffer};
+use ecma_lexer::{BufferedComment, BufferedCommentKind, CommentList, CommentsBuffer};
 use ecma_place::{Atom, BytePos, Comment, CommentKind, Comments, Span};
 use ecma_state::attachment::Around;
 use std::alloc::{AllocError, Global};
@@ -214,49 +214,38 @@ fn comments_of_a_read_find_their_tokens(rt: HostRuntime) -> Result<(), Fail> {
 /// A store in memory, which is full at `room` comments.
 #[derive(Drop)]
 pub(super) struct Store<'a> {
-    pub(super) given: Vec<BufferedComment<'a>>,
+    pub(super) given: CommentList<'a>,
     pub(super) room: usize,
 }
 
 impl<'a> Store<'a> {
     pub(super) fn new(alloc: Global, room: usize) -> Store<'a> {
         Store {
-            given: Vec::new(alloc),
+            given: CommentList::new(alloc),
             room,
         }
     }
 
-    fn add(&mut self, buffered: BufferedComment<'a>) -> Result<(), Comment<'a>>
-        ensures ok { OnOk result (self.new.given.items ≡ self.old.given.items ++ buffered.entry ∷ []) }
-        ensures err { OnErr result (self.new.given.items ≡ self.old.given.items) }
-        ensures back { IfErr result (λ c. c ≡ buffered.entry.comment) }
-    {
-        if self.given.len() >= self.room {
-            return Err(buffered.comment);
-        }
-        self.given
-            .push(buffered)
-            .map_err(|failed| failed.value.comment)
+    fn is_full(&self) -> bool {
+        self.given.as_slice().len() >= self.room
     }
 }
 
 impl<'a> Comments<'a> for Store<'a> {
-    ghost added = { λ s. map added_of s.given.items };
+    ghost added = { λ s. map added_of s.given };
 
     fn add_leading(&mut self, pos: BytePos, comment: Comment<'a>) -> Result<(), Comment<'a>> {
-        self.add(BufferedComment {
-            kind: BufferedCommentKind::Leading,
-            pos,
-            comment,
-        })
+        if self.is_full() {
+            return Err(comment);
+        }
+        self.given.add_leading(pos, comment)
     }
 
     fn add_trailing(&mut self, pos: BytePos, comment: Comment<'a>) -> Result<(), Comment<'a>> {
-        self.add(BufferedComment {
-            kind: BufferedCommentKind::Trailing,
-            pos,
-            comment,
-        })
+        if self.is_full() {
+            return Err(comment);
+        }
+        self.given.add_trailing(pos, comment)
     }
 }
 
@@ -276,7 +265,7 @@ fn write_handed(
 ) -> Result<(), AllocError> {
     let handed = buffer.hand_over(store);
     write_note(out, if handed.is_ok() { "handed" } else { "refused" })?;
-    write_comments(out, &store.given)
+    write_comments(out, store.given.as_slice())
 }
 
 /// Writes what the buffer has, and leaves nothing in it.

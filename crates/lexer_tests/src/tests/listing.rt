@@ -355,7 +355,7 @@ fn write_handed(alloc: Global, out: &mut String, lexer: &mut Lexer) -> Result<()
     if !hand_twice(lexer, &mut store)? {
         write_note(out, "not at the end")?;
     }
-    write_comments(out, &store.given)
+    write_comments(out, store.given.as_slice())
 }
 
 /// Writes the contexts, the innermost first, and takes them off.

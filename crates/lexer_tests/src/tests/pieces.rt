@@ -1,11 +1,11 @@
 //! Pieces that cover a text: of its tokens, its comments and what is left.
-use super::played::{most_reads, push_reads};
 use ecma_lexer::{Class, Piece, Settings, Step, classes_of_steps};
 use ecma_place::{BytePos, StringInput};
 use ecma_syntax::{EsVersion, NumberRule, Syntax};
 use std::alloc::{AllocError, Global};
 use std::process::Abort;
 use std::test::Fail;
+use step_tables::{most_reads, push_reads};
 
 /// A text and its pieces: where each begins and ends, and what it is.
 type Row = (&'static str, &'static str);

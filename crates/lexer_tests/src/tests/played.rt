@@ -7,6 +7,7 @@ use ecma_place::{BytePos, StringInput};
 use std::alloc::{AllocError, Global};
 use std::process::Abort;
 use std::test::Fail;
+use step_tables::{most_reads, push_reads};
 
 /// What the steps over a text come to, which starts at a place.
 pub(super) fn played<'a>(
@@ -20,18 +21,6 @@ pub(super) fn played<'a>(
         return Err(AllocError);
     }
     replay(alloc, settings, text, start, steps)
-}
-
-/// As many reads as a text of so many bytes takes at most, until the end is answered.
-pub(super) fn most_reads(bytes: usize) -> usize {
-    bytes.saturating_mul(2).saturating_add(2)
-}
-
-pub(super) fn push_reads(steps: &mut Vec<Step>, reads: usize) -> Result<(), AllocError> {
-    for _ in 0..reads {
-        steps.push(Step::Read)?;
-    }
-    Ok(())
 }
 
 fn push_pops(steps: &mut Vec<Step>, pops: usize) -> Result<(), AllocError> {

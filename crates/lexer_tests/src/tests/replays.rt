@@ -1,31 +1,16 @@
 //! Steps that are replayed: what each answers, and what they come to.
 use super::listing::{write_comments, write_errors, write_note, write_token};
 use super::played::played;
-use ecma_lexer::{Answer, Kept, Replay, Settings, Step, TokenContexts};
+use ecma_lexer::{Answer, Kept, Replay, Settings, Step};
 use ecma_place::BytePos;
-use ecma_syntax::{Context, EsVersion, NumberRule, Syntax};
+use ecma_syntax::{EsVersion, NumberRule, Syntax};
 use std::alloc::{AllocError, Global};
 use std::process::Abort;
 use std::test::Fail;
-
-/// A step, as a table can hold it.
-#[derive(Clone, Copy)]
-enum Command {
-    Read,
-    /// Sets the flags of a module.
-    Module,
-    Allow(bool),
-    /// Leaves all contexts.
-    Leave,
-    Pop,
-    Reread,
-    Withdraw,
-    Save,
-    Back(usize),
-    Take,
-}
-
-use Command::{Allow, Back, Leave, Module, Pop, Read, Reread, Save, Take, Withdraw};
+use step_tables::Command::{
+    self, Allow, Back, Leave, Module, Pop, Read, Reread, Save, Take, Withdraw,
+};
+use step_tables::steps_of;
 
 /// A text, the steps that are taken over it, and what they answer and come to.
 type Row = (&'static str, &'static [Command], &'static str);
@@ -119,28 +104,6 @@ const ROWS_OF_ERRORS: &[Row] = &[
     ),
 ];
 
-fn module() -> Context {
-    Context {
-        module: true,
-        ..Context::default()
-    }
-}
-
-fn step_of(alloc: Global, command: Command) -> Step {
-    match command {
-        Read => Step::Read,
-        Module => Step::SetCtx(module()),
-        Allow(allowed) => Step::SetExprAllowed(allowed),
-        Leave => Step::SetContexts(TokenContexts::new(alloc)),
-        Pop => Step::PopContext,
-        Reread => Step::Reread,
-        Withdraw => Step::Withdraw,
-        Save => Step::Save,
-        Back(n) => Step::Back(n),
-        Take => Step::TakeErrors,
-    }
-}
-
 fn write_answer(out: &mut String, answer: &Answer) -> Result<(), AllocError> {
     match answer {
         Answer::Token(token) => {
@@ -184,23 +147,6 @@ fn write_replay(out: &mut String, found: &Replay) -> Result<(), AllocError> {
         write_note(out, "ended")?;
     }
     Ok(())
-}
-
-fn push_commands(
-    alloc: Global,
-    steps: &mut Vec<Step>,
-    commands: &[Command],
-) -> Result<(), AllocError> {
-    for command in commands {
-        steps.push(step_of(alloc, *command))?;
-    }
-    Ok(())
-}
-
-fn steps_of(alloc: Global, commands: &[Command]) -> Result<Vec<Step>, AllocError> {
-    let mut steps = Vec::new(alloc);
-    push_commands(alloc, &mut steps, commands)?;
-    Ok(steps)
 }
 
 /// What the steps answer and come to, with comments collected.

@@ -1,5 +1,5 @@
 //! Canonical texts, and what is answered where there is none.
-use ecma_rows::{Answer, Status, tell_canonical};
+use ecma_rows::{Answer, Status, write_canonical};
 use std::alloc::{AllocError, Global};
 use std::test::Fail;
 
@@ -25,7 +25,7 @@ fn is_told(
     held: &[u8],
 ) -> Result<bool, AllocError> {
     let mut room = [b'.'; 4];
-    let told = tell_canonical(alloc, text, options, slashes, &mut room)?;
+    let told = write_canonical(alloc, text, options, slashes, &mut room)?;
     Ok(told == answer && room.as_slice() == held)
 }
 

@@ -1,5 +1,5 @@
 //! Rows of comments.
-use ecma_rows::{Answer, CommentRow, Status, tell_comments};
+use ecma_rows::{Answer, CommentRow, Status, write_comments};
 use std::alloc::{AllocError, Global};
 use std::test::Fail;
 
@@ -44,7 +44,7 @@ fn holds(room: &[CommentRow], rows: &[Row]) -> bool {
 
 fn is_told(alloc: Global, text: &str, rows: &[Row]) -> Result<bool, AllocError> {
     let mut room = [NONE; 3];
-    let told = tell_comments(alloc, text.as_bytes(), 0, &[], &mut room)?;
+    let told = write_comments(alloc, text.as_bytes(), 0, &[], &mut room)?;
     let answer = Answer {
         status: Status::Done,
         count: rows.len(),

@@ -1,5 +1,5 @@
 //! What is answered where nothing, or not all, can be told.
-use ecma_rows::{Answer, Status, TokenRow, count_tokens, tell_tokens};
+use ecma_rows::{Answer, Status, TokenRow, count_tokens, write_tokens};
 use std::alloc::{AllocError, Global};
 use std::test::Fail;
 
@@ -33,7 +33,7 @@ fn is_answered(
         flags: 7,
     };
     let mut room = [none; 4];
-    let told = tell_tokens(alloc, text, options, slashes, &mut room)?;
+    let told = write_tokens(alloc, text, options, slashes, &mut room)?;
     let counted = count_tokens(alloc, text, options, slashes)?;
     let is_kept = answer.count > 0 || room[0] == none;
     Ok(told == answer && counted == answer && is_kept)

@@ -1,6 +1,6 @@
 //! Rows of tokens. Kinds are those of the table of numbers: 6 `(`, 7 `)`, 12 `;`, 15 template text, 22 a string, 23 a regular
 //! expression, 24 a number, 14 a back quote, 31 an error, 78 `/`, 96 `=`, 146 `let`, 195 a name, 258 `async`.
-use ecma_rows::{Answer, Status, TokenRow, count_tokens, tell_tokens};
+use ecma_rows::{Answer, Status, TokenRow, count_tokens, write_tokens};
 use std::alloc::{AllocError, Global};
 use std::test::Fail;
 
@@ -81,7 +81,7 @@ fn is_told(
     rows: &[Row],
 ) -> Result<bool, AllocError> {
     let mut room = [NONE; 8];
-    let told = tell_tokens(alloc, text.as_bytes(), options, slashes, &mut room)?;
+    let told = write_tokens(alloc, text.as_bytes(), options, slashes, &mut room)?;
     let counted = count_tokens(alloc, text.as_bytes(), options, slashes)?;
     let answer = Answer {
         status: Status::Done,
@@ -104,7 +104,7 @@ fn texts_give_rows_of_tokens(rt: HostRuntime) -> Result<(), Fail> {
 /// Whether two rows of room hold these rows, where the text has so many.
 fn fills(alloc: Global, text: &str, count: usize, rows: &[Row]) -> Result<bool, AllocError> {
     let mut room = [NONE; 2];
-    let told = tell_tokens(alloc, text.as_bytes(), 0, &[], &mut room)?;
+    let told = write_tokens(alloc, text.as_bytes(), 0, &[], &mut room)?;
     let status = if count <= 2 {
         Status::Done
     } else {

@@ -4,5 +4,5 @@ use Rattle.ecma_rows.specs.Asked.{asked_view}
 use Rattle.ecma_rows.proofs.FewTokens.{few-tokens}
 use Rattle.ecma_rows.proofs.tokens.count_tokens.Goals as goal
 
-pub tell_all-requires-clause-short : goal.tell_all-requires-clause-short
-tell_all-requires-clause-short c = few-tokens false (asked_view c.in-Ok.asked) (lexer_state c.in_ok-lexer.lexer) c.in_ok-lexer.ensures c.in-Ok.ensures.is_text c.in-Ok.ensures.short
+pub tally_all-requires-clause-short : goal.tally_all-requires-clause-short
+tally_all-requires-clause-short c = few-tokens false (asked_view c.in-Ok.asked) (lexer_state c.in_ok-lexer.lexer) c.in_ok-lexer.ensures c.in-Ok.ensures.is_text c.in-Ok.ensures.short

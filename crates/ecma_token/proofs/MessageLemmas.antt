@@ -7,7 +7,7 @@ use Rattle.ecma_token.specs.Messages.{alternatives, fixed_text, made_text, messa
 use Rattle.ecma_token.specs.View.{kind_view, token_view}
 use Rattle.ecma_token.specs.declared.error.SyntaxError.{SyntaxError, LegacyDecimal, LegacyOctal, InvalidIdentChar, UnterminatedBlockComment, UnterminatedStrLit, ExpectedUnicodeEscape, UnterminatedRegExp, UnterminatedTpl, IdentAfterNum, InvalidStrEscape, InvalidUnicodeEscape, NumLitTerminatedWithExp, LegacyCommentInModule, NumericSeparatorIsAllowedOnlyBetweenTwoDigits, TS1085, TS1185, Fixed, ExpectedDigit, EscapeInReservedWord, UnexpectedChar, BadCharacterEscapeSequence, InvalidIdentInStrict, UnaryInExp, Unexpected, UnexpectedTokenWithSuggestions, ExpectedSemiForExprStmt, MultipleDefault, DuplicateLabel, JSXExpectedClosingTag, PrivateNameModifier, ExportExpectFrom, ImportBindingIsString, DuplicatedRegExpFlags, TS1029, TS1030, TS1089, TS1243, TS1273, TS1274, TS1277, TsNonNullAssertionNotAllowed, Expected', WithLabel'}
 use Rattle.ecma_token.specs.declared.token.Token.{Token, Word, Arrow, Hash, At, Dot, DotDotDot, Bang, LParen, RParen, LBracket, RBracket, LBrace, RBrace, Semi, Comma, BackQuote, Template', Colon, BinOp, AssignOp, DollarLBrace, QuestionMark, PlusPlus, MinusMinus, Tilde, Str, Regex, Num, BigInt, JSXName, JSXText, JSXTagStart, JSXTagEnd, Shebang, Error', Ok', Err'}
-use Rattle.ecma_lines.specs.MessageView.{view_message, view_text}
+use Rattle.ecma_token.specs.MessageView.{view_message, view_text}
 
 twice-or : (o : Option (List ℕ)) (other : List ℕ) → unwrap_or o other ≡ unwrap_or o (unwrap_or o other)
 twice-or None other = refl

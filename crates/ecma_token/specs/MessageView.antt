@@ -1,11 +1,11 @@
 -- The message of an error as it is seen.
 use Rattle.std.specs.Prelude.{ℕ, List, ◌++◌, codes}
 use Rattle.ecma_token.specs.Messages.{alternatives, message, token_text}
-use Rattle.ecma_token.specs.View.{KindView, plain, bad_escape, unary, unexpected, suggestions, expected, with_label, TokenView, plain_token, refused_template, error_token}
+use Rattle.ecma_token.specs.View.{KindView, plain_kind, bad_escape, unary, unexpected, suggestions, expected, with_label, TokenView, plain_token, refused_template, error_token}
 
 abbrev mutual
   pub view_message : KindView → List ℕ
-  view_message (plain kind) = message kind
+  view_message (plain_kind kind) = message kind
   view_message (bad_escape wanted) = codes "Bad character escape sequence, expected " ++ wanted
   view_message (unary left at) = codes "'**' cannot be applied to unary/await expression."
   view_message (unexpected got wanted) = codes "Unexpected token `" ++ (got ++ (codes "`. Expected " ++ wanted))

@@ -1,0 +1,17 @@
+-- So many tokens were told of, each of which left fewer that may come.
+use Rattle.std.proofs.Common.{◌≡◌, ◌+◌, ◌≤◌, [], None}
+use Rattle.ecma_state.specs.Session.{Session, lexer_state, state_of}
+use Rattle.ecma_stream.specs.Ending.{most_tokens}
+use Rattle.ecma_slashes.specs.Rereads.{rule_of}
+use Rattle.ecma_rows.proofs.Telling.{Going}
+use Rattle.ecma_rows.proofs.tally.tally_all.Given as goal
+
+abbrev pub invariant-tokens : goal.invariant-tokens
+invariant-tokens l =
+    ((s : Session) → state_of s ≡ lexer_state l.fn.lexer → s.past ≡ [] → Going (rule_of l.fn.slashes) s l.initial.out l.out l.tally)
+    × ((l.tally.lexer.reread ≡ None)
+    × ((l.tally.tokens + most_tokens (lexer_state l.tally.lexer) ≤ most_tokens (lexer_state l.fn.lexer))
+    × (l.tally.rereads + most_tokens (lexer_state l.tally.lexer) ≤ most_tokens (lexer_state l.fn.lexer))))
+
+abbrev pub decreases-tokens : goal.decreases-tokens
+decreases-tokens l = most_tokens (lexer_state l.tally.lexer)

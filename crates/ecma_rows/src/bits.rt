@@ -1,0 +1,36 @@
+//! What a number says of how a text is to be read.
+ghost use Rattle.std.specs.Prelude.{◌≡◌};
+ghost use Rattle.ecma_rows.specs.Asked as requests;
+
+use ecma_options::Options;
+
+const TYPESCRIPT: u32 = 1;
+
+const MODULE: u32 = 2;
+
+const STRICT: u32 = 4;
+
+const BY_FLAG: u32 = 8;
+
+/// The options of a sum of 1 for TypeScript, 2 for module code, 4 for strict mode code, and 8 for slashes by the lexer's own
+/// flag; nothing for any other number. Our own.
+pub fn options_of_bits(bits: u32) -> Option<Options>
+    ensures { result ≡ requests.options_of bits }
+{
+    if bits >= 2 * BY_FLAG {
+        return None;
+    }
+    Some(Options {
+        typescript: bits / TYPESCRIPT % 2 == 1,
+        module: bits / MODULE % 2 == 1,
+        strict: bits / STRICT % 2 == 1,
+        standard: false,
+    })
+}
+
+/// Whether the lexer's own flag says which slashes begin regular expressions.
+pub(crate) fn is_by_flag(bits: u32) -> bool
+    ensures { result ≡ requests.is_by_flag bits }
+{
+    bits / BY_FLAG % 2 == 1
+}

@@ -1,0 +1,175 @@
+//! Rows of errors, and their messages.
+ghost use Rattle.std.specs.Prelude.{◌≡◌, ◌∷◌, ◌++◌, [], List, false, map, IfOk, OnOk, OnErr};
+ghost use Rattle.std.specs.Cow.{cow_str_bytes};
+ghost use Rattle.ecma_token.specs.MessageView.{view_message};
+ghost use Rattle.ecma_token.specs.View.{error_view, kind_view};
+ghost use Rattle.ecma_state.specs.Session.{Session, lexer_state, state_of};
+ghost use Rattle.ecma_rows.specs.Asked.{judged, place_at};
+ghost use Rattle.ecma_rows.specs.ErrorRows as rows;
+ghost use Rattle.ecma_rows.specs.ErrorRows.{IsGathered, IsSaid, Sourced, TellsErrors, all_errors, sourced};
+ghost use Rattle.ecma_rows.specs.Rows.{token_errors};
+ghost use Rattle.ecma_rows.specs.Told.{Rows, told_by};
+
+use crate::outcome::Answer;
+use crate::request::{judge, places};
+use crate::room::write_all;
+use crate::tally::{Tally, tally_all};
+use ecma_options::begin;
+use ecma_place::{Span, Spanned};
+use ecma_token::{Error, SyntaxError};
+use std::alloc::{AllocError, Global};
+use std::borrow::CowStr;
+
+/// An error: where it lies, in bytes from the text's start; where it was found, 0 as a token, 1 where it was recorded, 2 where
+/// it waits until the code is known to be a module; and where its message begins and ends, in bytes of all messages, joined.
+/// Our own.
+#[repr(C)]
+#[derive(Clone, Copy, Debug, PartialEq, Eq)]
+pub struct ErrorRow {
+    pub lo: u32,
+    pub hi: u32,
+    pub source: u32,
+    pub message_lo: usize,
+    pub message_hi: usize,
+}
+
+/// Where an error was found.
+#[derive(Clone, Copy)]
+enum Source {
+    Token,
+    Recorded,
+    Waiting,
+}
+
+impl Source {
+    fn number(self) -> u32
+        ensures { result ≡ rows.source_number self }
+    {
+        match self {
+            Source::Token => 0,
+            Source::Recorded => 1,
+            Source::Waiting => 2,
+        }
+    }
+}
+
+/// What is wrong.
+#[tactic(auto, using(ecma_token::proofs::MessageLemmas::message_of_view))]
+fn message(alloc: Global, kind: &SyntaxError) -> Result<CowStr<'static>, AllocError>
+    ensures { IfOk result (λ text. cow_str_bytes text ≡ view_message (kind_view kind.now)) }
+{
+    kind.msg(alloc)
+}
+
+/// Rows of errors, and their messages, joined.
+#[derive(Drop)]
+struct Gathered {
+    rows: Vec<ErrorRow>,
+    messages: Vec<u8>,
+}
+
+impl Gathered {
+    /// Adds an error that lies there and has this message.
+    fn add(&mut self, source: Source, span: Span, message: &[u8]) -> Result<(), AllocError>
+        ensures { (es : List Sourced) (e : Sourced) → IsSaid e source span message.now → IsGathered es self.old → OnOk result (IsGathered (es ++ e ∷ []) self.new) }
+    {
+        let message_lo = self.messages.len();
+        self.messages.extend_from_slice(message)?;
+        let message_hi = self.messages.len();
+        self.rows.push(ErrorRow {
+            lo: span.lo.0,
+            hi: span.hi.0,
+            source: source.number(),
+            message_lo,
+            message_hi,
+        })?;
+        Ok(())
+    }
+
+    /// Adds an error.
+    fn push(&mut self, alloc: Global, source: Source, error: &Error) -> Result<(), AllocError>
+        ensures { (es : List Sourced) → IsGathered es self.old → OnOk result (IsGathered (es ++ record { source = source; error = error_view error.now } ∷ []) self.new) }
+    {
+        let message = message(alloc, error.kind())?;
+        self.add(source, error.span(), message.as_bytes())
+    }
+
+    /// Adds errors, in order.
+    fn push_all(
+        &mut self,
+        alloc: Global,
+        source: Source,
+        errors: &[Error],
+    ) -> Result<(), AllocError>
+        ensures { (es : List Sourced) → IsGathered es self.old → OnOk result (IsGathered (es ++ sourced source (map error_view errors.now)) self.new) }
+    {
+        for error in errors {
+            self.push(alloc, source, error)?;
+        }
+        Ok(())
+    }
+}
+
+impl Gathered {
+    /// Writes rows and messages, as many as fit, where each place that was named is that of a slash, or not.
+    fn write(self, is_met: bool, out: &mut [ErrorRow], messages: &mut [u8]) -> Answer
+        ensures { (es : List Sourced) → IsGathered es self → TellsErrors (Rows is_met es) out.old out.new messages.old messages.new result }
+    {
+        let fits = self.rows.len() <= out.len() && self.messages.len() <= messages.len();
+        write_all(&self.rows, out);
+        write_all(&self.messages, messages);
+        Answer::of_count(is_met, fits, self.rows.len())
+    }
+}
+
+/// Rows and messages of the errors of what was read: of the tokens that are one, and of those that the lexer has.
+fn gather(alloc: Global, tally: Tally) -> Result<Gathered, AllocError>
+    ensures { (s : Session) → map error_view tally.entry.errors.items ≡ token_errors s → lexer_state tally.entry.lexer ≡ state_of s → IfOk result (λ gathered. IsGathered (all_errors s) gathered) }
+{
+    let Tally {
+        lexer,
+        errors: refused,
+        ..
+    } = tally;
+    let (errors, _, _) = lexer.into_parts();
+    let mut gathered = Gathered {
+        rows: Vec::new(alloc),
+        messages: Vec::new(alloc),
+    };
+    gathered.push_all(alloc, Source::Token, &refused)?;
+    gathered.push_all(alloc, Source::Recorded, errors.recorded.as_slice())?;
+    gathered.push_all(alloc, Source::Waiting, errors.waiting.as_slice())?;
+    Ok(gathered)
+}
+
+/// Writes a row for each error of a text to `out`, as many as fit: of the tokens that are one, then of those that were
+/// recorded, then of those that wait until the code is known to be a module, each in order. Their messages, joined with
+/// nothing between them, are written to `messages`, as many bytes as fit. What is taken and answered is as of
+/// [`write_tokens`](crate::write_tokens), but that errors are counted, and that the answer is `NoRoom` also where the messages
+/// don't fit: all rows together, where they fit, say how many bytes there are.
+///
+/// # Errors
+///
+/// `AllocError` where there is no memory; the rooms are then as before.
+pub fn write_errors(
+    alloc: Global,
+    text: &[u8],
+    bits: u32,
+    slashes: &[u32],
+    out: &mut [ErrorRow],
+    messages: &mut [u8],
+) -> Result<Answer, AllocError>
+    ensures told { IfOk result (TellsErrors (told_by false all_errors (judged bits (map place_at slashes.now) text.now)) out.old out.new messages.old messages.new) }
+    ensures err { OnErr result ((out.new ≡ out.old) × (messages.new ≡ messages.old)) }
+{
+    let places = places(alloc, slashes)?;
+    let asked = match judge(text, bits, &places) {
+        Ok(asked) => asked,
+        Err(status) => return Ok(Answer::of_status(status)),
+    };
+    let lexer = begin(alloc, false, asked.options, asked.text)?;
+    let tally = tally_all(alloc, lexer, asked.slashes, &mut [])?;
+    let is_met = asked.is_met(tally.rereads);
+    let gathered = gather(alloc, tally)?;
+    Ok(gathered.write(is_met, out, messages))
+}
