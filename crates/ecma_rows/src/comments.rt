@@ -3,7 +3,7 @@ ghost use Rattle.std.specs.Prelude.{◌≡◌, map, true, IfOk, OnErr};
 ghost use Rattle.ecma_rows.specs.Asked.{judged, place_at};
 ghost use Rattle.ecma_rows.specs.Rows as rows;
 ghost use Rattle.ecma_rows.specs.Rows.{comment_rows};
-ghost use Rattle.ecma_rows.specs.Told.{IsTold, told_by, written};
+ghost use Rattle.ecma_rows.specs.Told.{IsTold, Rows, told_by, written};
 
 use crate::outcome::Answer;
 use crate::request::{judge, places};
@@ -78,6 +78,15 @@ fn write_rows(comments: &[BufferedComment], out: &mut [CommentRow])
     }
 }
 
+/// Writes rows of comments, as many as fit, where each place that was named is that of a slash, or not.
+fn write(comments: &[BufferedComment], is_met: bool, out: &mut [CommentRow]) -> Answer
+    ensures { IsTold (Rows is_met (map rows.comment_row comments.now)) out.old out.new result }
+{
+    let fits = comments.len() <= out.len();
+    write_rows(comments, out);
+    Answer::of_count(is_met, fits, comments.len())
+}
+
 /// Writes a row for each comment of a text to the room, as many as fit, in the order in which the lexer hands them over. What
 /// is taken and answered is as of [`write_tokens`](crate::write_tokens), but that comments are counted.
 ///
@@ -103,7 +112,5 @@ pub fn write_comments(
     let tally = tally_all(alloc, lexer, asked.slashes, &mut [])?;
     let is_met = asked.is_met(tally.rereads);
     let (_, comments, _) = tally.lexer.into_parts();
-    write_rows(&comments, out);
-    let fits = comments.len() <= out.len();
-    Ok(Answer::of_count(is_met, fits, comments.len()))
+    Ok(write(&comments, is_met, out))
 }
