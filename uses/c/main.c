@@ -93,15 +93,18 @@ int main(int argc, char **argv) {
     for (size_t i = 0; i < slashes_len; i++) {
         slashes[i] = (uint32_t)strtoul(argv[4 + i], NULL, 10);
     }
+    /* Nothing is given by null pointers, which the header takes. */
+    const uint8_t *bytes = len > 0 ? text : NULL;
+    const uint32_t *places = slashes_len > 0 ? slashes : NULL;
     struct ecma_answer told;
     if (strcmp(argv[1], "comments") == 0) {
-        told = tell_comments(text, len, options, slashes, slashes_len);
+        told = tell_comments(bytes, len, options, places, slashes_len);
     } else if (strcmp(argv[1], "errors") == 0) {
-        told = tell_errors(text, len, options, slashes, slashes_len);
+        told = tell_errors(bytes, len, options, places, slashes_len);
     } else if (strcmp(argv[1], "canonical") == 0) {
-        told = tell_canonical(text, len, options, slashes, slashes_len);
+        told = tell_canonical(bytes, len, options, places, slashes_len);
     } else {
-        told = tell_tokens(text, len, options, slashes, slashes_len);
+        told = tell_tokens(bytes, len, options, places, slashes_len);
     }
     printf("status %u count %zu\n", (unsigned)told.status, told.count);
     free(slashes);
