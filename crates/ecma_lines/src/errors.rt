@@ -1,11 +1,9 @@
 //! What is written of the errors of a text: a line each.
 ghost use Rattle.std.specs.Prelude.{◌≡◌, ◌++◌, ◌^◌, ◌<◌, Some, codes, flat_map, length, map, string_bytes, is_some, IfOk, MatchResult, OnOk};
-ghost use Rattle.std.specs.Cow.{cow_str_bytes};
-ghost use Rattle.ecma_token.specs.View.{error_view, kind_view, refusal_of, spanned_view, token_view};
+ghost use Rattle.ecma_token.specs.View.{error_view, refusal_of, spanned_view, token_view};
 ghost use Rattle.ecma_lexer.specs.Run.{reading_of, state_behind};
 ghost use Rattle.ecma_lexer.specs.Session.{lexer_state};
 ghost use Rattle.ecma_lines.specs.ErrorLines as rows;
-ghost use Rattle.ecma_token.specs.MessageView.{view_message};
 ghost use Rattle.ecma_lines.specs.Rereads.{Lacks};
 
 use crate::rereads::{ReadAgain, open};
@@ -13,9 +11,8 @@ use ecma_lexer::{Lexer, Tokens};
 use ecma_options::Options;
 use ecma_place::{Span, Spanned};
 use ecma_stdio::{Fault, push_escaped};
-use ecma_token::{Error, SyntaxError, Token, TokenAndSpan};
+use ecma_token::{Error, Token, TokenAndSpan};
 use std::alloc::{AllocError, Global};
-use std::borrow::CowStr;
 
 /// What kind of error it is and where it lies, each with a space behind it.
 fn head(alloc: Global, what: &str, span: Span) -> Result<String, AllocError>
@@ -26,20 +23,12 @@ fn head(alloc: Global, what: &str, span: Span) -> Result<String, AllocError>
     format!(in alloc; "{what} {lo} {hi} ")
 }
 
-/// What is wrong.
-#[tactic(auto, using(ecma_token::proofs::MessageLemmas::message_of_view))]
-fn message(alloc: Global, kind: &SyntaxError) -> Result<CowStr<'static>, AllocError>
-    ensures { IfOk result (λ text. cow_str_bytes text ≡ view_message (kind_view kind.now)) }
-{
-    kind.msg(alloc)
-}
-
 /// Adds the line of an error.
 fn push_error(alloc: Global, out: &mut Vec<u8>, what: &str, error: &Error) -> Result<(), AllocError>
     ensures { OnOk result (out.new.items ≡ out.old.items ++ rows.error_line what.now (error_view error.now)) }
 {
     let head = head(alloc, what, error.span())?;
-    let message = message(alloc, error.kind())?;
+    let message = error.kind().msg(alloc)?;
     out.extend_from_slice(head.as_bytes())?;
     push_escaped(out, message.as_bytes())?;
     out.push(b'\n')?;

@@ -1,8 +1,6 @@
 //! Rows of errors, and their messages.
 ghost use Rattle.std.specs.Prelude.{◌≡◌, ◌∷◌, ◌++◌, [], List, false, map, IfOk, OnOk, OnErr};
-ghost use Rattle.std.specs.Cow.{cow_str_bytes};
-ghost use Rattle.ecma_token.specs.MessageView.{view_message};
-ghost use Rattle.ecma_token.specs.View.{error_view, kind_view};
+ghost use Rattle.ecma_token.specs.View.{error_view};
 ghost use Rattle.ecma_state.specs.Session.{Session, lexer_state, state_of};
 ghost use Rattle.ecma_rows.specs.Asked.{judged, place_at};
 ghost use Rattle.ecma_rows.specs.ErrorRows as rows;
@@ -16,9 +14,8 @@ use crate::room::write_all;
 use crate::tally::{Tally, tally_all};
 use ecma_options::begin;
 use ecma_place::{Span, Spanned};
-use ecma_token::{Error, SyntaxError};
+use ecma_token::Error;
 use std::alloc::{AllocError, Global};
-use std::borrow::CowStr;
 
 /// An error: where it lies, in bytes from the text's start; where it was found, 0 as a token, 1 where it was recorded, 2 where
 /// it waits until the code is known to be a module; and where its message begins and ends, in bytes of all messages, joined.
@@ -53,14 +50,6 @@ impl Source {
     }
 }
 
-/// What is wrong.
-#[tactic(auto, using(ecma_token::proofs::MessageLemmas::message_of_view))]
-fn message(alloc: Global, kind: &SyntaxError) -> Result<CowStr<'static>, AllocError>
-    ensures { IfOk result (λ text. cow_str_bytes text ≡ view_message (kind_view kind.now)) }
-{
-    kind.msg(alloc)
-}
-
 /// Rows of errors, and their messages, joined.
 #[derive(Drop)]
 struct Gathered {
@@ -90,7 +79,7 @@ impl Gathered {
     fn push(&mut self, alloc: Global, source: Source, error: &Error) -> Result<(), AllocError>
         ensures { (es : List Sourced) → IsGathered es self.old → OnOk result (IsGathered (es ++ record { source = source; error = error_view error.now } ∷ []) self.new) }
     {
-        let message = message(alloc, error.kind())?;
+        let message = error.kind().msg(alloc)?;
         self.add(source, error.span(), message.as_bytes())
     }
 

@@ -5,7 +5,8 @@ ghost use Rattle.std.specs.Fmt.{WritesOnOk};
 ghost use Rattle.std.specs.List.{flat_map, join_by};
 ghost use Rattle.std.specs.Option.{option_copied};
 ghost use Rattle.ecma_token.specs.Messages.{alternatives, digit_text, fixed_text, message};
-ghost use Rattle.ecma_token.specs.View.{error_kind};
+ghost use Rattle.ecma_token.specs.MessageView.{view_message};
+ghost use Rattle.ecma_token.specs.View.{error_kind, kind_view};
 
 use crate::error::{Error, SyntaxError};
 use crate::quoted::Quoted;
@@ -32,8 +33,10 @@ impl Radix {
 impl<'a> SyntaxError<'a> {
     /// What is wrong, in words, as `Display` writes it. A message that holds nothing that the error holds is borrowed
     /// and takes no memory; any other is made, which can be refused.
+    #[tactic(auto, using(crate::proofs::MessageLemmas::message_of_view))]
     pub fn msg(&self, alloc: Global) -> Result<CowStr<'static>, AllocError>
         ensures text { IfOk result (λ text. cow_str_bytes text ≡ message self.now) }
+        ensures view { IfOk result (λ text. cow_str_bytes text ≡ view_message (kind_view self.now)) }
         ensures free { IsSome (fixed_text self.now) → IsOk result }
     {
         match self.fixed_msg() {
