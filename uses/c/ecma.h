@@ -116,60 +116,57 @@ struct ecma_answer ecma_canonical(const uint8_t *text, size_t text_len, uint32_t
 
 /* The library's functions take no null pointers; by the names of these they do, as pointers to nothing. */
 
+static const uint8_t ecma_no_text[1] = {0};
+static const uint32_t ecma_no_slash = 0;
+
+/* A pointer and its length; of a null pointer, one to nothing. */
+#define ECMA_OR_NOTHING(pointer, nothing) (pointer) ? (pointer) : (nothing), (pointer) ? pointer##_len : 0
+
 static inline struct ecma_answer ecma_count_or_nothing(const uint8_t *text, size_t text_len, uint32_t options,
                                                        const uint32_t *slashes, size_t slashes_len) {
-    const uint32_t no_slash = 0;
-    return ecma_count(text ? text : (const uint8_t *)"", text ? text_len : 0, options,
-                      slashes ? slashes : &no_slash, slashes ? slashes_len : 0);
+    return ecma_count(ECMA_OR_NOTHING(text, ecma_no_text), options, ECMA_OR_NOTHING(slashes, &ecma_no_slash));
 }
 #define ecma_count ecma_count_or_nothing
 
 static inline struct ecma_answer ecma_tokens_or_nothing(const uint8_t *text, size_t text_len, uint32_t options,
                                                         const uint32_t *slashes, size_t slashes_len,
                                                         struct ecma_token *out, size_t out_len) {
-    const uint32_t no_slash = 0;
     struct ecma_token no_out;
-    return ecma_tokens(text ? text : (const uint8_t *)"", text ? text_len : 0, options,
-                       slashes ? slashes : &no_slash, slashes ? slashes_len : 0,
-                       out ? out : &no_out, out ? out_len : 0);
+    return ecma_tokens(ECMA_OR_NOTHING(text, ecma_no_text), options, ECMA_OR_NOTHING(slashes, &ecma_no_slash),
+                       ECMA_OR_NOTHING(out, &no_out));
 }
 #define ecma_tokens ecma_tokens_or_nothing
 
 static inline struct ecma_answer ecma_comments_or_nothing(const uint8_t *text, size_t text_len, uint32_t options,
                                                           const uint32_t *slashes, size_t slashes_len,
                                                           struct ecma_comment *out, size_t out_len) {
-    const uint32_t no_slash = 0;
     struct ecma_comment no_out;
-    return ecma_comments(text ? text : (const uint8_t *)"", text ? text_len : 0, options,
-                         slashes ? slashes : &no_slash, slashes ? slashes_len : 0,
-                         out ? out : &no_out, out ? out_len : 0);
+    return ecma_comments(ECMA_OR_NOTHING(text, ecma_no_text), options, ECMA_OR_NOTHING(slashes, &ecma_no_slash),
+                         ECMA_OR_NOTHING(out, &no_out));
 }
 #define ecma_comments ecma_comments_or_nothing
 
 static inline struct ecma_answer ecma_errors_or_nothing(const uint8_t *text, size_t text_len, uint32_t options,
                                                         const uint32_t *slashes, size_t slashes_len,
-                                                        struct ecma_error *out, size_t out_len,
-                                                        uint8_t *messages, size_t messages_len) {
-    const uint32_t no_slash = 0;
+                                                        struct ecma_error *out, size_t out_len, uint8_t *messages,
+                                                        size_t messages_len) {
     struct ecma_error no_out;
     uint8_t no_messages;
-    return ecma_errors(text ? text : (const uint8_t *)"", text ? text_len : 0, options,
-                       slashes ? slashes : &no_slash, slashes ? slashes_len : 0,
-                       out ? out : &no_out, out ? out_len : 0,
-                       messages ? messages : &no_messages, messages ? messages_len : 0);
+    return ecma_errors(ECMA_OR_NOTHING(text, ecma_no_text), options, ECMA_OR_NOTHING(slashes, &ecma_no_slash),
+                       ECMA_OR_NOTHING(out, &no_out), ECMA_OR_NOTHING(messages, &no_messages));
 }
 #define ecma_errors ecma_errors_or_nothing
 
 static inline struct ecma_answer ecma_canonical_or_nothing(const uint8_t *text, size_t text_len, uint32_t options,
-                                                           const uint32_t *slashes, size_t slashes_len,
-                                                           uint8_t *out, size_t out_len) {
-    const uint32_t no_slash = 0;
+                                                           const uint32_t *slashes, size_t slashes_len, uint8_t *out,
+                                                           size_t out_len) {
     uint8_t no_out;
-    return ecma_canonical(text ? text : (const uint8_t *)"", text ? text_len : 0, options,
-                          slashes ? slashes : &no_slash, slashes ? slashes_len : 0,
-                          out ? out : &no_out, out ? out_len : 0);
+    return ecma_canonical(ECMA_OR_NOTHING(text, ecma_no_text), options, ECMA_OR_NOTHING(slashes, &ecma_no_slash),
+                          ECMA_OR_NOTHING(out, &no_out));
 }
 #define ecma_canonical ecma_canonical_or_nothing
+
+#undef ECMA_OR_NOTHING
 
 #ifdef __cplusplus
 }

@@ -17,55 +17,50 @@ use std::alloc::{AllocError, Global};
 
 const START: BytePos = BytePos(0);
 
-/// The row of a token behind one of that kind or none.
-fn token_row<'a>(report: &Report<'a>, token: Kept, previous: Option<TokenKind>) -> Row<'a> {
-    Row {
-        kind: match Class::of(token.kind, previous) {
-            Some(class) => class.name(),
-            None => "punctuator",
-        },
-        span: token.span,
-        more: More::LineBreak(token.flag),
-        text: report.at(token.span),
-    }
-}
-
 fn tell_tokens(report: &mut Report, kept: &[Kept]) -> Result<(), AllocError> {
     let mut previous = None;
     for token in kept {
-        let row = token_row(report, *token, previous);
-        report.push_row(row)?;
+        let text = report.at(token.span);
+        report.push_row(Row {
+            kind: match Class::of(token.kind, previous) {
+                Some(class) => class.name(),
+                None => "punctuator",
+            },
+            span: token.span,
+            more: More::LineBreak(token.flag),
+            text,
+        })?;
         previous = Some(token.kind);
     }
     Ok(())
 }
 
-fn tell_comment(report: &mut Report, buffered: &BufferedComment) -> Result<(), AllocError> {
-    report.push_row(Row {
-        kind: match buffered.comment.kind {
-            CommentKind::Line => "line",
-            CommentKind::Block => "block",
-        },
-        span: buffered.comment.span,
-        more: More::Beside {
-            side: match buffered.kind {
-                BufferedCommentKind::Leading => "leading",
-                BufferedCommentKind::Trailing => "trailing",
-            },
-            token: buffered.pos,
-        },
-        text: buffered.comment.text.as_str(),
-    })
-}
-
 fn tell_comments(report: &mut Report, comments: &[BufferedComment]) -> Result<(), AllocError> {
-    for comment in comments {
-        tell_comment(report, comment)?;
+    for buffered in comments {
+        report.push_row(Row {
+            kind: match buffered.comment.kind {
+                CommentKind::Line => "line",
+                CommentKind::Block => "block",
+            },
+            span: buffered.comment.span,
+            more: More::Beside {
+                side: match buffered.kind {
+                    BufferedCommentKind::Leading => "leading",
+                    BufferedCommentKind::Trailing => "trailing",
+                },
+                token: buffered.pos,
+            },
+            text: buffered.comment.text.as_str(),
+        })?;
     }
     Ok(())
 }
 
+/// Tells of an error in a row of its own, or as a fault of the file.
 fn tell_error(report: &mut Report, kind: &str, error: &Error) -> Result<(), AllocError> {
+    if report.asked.face != Face::Errors {
+        return report.push_fault(error.span(), error.kind());
+    }
     let message = error.kind().msg(report.alloc)?;
     report.push_row(Row {
         kind,
@@ -75,27 +70,19 @@ fn tell_error(report: &mut Report, kind: &str, error: &Error) -> Result<(), Allo
     })
 }
 
-/// Tells of an error in its own row, or as a fault of the file.
-fn tell_fault(report: &mut Report, kind: &str, error: &Error) -> Result<(), AllocError> {
-    if report.asked.face == Face::Errors {
-        report.is_faulty = true;
-        tell_error(report, kind, error)
-    } else {
-        report.push_fault(error.span(), error.kind())
-    }
-}
-
 /// Tells of the errors of tokens, and of those that were recorded.
 fn tell_faults(report: &mut Report, played: &Replay) -> Result<(), AllocError> {
     for answer in &played.answers {
         if let Answer::Token(found) = answer {
             if let Token::Error(error) = &found.token {
-                tell_fault(report, "token", error)?;
+                report.is_faulty = true;
+                tell_error(report, "token", error)?;
             }
         }
     }
     for error in played.errors.as_slice() {
-        tell_fault(report, "recorded", error)?;
+        report.is_faulty = true;
+        tell_error(report, "recorded", error)?;
     }
     Ok(())
 }
@@ -217,30 +204,21 @@ fn slashes_at(places: &[BytePos]) -> Slashes
     }
 }
 
-/// The places of the slashes that the steps read again, in order.
-fn places_met(
-    alloc: Global,
-    steps: &[Step],
-    answers: &[Answer],
-) -> Result<Vec<BytePos>, AllocError> {
-    let mut met = Vec::new(alloc);
-    let mut last = START;
-    for (step, answer) in steps.iter().zip(answers.iter()) {
-        if matches!(step, Step::Reread) {
-            met.push(last)?;
-        }
-        if let Answer::Token(found) = answer {
-            last = found.span.lo;
-        }
-    }
-    Ok(met)
-}
-
-/// Tells of the places that were named and are not among those that were met.
-fn tell_unmet(report: &mut Report, named: &[BytePos], met: &[BytePos]) -> Result<(), AllocError> {
+/// Tells of the places that were named and are not that of a token that begins with a slash.
+fn tell_unmet(report: &mut Report, named: &[BytePos], kept: &[Kept]) -> Result<(), AllocError> {
     for place in named {
-        if met.binary_search(place).is_err() {
-            report.push_no_slash(*place)?;
+        let begins = report.text.as_bytes().get(place.0 as usize) == Some(&b'/');
+        let is_token = match kept.binary_search_by_key(place, |token| token.span.lo) {
+            // A slash with which template text begins is part of that.
+            Ok(found) => kept[found].kind != TokenKind::Template,
+            Err(_) => false,
+        };
+        if !(begins && is_token) {
+            let name = report.name;
+            let place = place.0;
+            let line = format!(in report.alloc; "{name}: no slash is read at the place {place}\n")?;
+            report.faults.extend_from_slice(line.as_bytes())?;
+            report.is_faulty = true;
         }
     }
     Ok(())
@@ -263,8 +241,7 @@ pub fn tell<'a>(
     let steps = steps_by(alloc, &settings, context, text, START, slashes)?;
     let played = replay(alloc, &settings, text, START, &steps)?;
     if !places.is_empty() && count_rereads(&steps) != places.len() {
-        let met = places_met(alloc, &steps, &played.answers)?;
-        tell_unmet(&mut report, places, &met)?;
+        tell_unmet(&mut report, places, &played.kept)?;
     }
     tell_faults(&mut report, &played)?;
     tell_face(&mut report, &settings, text, &steps, &played)?;

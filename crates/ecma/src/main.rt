@@ -7,11 +7,12 @@ mod source;
 mod words;
 
 use crate::faces::tell;
-use crate::source::{Failure, read_file, read_from, text_in};
+use crate::report::Report;
+use crate::source::{STANDARD_INPUT, read, refusal};
 use crate::words::{Asked, command, slash_places};
 use clap::ArgMatches;
 use ecma_place::BytePos;
-use ecma_stdio::{arguments, exit_code, exit_without_words, send};
+use ecma_stdio::{Halt, arguments, exit_code, exit_without_words, send, text_of};
 use std::alloc::Global;
 use std::io::Write;
 use std::process::ExitCode;
@@ -23,76 +24,47 @@ const FAULTY: u8 = 1;
 const BAD_WORDS: u8 = 2;
 
 /// Tells why there is no text.
-fn refuse<E: Write>(alloc: Global, faults: &mut E, name: &str, failure: Failure) -> u8 {
-    let message = failure.message();
+fn refuse<E: Write>(alloc: Global, faults: &mut E, name: &str, halt: Halt) -> u8 {
+    let message = refusal(halt);
     match format!(in alloc; "{name}: {message}\n") {
         Ok(line) => send(faults, FAULTY, line.as_bytes()),
         Err(_) => FAULTY,
     }
 }
 
-/// Writes what is reported of a text, and its faults, and answers the status.
-fn tell_of<W: Write, E: Write>(
+/// What is reported of these bytes.
+fn report_of<'a>(
     alloc: Global,
     asked: Asked,
     places: &[BytePos],
-    name: &str,
-    bytes: &[u8],
-    writer: &mut W,
-    faults: &mut E,
-) -> u8 {
-    let text = match text_in(bytes) {
-        Ok(text) => text,
-        Err(failure) => return refuse(alloc, faults, name, failure),
-    };
-    match tell(alloc, asked, places, name, text) {
-        Ok(told) => {
-            let status = if told.is_faulty { FAULTY } else { 0 };
-            let sent = send(writer, status, told.out.as_slice());
-            sent.max(send(faults, status, told.faults.as_slice()))
-        }
-        Err(_) => refuse(alloc, faults, name, Failure::OutOfMemory),
-    }
+    name: &'a str,
+    bytes: &'a [u8],
+) -> Result<Report<'a>, Halt> {
+    let text = text_of(bytes)?;
+    Ok(tell(alloc, asked, places, name, text)?)
 }
 
-/// Tells of standard input.
-fn tell_input(rt: &HostRuntime, asked: Asked, places: &[BytePos]) -> u8 {
-    let alloc = rt.alloc();
-    match read_from(alloc, &mut rt.stdin()) {
-        Ok(bytes) => tell_of(
-            alloc,
-            asked,
-            places,
-            "-",
-            bytes.as_slice(),
-            &mut rt.stdout(),
-            &mut rt.stderr(),
-        ),
-        Err(failure) => refuse(alloc, &mut rt.stderr(), "-", failure),
-    }
-}
-
-/// Tells of a file.
+/// Writes what is reported of a file, and its faults, and answers the status.
 fn tell_file(rt: &HostRuntime, asked: Asked, places: &[BytePos], name: &str) -> u8 {
     let alloc = rt.alloc();
-    match read_file(rt, alloc, name) {
-        Ok(bytes) => tell_of(
-            alloc,
-            asked.for_file(name),
-            places,
-            name,
-            bytes.as_slice(),
-            &mut rt.stdout(),
-            &mut rt.stderr(),
-        ),
-        Err(failure) => refuse(alloc, &mut rt.stderr(), name, failure),
+    let bytes = match read(rt, name) {
+        Ok(bytes) => bytes,
+        Err(halt) => return refuse(alloc, &mut rt.stderr(), name, halt),
+    };
+    match report_of(alloc, asked.for_file(name), places, name, &bytes) {
+        Ok(report) => {
+            let status = if report.is_faulty { FAULTY } else { 0 };
+            let sent = send(&mut rt.stdout(), status, &report.out);
+            sent.max(send(&mut rt.stderr(), status, &report.faults))
+        }
+        Err(halt) => refuse(alloc, &mut rt.stderr(), name, halt),
     }
 }
 
 /// Tells of each file, or of standard input where there is none.
 fn tell_all(rt: &HostRuntime, asked: Asked, places: &[BytePos], files: &[&str]) -> u8 {
     if files.is_empty() {
-        return tell_input(rt, asked, places);
+        return tell_file(rt, asked, places, STANDARD_INPUT);
     }
     let mut status = 0;
     for file in files {
@@ -105,15 +77,7 @@ fn tell_all(rt: &HostRuntime, asked: Asked, places: &[BytePos], files: &[&str]) 
 fn run_subcommand(rt: &HostRuntime, subcommand: &str, matches: &ArgMatches) -> u8 {
     let files = matches.get_strs("files").unwrap_or(&[]);
     match slash_places(rt.alloc(), matches) {
-        Ok(Some(places)) => tell_all(rt, Asked::of(subcommand, matches), &places, files),
-        Ok(None) => {
-            send(
-                &mut rt.stderr(),
-                BAD_WORDS,
-                b"ecma: --slash takes a byte place\n",
-            )
-            .max(BAD_WORDS)
-        }
+        Ok(places) => tell_all(rt, Asked::of(subcommand, matches), &places, files),
         Err(_) => FAULTY,
     }
 }

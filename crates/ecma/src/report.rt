@@ -2,17 +2,11 @@
 
 use crate::words::Asked;
 use ecma_place::{BytePos, Span};
+use ecma_positions::{LineStarts, Position};
 use ecma_stdio::push_escaped;
 use ecma_token::SyntaxError;
 use serde_json::{Value, json};
 use std::alloc::{AllocError, Global};
-
-/// A line and a column, both from 1. A column counts bytes.
-#[derive(Clone, Copy, Debug, PartialEq, Eq)]
-pub struct Position {
-    pub line: usize,
-    pub column: u32,
-}
 
 /// What is reported of a part of a text besides what all rows have.
 #[derive(Clone, Copy, Debug, PartialEq, Eq)]
@@ -40,25 +34,11 @@ pub struct Report<'a> {
     pub asked: Asked,
     pub name: &'a str,
     pub text: &'a str,
-    /// Where lines begin, but the first.
-    starts: Vec<u32>,
+    lines: LineStarts,
     pub out: Vec<u8>,
     pub faults: Vec<u8>,
     /// Whether the text has an error.
     pub is_faulty: bool,
-}
-
-/// The places behind the line feeds of a text.
-fn line_starts(alloc: Global, text: &str) -> Result<Vec<u32>, AllocError> {
-    let mut starts = Vec::new(alloc);
-    let mut place: u32 = 0;
-    for byte in text.as_bytes() {
-        place = place.saturating_add(1);
-        if *byte == b'\n' {
-            starts.push(place)?;
-        }
-    }
-    Ok(starts)
 }
 
 impl<'a> Report<'a> {
@@ -73,27 +53,11 @@ impl<'a> Report<'a> {
             asked,
             name,
             text,
-            starts: line_starts(alloc, text)?,
+            lines: LineStarts::of(alloc, text.as_bytes())?,
             out: Vec::new(alloc),
             faults: Vec::new(alloc),
             is_faulty: false,
         })
-    }
-
-    /// The line and column of a place.
-    pub fn position(&self, place: BytePos) -> Position {
-        let before = self
-            .starts
-            .as_slice()
-            .partition_point(|start| *start <= place.0);
-        let start = match before.checked_sub(1) {
-            Some(last) => self.starts.get(last).copied().unwrap_or(0),
-            None => 0,
-        };
-        Position {
-            line: before.saturating_add(1),
-            column: place.0.saturating_sub(start).saturating_add(1),
-        }
     }
 
     /// The text at a span.
@@ -113,7 +77,7 @@ impl<'a> Report<'a> {
 
     /// A row as a JSON object.
     fn object(&self, row: Row) -> Result<Value, AllocError> {
-        let Position { line, column } = self.position(row.span.lo);
+        let Position { line, column } = self.lines.position(row.span.lo);
         let file = self.name;
         let kind = row.kind;
         let lo = row.span.lo.0;
@@ -143,7 +107,7 @@ impl<'a> Report<'a> {
         let lo = row.span.lo.0;
         let hi = row.span.hi.0;
         let place = if self.asked.lines {
-            let Position { line, column } = self.position(row.span.lo);
+            let Position { line, column } = self.lines.position(row.span.lo);
             format!(in self.alloc; " {line}:{column}")?
         } else {
             String::new(self.alloc)
@@ -173,19 +137,9 @@ impl<'a> Report<'a> {
         Ok(())
     }
 
-    /// Adds to the faults that no slash is read at this place, with the name of the file.
-    pub fn push_no_slash(&mut self, place: BytePos) -> Result<(), AllocError> {
-        let name = self.name;
-        let place = place.0;
-        let line = format!(in self.alloc; "{name}: no slash is read at the place {place}\n")?;
-        self.faults.extend_from_slice(line.as_bytes())?;
-        self.is_faulty = true;
-        Ok(())
-    }
-
     /// Adds an error to the faults, with the name of the file, its line and its column.
     pub fn push_fault(&mut self, span: Span, kind: &SyntaxError) -> Result<(), AllocError> {
-        let Position { line, column } = self.position(span.lo);
+        let Position { line, column } = self.lines.position(span.lo);
         let name = self.name;
         let message = kind.msg(self.alloc)?;
         let head = format!(in self.alloc; "{name}:{line}:{column}: ")?;

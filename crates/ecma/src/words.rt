@@ -1,6 +1,6 @@
 //! The words of the command line.
 
-use clap::{Arg, ArgAction, ArgMatches, Command};
+use clap::{Arg, ArgAction, ArgMatches, Command, value_parser};
 use ecma_options::Options;
 use ecma_place::BytePos;
 use std::alloc::{AllocError, Global};
@@ -122,10 +122,11 @@ fn subcommand<'a>(alloc: Global, face: Face) -> Result<Command<'a>, AllocError> 
     let files = Arg::new(alloc, "files")
         .value_name("FILE")
         .num_args(0..)
-        .help("The files; standard input where there is none");
+        .help("The files; standard input where there is none, and for -");
     let slash = Arg::new(alloc, "slash")
         .long("slash")
         .value_name("N")
+        .value_parser(value_parser!(u32))
         .action(ArgAction::Append)
         .help(
             "Read the slash at the byte place N as a regular expression, and no other; once for each",
@@ -162,39 +163,22 @@ pub fn command<'a>(alloc: Global) -> Result<Command<'a>, AllocError> {
     Ok(command)
 }
 
-/// The numbers of the words, or nothing where one is none.
-fn numbers(alloc: Global, words: &[&str]) -> Result<Option<Vec<u32>>, AllocError> {
-    let mut numbers = Vec::new(alloc);
-    for word in words {
-        match word.parse::<u32>() {
-            Ok(number) => numbers.push(number)?,
-            Err(_) => return Ok(None),
-        }
-    }
-    Ok(Some(numbers))
-}
-
-/// The places of the slashes that the words name, in order and each once, or nothing where one is no place.
+/// The places of the slashes that the words name, in order and each once.
 ///
 /// # Errors
 ///
 /// `AllocError` where there is no memory.
-pub fn slash_places(
-    alloc: Global,
-    matches: &ArgMatches,
-) -> Result<Option<Vec<BytePos>>, AllocError> {
-    let words = matches.get_strs("slash").unwrap_or(&[]);
-    let Some(mut numbers) = numbers(alloc, words)? else {
-        return Ok(None);
-    };
-    numbers.sort_unstable();
+pub fn slash_places(alloc: Global, matches: &ArgMatches) -> Result<Vec<BytePos>, AllocError> {
     let mut places = Vec::new(alloc);
-    let mut last = None;
-    for number in &numbers {
-        if last != Some(*number) {
-            places.push(BytePos(*number))?;
+    if let Some(named) = matches.get_many::<u32>("slash") {
+        for place in named {
+            // A word that is no number was refused when the words were parsed.
+            if let Ok(place) = place {
+                places.push(BytePos(place))?;
+            }
         }
-        last = Some(*number);
     }
-    Ok(Some(places))
+    places.sort_unstable();
+    places.dedup();
+    Ok(places)
 }

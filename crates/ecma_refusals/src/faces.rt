@@ -1,4 +1,4 @@
-//! Texts read with their slashes named, as HTML, and what they import.
+//! Texts read with their slashes named, as HTML, what they import, and where their lines begin.
 ghost use Rattle.std.specs.Prelude.{◌+◌, ◌<◌, ◌^◌, length};
 
 use crate::rows::{START, settings};
@@ -6,6 +6,7 @@ use ecma_html::html_text;
 use ecma_imports::imports_text;
 use ecma_lexer::{Slashes, Step, count_rereads, steps_by, steps_by_flag};
 use ecma_place::{BytePos, StringInput};
+use ecma_positions::LineStarts;
 use ecma_syntax::Context;
 use std::alloc::{AllocError, Global};
 use std::{io, str};
@@ -54,6 +55,18 @@ fn tell_shown(rt: &impl Print, alloc: Global, shown: Shown) -> io::Result<()> {
     }
 }
 
+fn tell_lines(rt: &impl Print, alloc: Global) -> io::Result<()> {
+    let bytes = b"a\nb";
+    let lines = match LineStarts::of(alloc, bytes) {
+        Ok(lines) => lines,
+        Err(_) => {
+            println!(rt; "refused LineStarts::of")?;
+            LineStarts::of(alloc, bytes)?
+        }
+    };
+    println!(rt; "LineStarts::of {:?}", lines.position(BytePos(2)))
+}
+
 fn flagged(alloc: Global) -> Result<Vec<Step>, AllocError> {
     steps_by_flag(alloc, &settings(), Context::default(), SHOWN, START)
 }
@@ -97,5 +110,6 @@ pub fn play(rt: &impl Print, alloc: Global) -> io::Result<()> {
         count_rereads(&steps)
     )?;
     tell_shown(rt, alloc, Shown::Html)?;
-    tell_shown(rt, alloc, Shown::Imports)
+    tell_shown(rt, alloc, Shown::Imports)?;
+    tell_lines(rt, alloc)
 }

@@ -1,5 +1,6 @@
-//! Rows of slashes by the flag, of HTML, and of what is imported.
+//! Rows of slashes by the flag, of HTML, of what is imported, and of lines and columns.
 
 mod markup;
+mod positions;
 mod slashes;
 mod specifiers;

@@ -1,0 +1,71 @@
+//! Where lines begin, and the lines and columns of places.
+ghost use Rattle.std.specs.Prelude.{◌≡◌, ◌≤◌, ℕ, List, nat_le, length, take, IfOk};
+ghost use Rattle.ecma_positions.specs.Positions.{line_starts, position_in};
+
+use ecma_place::BytePos;
+use std::alloc::{AllocError, Global};
+
+/// A line and a column, both from 1. A column counts bytes.
+#[derive(Clone, Copy, Debug, PartialEq, Eq)]
+pub struct Position {
+    pub line: usize,
+    pub column: usize,
+}
+
+/// Where the lines of a text begin, which starts at the place 0.
+#[derive(Debug, Drop)]
+pub struct LineStarts {
+    /// The places behind the line feeds of the text, in order.
+    pub starts: Vec<usize>,
+}
+
+impl LineStarts {
+    /// Where the lines of a text begin that has these bytes. Line feeds alone end a line, as most tools count. Our own.
+    ///
+    /// # Errors
+    ///
+    /// `AllocError` where there is no memory.
+    pub fn of(alloc: Global, bytes: &[u8]) -> Result<LineStarts, AllocError>
+        ensures { IfOk result (λ lines. lines.starts.items ≡ line_starts bytes.now) }
+    {
+        let mut starts = Vec::new(alloc);
+        let mut place = 0;
+        for byte in bytes {
+            place += 1;
+            if *byte == b'\n' {
+                starts.push(place)?;
+            }
+        }
+        Ok(LineStarts { starts })
+    }
+
+    /// How many lines begin behind the first one, at or before a place.
+    fn count_at(&self, place: usize) -> usize
+        ensures bound { result ≤ length self.now.starts.items }
+        ensures counted { (bytes : List ℕ) → self.now.starts.items ≡ line_starts bytes → result ≡ length (line_starts (take place bytes)) }
+    {
+        self.starts.as_slice().partition_point(
+            |start: &usize| -> bool
+                ensures { result ≡ nat_le start.now place }
+            { *start <= place },
+        )
+    }
+
+    /// The line and the column of a place of the text whose lines these are; a place behind its end counts as one of its
+    /// last line. Our own.
+    pub fn position(&self, place: BytePos) -> Position
+        ensures { (bytes : List ℕ) → self.now.starts.items ≡ line_starts bytes → result ≡ position_in bytes place }
+    {
+        let place = place.0 as usize;
+        let count = self.count_at(place);
+        let start = if count == 0 {
+            0
+        } else {
+            self.starts[count - 1]
+        };
+        Position {
+            line: count + 1,
+            column: place.saturating_sub(start) + 1,
+        }
+    }
+}
