@@ -1,11 +1,10 @@
 //! Texts read with their slashes named, as HTML, what they import, and where their lines begin.
-ghost use Rattle.std.specs.Prelude.{◌+◌, ◌<◌, ◌^◌, length};
 
 use crate::rows::{START, settings};
 use ecma_html::html_text;
 use ecma_imports::imports_text;
 use ecma_lexer::{Slashes, Step, count_rereads, steps_by, steps_by_flag};
-use ecma_place::{BytePos, StringInput};
+use ecma_place::BytePos;
 use ecma_positions::LineStarts;
 use ecma_syntax::Context;
 use std::alloc::{AllocError, Global};
