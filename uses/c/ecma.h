@@ -128,23 +128,24 @@ static inline struct ecma_answer ecma_count_or_nothing(const uint8_t *text, size
 }
 #define ecma_count ecma_count_or_nothing
 
-static inline struct ecma_answer ecma_tokens_or_nothing(const uint8_t *text, size_t text_len, uint32_t options,
-                                                        const uint32_t *slashes, size_t slashes_len,
-                                                        struct ecma_token *out, size_t out_len) {
-    struct ecma_token no_out;
-    return ecma_tokens(ECMA_OR_NOTHING(text, ecma_no_text), options, ECMA_OR_NOTHING(slashes, &ecma_no_slash),
-                       ECMA_OR_NOTHING(out, &no_out));
-}
+/* A call that has one room. */
+#define ECMA_ROOM_OR_NOTHING(call, row)                                                                                \
+    static inline struct ecma_answer call##_or_nothing(const uint8_t *text, size_t text_len, uint32_t options,         \
+                                                       const uint32_t *slashes, size_t slashes_len, row *out,          \
+                                                       size_t out_len) {                                               \
+        row no_out;                                                                                                    \
+        return call(ECMA_OR_NOTHING(text, ecma_no_text), options, ECMA_OR_NOTHING(slashes, &ecma_no_slash),            \
+                    ECMA_OR_NOTHING(out, &no_out));                                                                    \
+    }
+
+ECMA_ROOM_OR_NOTHING(ecma_tokens, struct ecma_token)
 #define ecma_tokens ecma_tokens_or_nothing
 
-static inline struct ecma_answer ecma_comments_or_nothing(const uint8_t *text, size_t text_len, uint32_t options,
-                                                          const uint32_t *slashes, size_t slashes_len,
-                                                          struct ecma_comment *out, size_t out_len) {
-    struct ecma_comment no_out;
-    return ecma_comments(ECMA_OR_NOTHING(text, ecma_no_text), options, ECMA_OR_NOTHING(slashes, &ecma_no_slash),
-                         ECMA_OR_NOTHING(out, &no_out));
-}
+ECMA_ROOM_OR_NOTHING(ecma_comments, struct ecma_comment)
 #define ecma_comments ecma_comments_or_nothing
+
+ECMA_ROOM_OR_NOTHING(ecma_canonical, uint8_t)
+#define ecma_canonical ecma_canonical_or_nothing
 
 static inline struct ecma_answer ecma_errors_or_nothing(const uint8_t *text, size_t text_len, uint32_t options,
                                                         const uint32_t *slashes, size_t slashes_len,
@@ -157,15 +158,7 @@ static inline struct ecma_answer ecma_errors_or_nothing(const uint8_t *text, siz
 }
 #define ecma_errors ecma_errors_or_nothing
 
-static inline struct ecma_answer ecma_canonical_or_nothing(const uint8_t *text, size_t text_len, uint32_t options,
-                                                           const uint32_t *slashes, size_t slashes_len, uint8_t *out,
-                                                           size_t out_len) {
-    uint8_t no_out;
-    return ecma_canonical(ECMA_OR_NOTHING(text, ecma_no_text), options, ECMA_OR_NOTHING(slashes, &ecma_no_slash),
-                          ECMA_OR_NOTHING(out, &no_out));
-}
-#define ecma_canonical ecma_canonical_or_nothing
-
+#undef ECMA_ROOM_OR_NOTHING
 #undef ECMA_OR_NOTHING
 
 #ifdef __cplusplus
