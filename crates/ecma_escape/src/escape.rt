@@ -5,7 +5,7 @@ ghost use Rattle.ecma_place.specs.Cursor.{rest, passed};
 ghost use Rattle.ecma_place.specs.Text.{Text};
 ghost use Rattle.ecma_grammar.specs.Fronts.{next_passes, after};
 ghost use Rattle.ecma_grammar.specs.Escapes as escapes;
-ghost use Rattle.std.specs.Prelude.{ℕ, ◌^◌, IfOk, OnErr, OnOk, IsOk, Ok, encode_utf8_all, [], ◌∷◌, ◌++◌, ◌+◌, map, option_map, string_bytes};
+ghost use Rattle.std.specs.Prelude.{ℕ, ◌^◌, IfOk, OnErr, OnOk, IsOk, Ok, encode_utf8_all, [], ◌++◌, ◌+◌, map, option_map, string_bytes};
 ghost use Rattle.ecma_place.specs.Cursor.{place};
 ghost use Rattle.ecma_token.specs.View.{kind_view, error_view};
 ghost use Rattle.ecma_grammar.specs.Found.{found_view, found_at, placeless, fault_view, fault_behind, error_behind, span_behind};

@@ -1,5 +1,5 @@
 //! Names: the text of a word, with its escapes.
-ghost use Rattle.std.specs.Prelude.{◌≡◌, ◌++◌, true, [], length, map, option_map, encode_utf8_all, string_bytes, Ok, IfOk, IsOk, OnOk};
+ghost use Rattle.std.specs.Prelude.{◌≡◌, ◌++◌, true, length, map, option_map, encode_utf8_all, string_bytes, Ok, IfOk, IsOk, OnOk};
 ghost use Rattle.std.specs.List.{prefix_len, take_while};
 ghost use Rattle.ecma_place.specs.Atom.{AtomView};
 ghost use Rattle.ecma_place.specs.Character.{is_ident_part, is_ident_start};
@@ -12,7 +12,6 @@ ghost use Rattle.ecma_grammar.specs.Escapes.{InWord, escape, escape_spelling, es
 ghost use Rattle.ecma_escape.specs.EscapeMeanings.{opens_escape};
 ghost use Rattle.ecma_escape.specs.PieceParts.{faults_from};
 ghost use Rattle.ecma_escape.specs.NameParts.{faults_in, is_named, named_faults, text_from, name_from, behind_pieces, cow_atom};
-ghost use Rattle.ecma_grammar.specs.Fronts.{next_passes};
 ghost use Rattle.ecma_grammar.specs.Words as words;
 
 use crate::escape::{Meaning, Use, at_escape, push_value, read_escape, refusal_error};

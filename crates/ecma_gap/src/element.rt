@@ -8,7 +8,7 @@ ghost use Rattle.ecma_grammar.specs.Bars.{common_element};
 ghost use Rattle.ecma_grammar.specs.Comments.{marker_margin};
 ghost use Rattle.ecma_grammar.specs.Found.{span_of};
 ghost use Rattle.ecma_grammar.specs.Fronts.{begins_with, line, next_is, next_passes};
-ghost use Rattle.ecma_grammar.specs.Gaps.{LineComment, HtmlOpening, HtmlClosing, Marker, block_of, comment_body, element, element_text, is_marker, marker, special_element};
+ghost use Rattle.ecma_grammar.specs.Gaps.{LineComment, HtmlOpening, HtmlClosing, Marker, block_of, comment_body, element, element_text, marker, special_element};
 ghost use Rattle.ecma_gap.specs.GapRecords.{gap_so_far, with_comment, with_element, with_next, next_text, AddsNothing, NextAddsNothing};
 
 use crate::comment::read_body;

@@ -1,5 +1,5 @@
 //! Gaps: what comes before a token.
-ghost use Rattle.std.specs.Prelude.{◌≡◌, [], false, length, map, is_some, if◌then◌else◌, IfOk, IsOk, OnErr, OnOk};
+ghost use Rattle.std.specs.Prelude.{◌≡◌, [], length, map, is_some, if◌then◌else◌, IfOk, IsOk, OnErr, OnOk};
 ghost use Rattle.ecma_place.specs.Cursor.{rest, place, passed};
 ghost use Rattle.ecma_grammar.specs.Comments.{comments_at};
 ghost use Rattle.ecma_grammar.specs.Found.{fault_view};

@@ -1,10 +1,7 @@
 //! Lines.
 ghost use Rattle.std.specs.Prelude.{◌≡◌, length, encode_utf8_all};
 ghost use Rattle.ecma_place.specs.Cursor.{rest, passed};
-ghost use Rattle.ecma_place.specs.Text.{count_within};
 ghost use Rattle.ecma_grammar.specs.Fronts as fronts;
-ghost use Rattle.std.specs.List.{prefix_len};
-ghost use Rattle.ecma_place.specs.Run.{is_in_class};
 
 use ecma_place::{ByteClass, CharExt, StringInput};
 

@@ -1,5 +1,5 @@
 -- Each number of a kind leads back to it.
-use Rattle.std.proofs.Common.{ℕ, ◌≡◌, List, [], ◌∷◌, Option, Some, None, refl, sym, ap, ◌∙◌}
+use Rattle.std.proofs.Common.{ℕ, ◌≡◌, List, [], ◌∷◌, Option, Some, refl, sym, ap, ◌∙◌}
 use Rattle.std.specs.Prelude.{find, nat_eq}
 use Rattle.ecma_word.specs.declared.keyword.Keyword.TheVariants as keyword
 use Rattle.ecma_word.specs.declared.known_ident.KnownIdent.TheVariants as knownident

@@ -1,8 +1,7 @@
 //! What is written of the comments of a text: a line each.
-ghost use Rattle.std.specs.Prelude.{◌≡◌, ◌++◌, None, Some, ◌^◌, ◌<◌, true, is_some, length, string_bytes, IfOk, MatchResult, OnOk};
+ghost use Rattle.std.specs.Prelude.{◌≡◌, ◌++◌, None, Some, ◌^◌, ◌<◌, true, length, string_bytes, IfOk, MatchResult, OnOk};
 ghost use Rattle.ecma_lexer.specs.Ending.{comments_of};
 ghost use Rattle.ecma_lexer.specs.HandOver.{has_comments};
-ghost use Rattle.ecma_lexer.specs.Run.{reading_of, state_behind};
 ghost use Rattle.ecma_lexer.specs.Session.{Session, lexer_state, state_of};
 ghost use Rattle.ecma_lines.specs.CommentLines as rows;
 ghost use Rattle.ecma_lines.specs.Rereads.{Lacks};

@@ -97,9 +97,7 @@ impl Gathered {
         }
         Ok(())
     }
-}
 
-impl Gathered {
     /// Writes rows and messages, as many as fit, where each place that was named is that of a slash, or not.
     fn write(self, is_met: bool, out: &mut [ErrorRow], messages: &mut [u8]) -> Answer
         ensures { (es : List Sourced) → IsGathered es self → TellsErrors (Rows is_met es) out.old out.new messages.old messages.new result }

@@ -1,6 +1,6 @@
 -- Lists of errors: how they are seen, and what becomes of them where faults are taken in.
 use Rattle.std.specs.Prelude.{OnOk, OnErr, Result, Ok, Err, is_err}
-use Rattle.std.proofs.Common.{◌≡◌, ◌∙◌, Bool, false, List, [], ◌∷◌, ◌++◌, length, map, take, refl, sym, ap}
+use Rattle.std.proofs.Common.{◌≡◌, ◌∙◌, Bool, false, List, [], ◌∷◌, ◌++◌, length, map, take, sym, ap}
 use Rattle.std.proofs.Math.Seq.{take-append_seam}
 use Rattle.std.proofs.lemmas.List.{append-nil, append_assoc, map-append}
 use Rattle.ecma_token.specs.View.{error_view}

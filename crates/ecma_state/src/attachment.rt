@@ -1,5 +1,5 @@
 //! Which token each comment of a read belongs to, and on which side of it the comment is: our own choice.
-ghost use Rattle.std.specs.Prelude.{◌≡◌, ◌++◌, ◌∷◌, [], IsOk, IfOk, OnOk};
+ghost use Rattle.std.specs.Prelude.{◌≡◌, ◌++◌, ◌∷◌, [], IsOk, OnOk};
 ghost use Rattle.ecma_state.specs.Attachment.{attachment, for_next, of_next, of_previous};
 
 use crate::comments_buffer::{BufferedComment, BufferedCommentKind, CommentsBuffer};

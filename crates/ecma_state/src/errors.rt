@@ -1,5 +1,5 @@
 //! What becomes of what is wrong.
-ghost use Rattle.std.specs.Prelude.{◌≡◌, ◌++◌, ◌≤◌, [], false, length, map, take, OnOk, OnErr, IfErr, IfOk, IsOk};
+ghost use Rattle.std.specs.Prelude.{◌≡◌, ◌++◌, [], false, map, take, OnOk, OnErr, IfErr, IfOk, IsOk};
 ghost use Rattle.ecma_token.specs.View.{error_view};
 ghost use Rattle.ecma_grammar.specs.Found.{fault_view};
 ghost use Rattle.ecma_state.specs.Disposition as dispose;

@@ -1,9 +1,8 @@
 //! What template text means (the standard's TV).
-ghost use Rattle.std.specs.Prelude.{◌≡◌, ◌++◌, OnOk, IfOk, IsOk, true, length, encode_utf8_all, string_bytes};
-ghost use Rattle.std.specs.List.{list_all};
-ghost use Rattle.ecma_place.specs.Cursor.{rest, passed};
+ghost use Rattle.std.specs.Prelude.{◌≡◌, ◌++◌, OnOk, IfOk, encode_utf8_all, string_bytes};
+ghost use Rattle.ecma_place.specs.Cursor.{rest};
 ghost use Rattle.ecma_place.specs.Text.{Text};
-ghost use Rattle.ecma_grammar.specs.Pieces.{pieces, spelled};
+ghost use Rattle.ecma_grammar.specs.Pieces.{pieces};
 ghost use Rattle.ecma_grammar.specs.Templates as templates;
 ghost use Rattle.ecma_literal.specs.WrittenTemplates.{piece_of};
 

@@ -1,5 +1,5 @@
 //! Runs of digits and separators.
-ghost use Rattle.std.specs.Prelude.{◌≡◌, ◌≤◌, length, encode_utf8_all};
+ghost use Rattle.std.specs.Prelude.{◌≡◌, ◌≤◌, length};
 ghost use Rattle.std.specs.List.{list_any};
 ghost use Rattle.ecma_place.specs.Cursor.{rest, passed};
 ghost use Rattle.ecma_grammar.specs.Numbers as numbers;

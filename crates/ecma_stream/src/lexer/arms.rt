@@ -1,6 +1,6 @@
 //! The arms of a read, which give what comes behind white space: words, punctuators of one character, and all else of which
 //! there is nothing else to report.
-ghost use Rattle.std.specs.Prelude.{◌≡◌, ◌<◌, ◌≤◌, true, false, None, Some, length, IfNone, IfOk, IfSome, IsOk, OnOk, OnErr, []};
+ghost use Rattle.std.specs.Prelude.{◌≡◌, ◌<◌, ◌≤◌, true, false, None, Some, length, IfNone, IfOk, IfSome, IsOk, OnOk, OnErr};
 ghost use Rattle.ecma_token.specs.View.{spanned_view};
 ghost use Rattle.ecma_place.specs.Cursor.{HasPlace, place, rest};
 ghost use Rattle.ecma_stream.specs.Plain.{back_at, Gives, IsAlone, IsBehindGap, IsKept, IsRefused, begins_word, plain_reading};
