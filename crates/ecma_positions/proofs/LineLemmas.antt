@@ -1,10 +1,11 @@
 -- The lines of a text, and of what stands before a place.
-use Rattle.std.proofs.Common.{◌≡◌, ◌∙◌, ◌+◌, ◌-◌, ◌<◌, ◌≤◌, ℕ, zero, suc, Bool, true, false, List, [], ◌∷◌, ◌++◌, length, take, drop, nat_le, nat_eq, refl, ap, sym, if◌then◌else◌, get_or, arith}
-use Rattle.std.specs.List.{prefix_len}
+use Rattle.std.proofs.Common.{◌≡◌, ◌∙◌, ◌+◌, ◌-◌, ◌<◌, ◌≤◌, ℕ, zero, suc, Bool, true, false, List, [], ◌∷◌, ◌++◌, length, take, drop, nat_le, nat_eq, refl, ap, sym, subst, if◌then◌else◌, get_or, not, count_by, arith}
+use Rattle.std.specs.List.{prefix_len, suffix_len}
 use Rattle.std.specs.List.Sorted.{IsNonDecreasingBy}
 use Rattle.std.proofs.lemmas.Bool.Decides.{nat_tests}
-use Rattle.std.proofs.lemmas.List.{get_or_append_left, length-take, take-append-drop, take_more}
-use Rattle.ecma_positions.specs.Positions.{last_start, line_starts, line_starts_behind, position_behind}
+use Rattle.std.proofs.lemmas.List.{append-nil, get_or_append_left, length-append, length-take, take-append-drop, take_all, take_more}
+use Rattle.std.proofs.lemmas.List.Sums.{count_by_more_no, count_by_more_yes, suffix_len-take_no, suffix_len-take_yes}
+use Rattle.ecma_positions.specs.Positions.{is_line_feed, last_line, line_starts, line_starts_behind, position_behind}
 use Rattle.ecma_positions.specs.declared.position.Position.{Position}
 
 -- Texts one behind the other
@@ -77,7 +78,18 @@ up-to before (suc k) (byte ∷ bytes) =
     up-to-fork (nat_eq byte 10) (before + suc k) (before + 1) (line_starts_behind (before + 1) bytes) (line_starts_behind (before + 1) (take k bytes)) (omega arith)
     (ap (λ n. prefix_len (λ s. nat_le s n) (line_starts_behind (before + 1) bytes)) (sym on) ∙ up-to (before + 1) k bytes)
 
--- the last of them
+-- The last of them
+
+abbrev pub last_start : List ℕ → ℕ
+last_start [] = 0
+last_start (start ∷ []) = start
+last_start (start ∷ next ∷ starts) = last_start (next ∷ starts)
+
+last-push : (xs : List ℕ) (x : ℕ) → last_start (xs ++ x ∷ []) ≡ x
+last-push [] x = refl
+last-push (y ∷ []) x = refl
+last-push (y ∷ z ∷ xs) x = last-push (z ∷ xs) x
+
 last-is : (xs : List ℕ) (d : ℕ) → 0 < length xs → get_or xs (length xs - 1) d ≡ last_start xs
 last-is [] d some = omega arith
 last-is (x ∷ []) d some = refl
@@ -98,9 +110,51 @@ pub last-none : (xs : List ℕ) → length xs ≡ 0 → last_start xs ≡ 0
 last-none [] none = refl
 last-none (x ∷ xs) none = omega (arith, none)
 
-abbrev pub made : ℕ → ℕ → Position
+-- As many as there are line feeds, and where the last line begins
+
+abbrev Tells : List ℕ → Type 0
+Tells bytes = (length (line_starts bytes) ≡ count_by is_line_feed bytes) × (last_start (line_starts bytes) ≤ length bytes) × (suffix_len (λ byte. not (is_line_feed byte)) bytes ≡ length bytes - last_start (line_starts bytes))
+
+next-tells : (bytes : List ℕ) (i d : ℕ) (b : Bool) → i < length bytes → is_line_feed (get_or bytes i d) ≡ b → Tells (take i bytes) → Tells (take (i + 1) bytes)
+next-tells bytes i d true inside e (counted, within, behind) =
+    let next = next-start bytes i d true inside e in
+    let last : last_start (line_starts (take (i + 1) bytes)) ≡ i + 1 = ap last_start next ∙ last-push (line_starts (take i bytes)) (i + 1) in
+    let long = length-take (i + 1) bytes in
+    let same : i + 1 - 1 ≡ i = omega arith in
+    let fails : not (is_line_feed (get_or bytes (i + 1 - 1) d)) ≡ false = ap (λ n. not (is_line_feed (get_or bytes n d))) same ∙ ap not e in
+    (
+      omega (arith, ap length next, length-append (line_starts (take i bytes)) ((i + 1) ∷ []), counted, count_by_more_yes is_line_feed bytes i d inside e),
+      omega (arith, last, long, inside),
+      omega (arith, suffix_len-take_no (λ byte. not (is_line_feed byte)) bytes (i + 1) d (omega arith) (omega arith) fails, last, long, inside),
+    )
+next-tells bytes i d false inside e (counted, within, behind) =
+    let next = next-start bytes i d false inside e ∙ append-nil (line_starts (take i bytes)) in
+    let last : last_start (line_starts (take (i + 1) bytes)) ≡ last_start (line_starts (take i bytes)) = ap last_start next in
+    let long = length-take (i + 1) bytes in
+    let short = length-take i bytes in
+    let same : i + 1 - 1 ≡ i = omega arith in
+    let passes : not (is_line_feed (get_or bytes (i + 1 - 1) d)) ≡ true = ap (λ n. not (is_line_feed (get_or bytes n d))) same ∙ ap not e in
+    let one = suffix_len-take_yes (λ byte. not (is_line_feed byte)) bytes (i + 1) d (omega arith) (omega arith) passes ∙ ap (λ n. 1 + suffix_len (λ byte. not (is_line_feed byte)) (take n bytes)) same in
+    (
+      ap length next ∙ counted ∙ sym (count_by_more_no is_line_feed bytes i d inside e),
+      omega (arith, last, long, short, within, inside),
+      omega (arith, one, behind, last, long, short, within, inside),
+    )
+
+first-tell : (bytes : List ℕ) (k : ℕ) → k ≤ length bytes → Tells (take k bytes)
+first-tell bytes zero le = (refl, omega arith, refl)
+first-tell bytes (suc k) le =
+    let on : k + 1 ≡ suc k = omega arith in
+    subst (λ n. Tells (take n bytes)) on (next-tells bytes k 0 (is_line_feed (get_or bytes k 0)) (omega arith) refl (first-tell bytes k (omega arith)))
+
+starts-tell : (bytes : List ℕ) → Tells bytes
+starts-tell bytes = subst Tells (take_all (length bytes) bytes (omega arith)) (first-tell bytes (length bytes) (omega arith))
+
+abbrev made : ℕ → ℕ → Position
 made count column = record { line = count + 1; column = column + 1 }
 
-pub position-is : (starts : List ℕ) (place count start column : ℕ) → count ≡ length starts → start ≡ last_start starts → column ≡ place - start → made count column ≡ position_behind starts place
-position-is starts place count start column counted begins reckoned =
-    ap (λ n. made n column) counted ∙ ap (made (length starts)) (reckoned ∙ ap (λ s. place - s) begins)
+pub position-is : (before : List ℕ) (place count start column : ℕ) → count ≡ length (line_starts before) → start ≡ last_start (line_starts before) → column ≡ place - start → record { line = count + 1; column = column + 1 } ≡ position_behind before place
+position-is before place count start column counted begins reckoned =
+    let told = starts-tell before in
+    let line : start ≡ last_line before = omega (arith, begins, told.1, told.2) in
+    ap (λ n. made n column) (counted ∙ told.0) ∙ ap (made (count_by is_line_feed before)) (reckoned ∙ ap (λ s. place - s) line)

@@ -6,11 +6,11 @@ use Rattle.ecma_positions.proofs.position.LineStarts.position.Goals.{then-count-
 
 pub returns : goal.returns
 returns c bytes shows =
-    let starts = line_starts (take c.args.place.0 bytes) in
+    let before = take c.args.place.0 bytes in
     let counted = c.count_at-count.ensures.counted bytes shows in
-    position-is starts c.args.place.0 c.count_at-count.result c.if-count-eq0.start c.saturating_sub.result counted
+    position-is before c.args.place.0 c.count_at-count.result c.if-count-eq0.start c.saturating_sub.result counted
     (elim c.if-count-eq0.branch [
-      | then-count-eq0 w ↦ w.start-is ∙ sym (last-none starts (sym counted ∙ w.if-count-eq0.true))
+      | then-count-eq0 w ↦ w.start-is ∙ sym (last-none (line_starts before) (sym counted ∙ w.if-count-eq0.true))
       | else-count-eq0 w ↦
           let d = w.index.result.now in
           w.start-is
