@@ -39,7 +39,7 @@ fn expression_of(alloc: Global, text: &str) -> Result<String, AllocError> {
     Ok(line)
 }
 
-const EXPRESSIONS: [(&str, &str); 7] = [
+const EXPRESSIONS: &[(&str, &str)] = &[
     ("/b/g", "0..4 Regex borrowed \"b\" borrowed \"g\""),
     ("/[/]/", "0..5 Regex borrowed \"[/]\" borrowed \"\""),
     ("/\\//", "0..4 Regex borrowed \"\\\\/\" borrowed \"\""),
@@ -63,7 +63,7 @@ fn reads_expressions(rt: HostRuntime) -> Result<(), Fail> {
     Ok(())
 }
 
-const REFUSED_EXPRESSIONS: [(&str, &str); 5] = [
+const REFUSED_EXPRESSIONS: &[(&str, &str)] = &[
     ("/a\n/", "0..2 UnterminatedRegExp 0..2"),
     ("/a", "0..2 UnterminatedRegExp 0..2"),
     ("/[/", "0..3 UnterminatedRegExp 0..3"),

@@ -87,7 +87,7 @@ fn reads_white_space_once(rt: HostRuntime) -> Result<(), Fail> {
 }
 
 /// Each with the place where the text starts.
-const HTML_LIKE: [(&str, u32, &str); 4] = [
+const HTML_LIKE: &[(&str, u32, &str)] = &[
     (
         "\n-->x\nb",
         1,
@@ -110,12 +110,12 @@ const HTML_LIKE: [(&str, u32, &str); 4] = [
 #[test]
 fn reads_html_like_comments(rt: HostRuntime) -> Result<(), Fail> {
     for (text, start, line) in HTML_LIKE {
-        check(&rt, text, gap_of(rt.alloc(), text, start, &BEHIND), line)?;
+        check(&rt, text, gap_of(rt.alloc(), text, *start, &BEHIND), line)?;
     }
     Ok(())
 }
 
-const COMMENTS: [(&str, u32, GapMode, &str); 5] = [
+const COMMENTS: &[(&str, u32, GapMode, &str)] = &[
     (
         "/*/",
         0,
@@ -138,13 +138,13 @@ const COMMENTS: [(&str, u32, GapMode, &str); 5] = [
 #[test]
 fn reads_comments(rt: HostRuntime) -> Result<(), Fail> {
     for (text, start, mode, line) in COMMENTS {
-        check(&rt, text, gap_of(rt.alloc(), text, start, &mode), line)?;
+        check(&rt, text, gap_of(rt.alloc(), text, *start, mode), line)?;
     }
     Ok(())
 }
 
 /// A comment's end stands as the last of 32 bytes behind its opening, and as the first of the next.
-const LONG_COMMENTS: [(&str, &str); 4] = [
+const LONG_COMMENTS: &[(&str, &str)] = &[
     (
         "//abcdefghijklmnopqrstuvwxyzabcde\u{2028}x",
         "0..36, line break, Line 0..33 borrowed \"abcdefghijklmnopqrstuvwxyzabcde\"",
@@ -171,7 +171,7 @@ fn ends_comments_at_every_byte(rt: HostRuntime) -> Result<(), Fail> {
     Ok(())
 }
 
-const MARKERS: [(&str, u32, GapMode, &str); 5] = [
+const MARKERS: &[(&str, u32, GapMode, &str)] = &[
     (
         "\n=======\nb",
         1,
@@ -198,12 +198,12 @@ const MARKERS: [(&str, u32, GapMode, &str); 5] = [
 #[test]
 fn reads_conflict_markers(rt: HostRuntime) -> Result<(), Fail> {
     for (text, start, mode, line) in MARKERS {
-        check(&rt, text, gap_of(rt.alloc(), text, start, &mode), line)?;
+        check(&rt, text, gap_of(rt.alloc(), text, *start, mode), line)?;
     }
     Ok(())
 }
 
-const KEPT_TEXTS: [(&str, GapMode, &str); 4] = [
+const KEPT_TEXTS: &[(&str, GapMode, &str)] = &[
     (" //x", KEPT, "0..0"),
     (
         "<!--x\n",
@@ -217,7 +217,7 @@ const KEPT_TEXTS: [(&str, GapMode, &str); 4] = [
 #[test]
 fn keeps_space(rt: HostRuntime) -> Result<(), Fail> {
     for (text, mode, line) in KEPT_TEXTS {
-        check(&rt, text, gap_of(rt.alloc(), text, 0, &mode), line)?;
+        check(&rt, text, gap_of(rt.alloc(), text, 0, mode), line)?;
     }
     Ok(())
 }
@@ -247,7 +247,7 @@ fn bars_of(alloc: Global, text: &str) -> Result<String, AllocError> {
     Ok(line)
 }
 
-const BARS: [(&str, &str); 5] = [
+const BARS: &[(&str, &str)] = &[
     (
         "||||||| base\ny",
         "1..14, line break, next Line 3..13 borrowed \" base\", Always TS1185 1..8, bars TS1185 1..8",

@@ -65,7 +65,7 @@ fn number_of(alloc: Global, text: &str, ts1085: bool) -> Result<String, AllocErr
     number_by(alloc, text, ts1085, NumberRule::Crate)
 }
 
-const DECIMALS: [(&str, &str); 15] = [
+const DECIMALS: &[(&str, &str)] = &[
     ("0", "0..1 Num Decimal borrowed 0 = 0"),
     ("7", "0..1 Num Decimal borrowed 7 = 7"),
     (
@@ -103,7 +103,7 @@ fn reads_decimals(rt: HostRuntime) -> Result<(), Fail> {
     Ok(())
 }
 
-const PREFIXES_AND_SEPARATORS: [(&str, &str); 9] = [
+const PREFIXES_AND_SEPARATORS: &[(&str, &str)] = &[
     ("0o73", "0..4 Num Octal borrowed 73 = 59"),
     ("0XfF", "0..4 Num Hex borrowed fF = 255"),
     ("1_000", "0..5 Num Decimal owned 1000 = 1000"),
@@ -133,7 +133,7 @@ fn reads_prefixes_and_separators(rt: HostRuntime) -> Result<(), Fail> {
 }
 
 /// Each with whether the fault of TypeScript is told.
-const LEGACY_NUMBERS: [(&str, bool, &str); 9] = [
+const LEGACY_NUMBERS: &[(&str, bool, &str)] = &[
     (
         "000",
         false,
@@ -184,12 +184,12 @@ const LEGACY_NUMBERS: [(&str, bool, &str); 9] = [
 #[test]
 fn reads_legacy_numbers(rt: HostRuntime) -> Result<(), Fail> {
     for (text, ts1085, line) in LEGACY_NUMBERS {
-        check(&rt, text, number_of(rt.alloc(), text, ts1085), line)?;
+        check(&rt, text, number_of(rt.alloc(), text, *ts1085), line)?;
     }
     Ok(())
 }
 
-const REFUSED_NUMBERS: [(&str, &str); 7] = [
+const REFUSED_NUMBERS: &[(&str, &str)] = &[
     ("3in", "0..1 IdentAfterNum 1..1"),
     ("1e5n", "0..3 IdentAfterNum 3..3"),
     ("00e1", "0..2 IdentAfterNum 2..2"),
@@ -219,7 +219,7 @@ fn two_numbers_of(alloc: Global, text: &str) -> Result<String, AllocError> {
     Ok(line)
 }
 
-const TWO_NUMBERS: [(&str, &str); 4] = [
+const TWO_NUMBERS: &[(&str, &str)] = &[
     (
         "0b12",
         "0..3 Num Binary borrowed 1 = 1; 3..4 Num Decimal borrowed 2 = 2",
@@ -245,7 +245,7 @@ fn ends_where_another_number_or_a_name_begins(rt: HostRuntime) -> Result<(), Fai
 }
 
 /// Each with the rule it is read by.
-const NUMBERS_BY_RULE: [(&str, NumberRule, &str); 16] = [
+const NUMBERS_BY_RULE: &[(&str, NumberRule, &str)] = &[
     ("0b12", NumberRule::Crate, "0..3 Num Binary borrowed 1 = 1"),
     ("0b12", NumberRule::Standard, "0..3 IdentAfterNum 3..3"),
     (
@@ -303,7 +303,7 @@ const NUMBERS_BY_RULE: [(&str, NumberRule, &str); 16] = [
 #[test]
 fn reads_numbers_by_either_rule(rt: HostRuntime) -> Result<(), Fail> {
     for (text, rule, line) in NUMBERS_BY_RULE {
-        check(&rt, text, number_by(rt.alloc(), text, false, rule), line)?;
+        check(&rt, text, number_by(rt.alloc(), text, false, *rule), line)?;
     }
     Ok(())
 }

@@ -42,7 +42,7 @@ fn check_puncts(
     Ok(())
 }
 
-const PUNCTUATORS: [(&str, &str); 20] = [
+const PUNCTUATORS: &[(&str, &str)] = &[
     ("{", "0..1 LBrace"),
     ("}", "2..3 RBrace"),
     ("(", "4..5 LParen"),
@@ -68,10 +68,10 @@ const PUNCTUATORS: [(&str, &str); 20] = [
 #[test]
 fn reads_every_punctuator(rt: HostRuntime) -> Result<(), Fail> {
     let text = "{ } ( ) [ ] ; , ~ @ # : ? . ... ! => ++ -- `";
-    check_puncts(&rt, rt.alloc(), text, false, &PUNCTUATORS)
+    check_puncts(&rt, rt.alloc(), text, false, PUNCTUATORS)
 }
 
-const OPERATORS: [(&str, &str); 23] = [
+const OPERATORS: &[(&str, &str)] = &[
     ("==", "0..2 BinOp(EqEq)"),
     ("!=", "3..5 BinOp(NotEq)"),
     ("===", "6..9 BinOp(EqEqEq)"),
@@ -100,10 +100,10 @@ const OPERATORS: [(&str, &str); 23] = [
 #[test]
 fn reads_every_operator(rt: HostRuntime) -> Result<(), Fail> {
     let text = "== != === !== < <= > >= << >> >>> + - * / % | ^ & ** || && ??";
-    check_puncts(&rt, rt.alloc(), text, false, &OPERATORS)
+    check_puncts(&rt, rt.alloc(), text, false, OPERATORS)
 }
 
-const ASSIGNMENTS: [(&str, &str); 16] = [
+const ASSIGNMENTS: &[(&str, &str)] = &[
     ("=", "0..1 AssignOp(Assign)"),
     ("+=", "2..4 AssignOp(AddAssign)"),
     ("-=", "5..7 AssignOp(SubAssign)"),
@@ -125,10 +125,10 @@ const ASSIGNMENTS: [(&str, &str); 16] = [
 #[test]
 fn reads_every_assignment(rt: HostRuntime) -> Result<(), Fail> {
     let text = "= += -= *= /= %= <<= >>= >>>= |= ^= &= **= &&= ||= ??=";
-    check_puncts(&rt, rt.alloc(), text, false, &ASSIGNMENTS)
+    check_puncts(&rt, rt.alloc(), text, false, ASSIGNMENTS)
 }
 
-const ANGLES: [(&str, &str); 6] = [
+const ANGLES: &[(&str, &str)] = &[
     ("<", "0..1 BinOp(Lt)"),
     ("<", "1..2 BinOp(Lt)"),
     (">", "2..3 BinOp(Gt)"),
@@ -139,7 +139,7 @@ const ANGLES: [(&str, &str); 6] = [
 
 #[test]
 fn reads_angles_alone_among_types(rt: HostRuntime) -> Result<(), Fail> {
-    check_puncts(&rt, rt.alloc(), "<<>>>=", true, &ANGLES)
+    check_puncts(&rt, rt.alloc(), "<<>>>=", true, ANGLES)
 }
 
 #[test]

@@ -29,7 +29,7 @@ fn string_of(alloc: Global, text: &str) -> Result<String, AllocError> {
     Ok(line)
 }
 
-const STRINGS: [(&str, &str); 13] = [
+const STRINGS: &[(&str, &str)] = &[
     ("''", "0..2 Str borrowed \"\""),
     ("'a\"b' c", "0..5 Str borrowed \"a\\\"b\""),
     ("\"a'b\"", "0..5 Str borrowed \"a'b\""),
@@ -63,7 +63,7 @@ fn reads_strings(rt: HostRuntime) -> Result<(), Fail> {
 }
 
 /// The letters beside a line separator fill a block of 32 bytes, or lack one of it.
-const LINE_SEPARATORS: [(&str, &str); 3] = [
+const LINE_SEPARATORS: &[(&str, &str)] = &[
     ("'\u{2028}b'", "0..6 Str borrowed \"\\u{2028}b\""),
     (
         "'aaaaaaaaaaaaaaaaaaaaaaaaaaaaaaa\u{2028}b'",
@@ -83,7 +83,7 @@ fn no_line_separator_ends_a_string(rt: HostRuntime) -> Result<(), Fail> {
     Ok(())
 }
 
-const OPEN_STRINGS: [(&str, &str); 3] = [
+const OPEN_STRINGS: &[(&str, &str)] = &[
     (
         "'",
         "0..1 Str borrowed \"\", Always UnterminatedStrLit 0..1",
@@ -106,7 +106,7 @@ fn reads_strings_that_are_not_closed(rt: HostRuntime) -> Result<(), Fail> {
     Ok(())
 }
 
-const REFUSED_STRINGS: [(&str, &str); 6] = [
+const REFUSED_STRINGS: &[(&str, &str)] = &[
     ("'\\u{41'", "0..6 InvalidUnicodeEscape 1..6"),
     ("'\\", "0..2 InvalidStrEscape 1..1"),
     (
@@ -149,7 +149,7 @@ fn escape_of(alloc: Global, text: &str, in_template: bool) -> Result<String, All
 }
 
 /// Each with whether it stands in a template.
-const ESCAPES: [(&str, bool, &str); 10] = [
+const ESCAPES: &[(&str, bool, &str)] = &[
     ("\\n", false, "3..5 owned \"\\n\""),
     ("\\`", true, "3..5 owned \"`\""),
     ("\\\u{2028}", true, "3..7 nothing"),
@@ -169,7 +169,7 @@ const ESCAPES: [(&str, bool, &str); 10] = [
 #[test]
 fn reads_escapes(rt: HostRuntime) -> Result<(), Fail> {
     for (text, in_template, line) in ESCAPES {
-        check(&rt, text, escape_of(rt.alloc(), text, in_template), line)?;
+        check(&rt, text, escape_of(rt.alloc(), text, *in_template), line)?;
     }
     Ok(())
 }

@@ -30,7 +30,7 @@ fn template_of(alloc: Global, text: &str, after_template: bool) -> Result<String
     Ok(line)
 }
 
-const TEXTS: [(&str, &str); 9] = [
+const TEXTS: &[(&str, &str)] = &[
     ("a`", "1..2 Template borrowed \"a\""),
     ("a$b${", "1..4 Template borrowed \"a$b\""),
     ("`", "1..1 Template borrowed \"\""),
@@ -53,7 +53,7 @@ fn reads_template_text(rt: HostRuntime) -> Result<(), Fail> {
     Ok(())
 }
 
-const BEHIND_TEXT: [(&str, &str); 3] = [
+const BEHIND_TEXT: &[(&str, &str)] = &[
     ("`", "1..2 BackQuote"),
     ("${", "1..3 DollarLBrace"),
     ("a`", "1..2 Template borrowed \"a\""),
@@ -67,7 +67,7 @@ fn reads_marks_behind_template_text(rt: HostRuntime) -> Result<(), Fail> {
     Ok(())
 }
 
-const REFUSED_ESCAPES: [(&str, &str); 4] = [
+const REFUSED_ESCAPES: &[(&str, &str)] = &[
     (
         "\\u{110000}`",
         "1..11 Template BadCharacterEscapeSequence { expected: \"1-6 hex characters in the range 0 to 10FFFF.\" } 1..10",
@@ -88,7 +88,7 @@ fn refuses_escapes_in_template_text(rt: HostRuntime) -> Result<(), Fail> {
     Ok(())
 }
 
-const OPEN_TEXTS: [(&str, &str); 3] = [
+const OPEN_TEXTS: &[(&str, &str)] = &[
     (" ", "1..2 UnterminatedTpl 0..2"),
     ("a\n", "1..3 UnterminatedTpl 0..3, line break"),
     ("a\\", "1..3 UnterminatedTpl 0..3"),

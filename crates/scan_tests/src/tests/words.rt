@@ -37,7 +37,7 @@ fn word_of(
 }
 
 /// Each with the place where the text starts.
-const WORDS: [(&str, u32, &str); 13] = [
+const WORDS: &[(&str, u32, &str)] = &[
     ("let1 let", 3, "3..7 borrowed \"let1\""),
     ("let", 0, "0..3 keyword let"),
     ("abc d", 0, "0..3 borrowed \"abc\""),
@@ -69,13 +69,13 @@ const WORDS: [(&str, u32, &str); 13] = [
 fn reads_words(rt: HostRuntime) -> Result<(), Fail> {
     let context = Context::default();
     for (text, start, line) in WORDS {
-        let written = word_of(rt.alloc(), text, BytePos(start), &context);
+        let written = word_of(rt.alloc(), text, BytePos(*start), &context);
         check(&rt, text, written, line)?;
     }
     Ok(())
 }
 
-const REFUSED_WORDS: [(&str, &str); 6] = [
+const REFUSED_WORDS: &[(&str, &str)] = &[
     (
         "\\u0062reak",
         "0..10 EscapeInReservedWord { word: \"break\" } 0..10",
@@ -103,7 +103,7 @@ fn refuses_words(rt: HostRuntime) -> Result<(), Fail> {
     Ok(())
 }
 
-const STRICT_WORDS: [(&str, &str); 2] = [
+const STRICT_WORDS: &[(&str, &str)] = &[
     ("let", "0..3 keyword let"),
     (
         "l\\u0065t",

@@ -1,7 +1,7 @@
 //! The operators as they are written.
 use ecma_syntax::{AssignOp, BinOpToken, BinaryOp};
 
-const BETWEEN: [(&'static str, BinOpToken, BinaryOp); 23] = [
+const BETWEEN: &[(&str, BinOpToken, BinaryOp)] = &[
     ("==", BinOpToken::EqEq, BinaryOp::EqEq),
     ("!=", BinOpToken::NotEq, BinaryOp::NotEq),
     ("===", BinOpToken::EqEqEq, BinaryOp::EqEqEq),
@@ -31,7 +31,7 @@ const BETWEEN: [(&'static str, BinOpToken, BinaryOp); 23] = [
     ),
 ];
 
-const ASSIGNING: [(&'static str, AssignOp); 16] = [
+const ASSIGNING: &[(&str, AssignOp)] = &[
     ("=", AssignOp::Assign),
     ("+=", AssignOp::AddAssign),
     ("-=", AssignOp::SubAssign),
@@ -52,7 +52,7 @@ const ASSIGNING: [(&'static str, AssignOp); 16] = [
 
 #[test]
 fn between_operands(rt: HostRuntime) {
-    for (text, token, operator) in &BETWEEN {
+    for (text, token, operator) in BETWEEN {
         assert!(rt;
             token.as_str() == *text
                 && operator.as_str() == *text
@@ -65,7 +65,7 @@ fn between_operands(rt: HostRuntime) {
 
 #[test]
 fn assigning(rt: HostRuntime) {
-    for (text, operator) in &ASSIGNING {
+    for (text, operator) in ASSIGNING {
         assert!(rt; operator.as_str() == *text, "{text}");
     }
 }

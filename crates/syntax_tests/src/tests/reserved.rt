@@ -8,36 +8,41 @@ fn strict() -> Context {
     }
 }
 
+/// Whether the word of a text is reserved in the context.
+fn reserves(context: Context, text: &str) -> bool {
+    context.is_reserved(&Word::from_str(text))
+}
+
 /// Each word with whether it is reserved by default and under strict mode.
+const WORDS: &[(&str, bool, bool)] = &[
+    ("null", true, true),
+    ("true", true, true),
+    ("false", true, true),
+    ("enum", true, true),
+    ("break", true, true),
+    ("instanceof", true, true),
+    ("let", false, true),
+    ("yield", false, true),
+    ("await", false, false),
+    ("static", false, true),
+    ("implements", false, true),
+    ("interface", false, true),
+    ("package", false, true),
+    ("private", false, true),
+    ("protected", false, true),
+    ("public", false, true),
+    ("async", false, false),
+    ("of", false, false),
+    ("type", false, false),
+    ("value", false, false),
+];
+
 #[test]
 fn by_default_and_strict(rt: HostRuntime) {
-    let rows = [
-        ("null", true, true),
-        ("true", true, true),
-        ("false", true, true),
-        ("enum", true, true),
-        ("break", true, true),
-        ("instanceof", true, true),
-        ("let", false, true),
-        ("yield", false, true),
-        ("await", false, false),
-        ("static", false, true),
-        ("implements", false, true),
-        ("interface", false, true),
-        ("package", false, true),
-        ("private", false, true),
-        ("protected", false, true),
-        ("public", false, true),
-        ("async", false, false),
-        ("of", false, false),
-        ("type", false, false),
-        ("value", false, false),
-    ];
-    for (text, plain, under_strict) in rows {
-        let word = Word::from_str(text);
+    for (text, plain, under_strict) in WORDS {
         assert!(rt;
-            Context::default().is_reserved(&word) == plain
-                && strict().is_reserved(&word) == under_strict,
+            reserves(Context::default(), *text) == *plain
+                && reserves(strict(), *text) == *under_strict,
             "{text}"
         );
     }
@@ -92,10 +97,10 @@ fn await_and_yield(rt: HostRuntime) {
     ];
     for (context, await_is, yield_is) in rows {
         assert!(rt;
-            context.is_reserved(&Word::from_str("await")) == await_is
-                && context.is_reserved(&Word::from_str("yield")) == yield_is
-                && !context.is_reserved(&Word::from_str("let"))
-                && context.is_reserved(&Word::from_str("enum"))
+            reserves(context, "await") == await_is
+                && reserves(context, "yield") == yield_is
+                && !reserves(context, "let")
+                && reserves(context, "enum")
         );
     }
 }

@@ -6,7 +6,7 @@ use std::convert::AsStr;
 use std::hash::{DefaultHasher, Hash, Hasher};
 use std::test::Fail;
 
-const KEYWORDS: [(&'static str, Keyword); 35] = [
+const KEYWORDS: &[(&str, Keyword)] = &[
     ("await", Keyword::Await),
     ("break", Keyword::Break),
     ("case", Keyword::Case),
@@ -44,7 +44,7 @@ const KEYWORDS: [(&'static str, Keyword); 35] = [
     ("delete", Keyword::Delete),
 ];
 
-const NAMES: [(&'static str, KnownIdent); 43] = [
+const NAMES: &[(&str, KnownIdent)] = &[
     ("abstract", KnownIdent::Abstract),
     ("as", KnownIdent::As),
     ("async", KnownIdent::Async),
@@ -90,42 +90,56 @@ const NAMES: [(&'static str, KnownIdent); 43] = [
     ("public", KnownIdent::Public),
 ];
 
+/// Whether the word of a text is of this kind, and has the text by itself, as an atom and printed.
+fn has_text(alloc: Global, text: &str, kind: WordKind) -> Result<bool, AllocError> {
+    let word = Word::from_str(text);
+    let shown = format!(in alloc; "{:?}", word)?;
+    let is_shown = word.kind() == kind && word.as_str() == text && shown.as_str() == text;
+    let atom = Atom::from(word);
+    Ok(is_shown && atom.as_str() == text)
+}
+
+/// Whether the keyword has this text, is printed with it in quotes, and the text is that of no known name.
+fn is_keyword(alloc: Global, text: &str, keyword: Keyword) -> Result<bool, AllocError> {
+    let shown = format!(in alloc; "{:?}", keyword)?;
+    let want = format!(in alloc; "keyword '{}'", text)?;
+    Ok(shown.as_str() == want.as_str()
+        && keyword.as_str() == text
+        && text.parse::<KnownIdent>() == Err(()))
+}
+
 #[test]
 fn keywords_both_ways(rt: HostRuntime) -> Result<(), Fail> {
-    for (text, keyword) in &KEYWORDS {
-        let word = Word::from_str(*text);
-        let shown = format!(in rt.alloc(); "{:?} {:?}", keyword, word)?;
-        let want = format!(in rt.alloc(); "keyword '{}' {}", text, text)?;
+    for (text, keyword) in KEYWORDS {
         assert!(rt;
-            word == Word::from(*keyword)
-                && word.kind() == WordKind::from(*keyword)
-                && word.as_str() == *text
-                && keyword.as_str() == *text
-                && shown.as_str() == want.as_str()
-                && Atom::from(word).as_str() == *text
-                && text.parse::<KnownIdent>() == Err(()),
+            Word::from_str(*text) == Word::from(*keyword)
+                && has_text(rt.alloc(), *text, WordKind::from(*keyword))?
+                && is_keyword(rt.alloc(), *text, *keyword)?,
             "{text}"
         );
     }
     Ok(())
 }
 
+/// Whether the known name has this text by itself, as an atom and printed, and is read from it.
+fn is_known(alloc: Global, text: &str, known: KnownIdent) -> Result<bool, AllocError> {
+    let shown = format!(in alloc; "{}", known)?;
+    let atom = Atom::from(known);
+    Ok(shown.as_str() == text
+        && atom.as_str() == text
+        && known.as_str() == text
+        && <&'static str>::from(known) == text
+        && text.parse::<KnownIdent>() == Ok(known))
+}
+
 #[test]
 fn names_both_ways(rt: HostRuntime) -> Result<(), Fail> {
-    for (text, known) in &NAMES {
-        let word = Word::from_str(*text);
-        let shown = format!(in rt.alloc(); "{} {:?}", known, word)?;
-        let want = format!(in rt.alloc(); "{} {}", text, text)?;
+    for (text, known) in NAMES {
+        let kind = WordKind::Ident(IdentKind::Known(*known));
         assert!(rt;
-            word == Word::Ident(IdentLike::Known(*known))
-                && word.kind() == WordKind::Ident(IdentKind::Known(*known))
-                && word.as_str() == *text
-                && text.parse::<KnownIdent>() == Ok(*known)
-                && known.as_str() == *text
-                && shown.as_str() == want.as_str()
-                && <&'static str>::from(*known) == *text
-                && Atom::from(*known).as_str() == *text
-                && Atom::from(word).as_str() == *text,
+            Word::from_str(*text) == Word::Ident(IdentLike::Known(*known))
+                && has_text(rt.alloc(), *text, kind)?
+                && is_known(rt.alloc(), *text, *known)?,
             "{text}"
         );
     }
@@ -149,27 +163,20 @@ fn literal_words_both_ways(rt: HostRuntime) -> Result<(), Fail> {
         ("false", WordKind::False),
     ];
     for (text, kind) in rows {
-        let word = Word::from_str(text);
-        let shown = format!(in rt.alloc(); "{:?}", word)?;
-        assert!(rt;
-            word.kind() == kind
-                && word.as_str() == text
-                && shown.as_str() == text
-                && Atom::from(word).as_str() == text,
-            "{text}"
-        );
+        assert!(rt; has_text(rt.alloc(), text, kind)?, "{text}");
     }
     Ok(())
 }
 
-/// Whether a copy of the word borrows this text.
-fn is_copied_borrowed(alloc: Global, word: &Word, text: &str) -> Result<bool, AllocError> {
+/// Whether a copy of the text's word borrows the text.
+fn is_copied_borrowed(alloc: Global, text: &str) -> Result<bool, AllocError> {
+    let word = Word::from_str(text);
     let atom = Atom::from(word.copy(alloc)?);
     Ok(atom.is_borrowed() && atom.as_str() == text)
 }
 
 /// Near misses of the table, lengths beside it, other scripts.
-const OTHER_NAMES: [&str; 15] = [
+const OTHER_NAMES: &[&str] = &[
     "",
     "a",
     "Await",
@@ -190,16 +197,9 @@ const OTHER_NAMES: [&str; 15] = [
 /// Each is an other name that borrows its text.
 #[test]
 fn other_names(rt: HostRuntime) -> Result<(), Fail> {
+    let kind = WordKind::Ident(IdentKind::Other);
     for text in OTHER_NAMES {
-        let word = Word::from_str(text);
-        let shown = format!(in rt.alloc(); "{:?}", word)?;
-        let is_borrowed = is_copied_borrowed(rt.alloc(), &word, text)?;
-        assert!(rt;
-            word.kind() == WordKind::Ident(IdentKind::Other)
-                && word.as_str() == text
-                && shown.as_str() == text
-                && is_borrowed
-        );
+        assert!(rt; has_text(rt.alloc(), *text, kind)? && is_copied_borrowed(rt.alloc(), *text)?);
     }
     Ok(())
 }
@@ -222,40 +222,55 @@ fn text_of<T: AsStr>(text: &T) -> &str {
     text.as_str()
 }
 
+fn owned_name(alloc: Global, text: &str) -> Result<IdentLike<'static>, AllocError> {
+    Ok(IdentLike::Other(Atom::from(String::from_str(alloc, text)?)))
+}
+
 /// A word that owns its text equals the one that borrows it, hashes as it, and is copied with its text.
 #[test]
 fn owned_words(rt: HostRuntime) -> Result<(), Fail> {
-    let owned = Word::Ident(IdentLike::Other(Atom::from(String::from_str(rt.alloc(), "value")?)));
+    let owned = Word::Ident(owned_name(rt.alloc(), "value")?);
     let copy = owned.copy(rt.alloc())?;
     let borrowed = Word::from_str("value");
-    assert!(rt;
-        copy == borrowed
-            && hash_of(&copy) == hash_of(&borrowed)
-            && copy != Word::from_str("values")
-            && !Atom::from(copy).is_borrowed()
-    );
+    let is_same = copy == borrowed && hash_of(&copy) == hash_of(&borrowed);
+    let is_other = copy != Word::from_str("values");
+    let atom = Atom::from(copy);
+    assert!(rt; is_same && is_other && !atom.is_borrowed());
     Ok(())
+}
+
+/// Whether the name is of this kind, and has this text by itself, as an atom and printed.
+fn is_named(
+    alloc: Global,
+    name: IdentLike,
+    kind: IdentKind,
+    text: &str,
+) -> Result<bool, AllocError> {
+    let shown = format!(in alloc; "{}", name)?;
+    let is_shown = name.kind() == kind && text_of(&name) == text && shown.as_str() == text;
+    let atom = Atom::from(name);
+    Ok(is_shown && atom.as_str() == text)
 }
 
 #[test]
 fn names_by_themselves(rt: HostRuntime) -> Result<(), Fail> {
-    let known = IdentLike::from("type");
+    let known = KnownIdent::Type_;
     assert!(rt;
-        known == IdentLike::Known(KnownIdent::Type_)
-            && known.kind() == IdentKind::Known(KnownIdent::Type_)
+        IdentLike::from("type") == IdentLike::Known(known)
+            && is_named(rt.alloc(), IdentLike::from("type"), IdentKind::Known(known), "type")?
+            && is_named(rt.alloc(), IdentLike::from("let"), IdentKind::Other, "let")?
     );
-    let keyword = IdentLike::from("let");
-    let owned = IdentLike::Other(Atom::from(String::from_str(rt.alloc(), "let")?));
-    let copy = owned.copy(rt.alloc())?;
-    let shown = format!(in rt.alloc(); "{} {}", known, copy)?;
-    assert!(rt;
-        keyword.kind() == IdentKind::Other
-            && copy == keyword
-            && text_of(&copy) == "let"
-            && shown.as_str() == "type let"
-            && Atom::from(known).as_str() == "type"
-            && !Atom::from(copy).is_borrowed()
-    );
+    Ok(())
+}
+
+/// A copy of a name that owns its text equals one that borrows it, and owns its own.
+#[test]
+fn owned_names(rt: HostRuntime) -> Result<(), Fail> {
+    let copy = owned_name(rt.alloc(), "let")?.copy(rt.alloc())?;
+    let is_same = copy == IdentLike::from("let");
+    let is_other = IdentKind::Other == copy.kind();
+    let atom = Atom::from(copy);
+    assert!(rt; is_same && is_other && atom.as_str() == "let" && !atom.is_borrowed());
     Ok(())
 }
 

@@ -8,7 +8,7 @@ use std::alloc::{AllocError, Global};
 use std::process::Abort;
 use std::test::Fail;
 
-const PUNCTUATORS: [(TokenKind, &'static str); 25] = [
+const PUNCTUATORS: &[(TokenKind, &str)] = &[
     (TokenKind::Arrow, "=>"),
     (TokenKind::Hash, "#"),
     (TokenKind::At, "@"),
@@ -82,7 +82,7 @@ fn assert_punctuator(
 
 #[test]
 fn debug_texts_of_punctuators(rt: HostRuntime) -> Result<(), Fail> {
-    for (kind, want) in &PUNCTUATORS {
+    for (kind, want) in PUNCTUATORS {
         assert_punctuator(&rt, rt.alloc(), *kind, want)?;
     }
     Ok(())
@@ -127,7 +127,7 @@ impl Borrowed {
     }
 }
 
-const BORROWED: [(Borrowed, &'static str); 10] = [
+const BORROWED: &[(Borrowed, &str)] = &[
     (Borrowed::Word("instanceof"), "instanceof"),
     (Borrowed::Word("null"), "null"),
     (Borrowed::Word("type"), "type"),
@@ -142,7 +142,7 @@ const BORROWED: [(Borrowed, &'static str); 10] = [
 
 #[test]
 fn debug_texts_of_words_and_literals(rt: HostRuntime) -> Result<(), Fail> {
-    for (borrowed, want) in &BORROWED {
+    for (borrowed, want) in BORROWED {
         assert_debug_text(&rt, rt.alloc(), borrowed.token(), want)?;
     }
     Ok(())

@@ -9,7 +9,7 @@ use std::test::Fail;
 
 type Row = (FixedError, &'static str);
 
-const PARSER: [Row; 30] = [
+const PARSER: &[Row] = &[
     (FixedError::Eof, "Unexpected eof"),
     (FixedError::DeclNotAllowed, "Declaration is not allowed"),
     (
@@ -111,7 +111,7 @@ const PARSER: [Row; 30] = [
     ),
 ];
 
-const STATEMENTS: [Row; 30] = [
+const STATEMENTS: &[Row] = &[
     (
         FixedError::AssignProperty,
         "assignment property is invalid syntax",
@@ -216,7 +216,7 @@ const STATEMENTS: [Row; 30] = [
     ),
 ];
 
-const CLASSES: [Row; 28] = [
+const CLASSES: &[Row] = &[
     (
         FixedError::EmptyJSXAttr,
         "JSX attributes must only be assigned a non-empty expression",
@@ -328,7 +328,7 @@ const CLASSES: [Row; 28] = [
     ),
 ];
 
-const TYPESCRIPT: [Row; 30] = [
+const TYPESCRIPT: &[Row] = &[
     (FixedError::TS1003, "Expected an identifier"),
     (FixedError::TS1005, "Expected a semicolon"),
     (FixedError::TS1009, "Trailing comma is not allowed"),
@@ -424,7 +424,7 @@ const TYPESCRIPT: [Row; 30] = [
     ),
 ];
 
-const TYPES: [Row; 27] = [
+const TYPES: &[Row] = &[
     (FixedError::TS1172, "`extends` clause already seen."),
     (
         FixedError::TS1173,
@@ -535,27 +535,27 @@ fn assert_rows(rt: &impl Abort, alloc: Global, rows: &[Row]) -> Result<(), Fail>
 
 #[test]
 fn parser_messages(rt: HostRuntime) -> Result<(), Fail> {
-    assert_rows(&rt, rt.alloc(), &PARSER)
+    assert_rows(&rt, rt.alloc(), PARSER)
 }
 
 #[test]
 fn parser_messages_of_statements(rt: HostRuntime) -> Result<(), Fail> {
-    assert_rows(&rt, rt.alloc(), &STATEMENTS)
+    assert_rows(&rt, rt.alloc(), STATEMENTS)
 }
 
 #[test]
 fn parser_messages_of_classes(rt: HostRuntime) -> Result<(), Fail> {
-    assert_rows(&rt, rt.alloc(), &CLASSES)
+    assert_rows(&rt, rt.alloc(), CLASSES)
 }
 
 #[test]
 fn typescript_messages(rt: HostRuntime) -> Result<(), Fail> {
-    assert_rows(&rt, rt.alloc(), &TYPESCRIPT)
+    assert_rows(&rt, rt.alloc(), TYPESCRIPT)
 }
 
 #[test]
 fn typescript_messages_of_types(rt: HostRuntime) -> Result<(), Fail> {
-    assert_rows(&rt, rt.alloc(), &TYPES)
+    assert_rows(&rt, rt.alloc(), TYPES)
 }
 
 #[test]

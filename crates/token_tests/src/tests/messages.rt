@@ -66,7 +66,7 @@ impl Held {
     }
 }
 
-const OF_THE_LEXER: [(Held, &'static str); 35] = [
+const OF_THE_LEXER: &[(Held, &str)] = &[
     (
         Held::LegacyDecimal,
         "Legacy decimal escape is not permitted in strict mode",
@@ -154,7 +154,7 @@ const OF_THE_LEXER: [(Held, &'static str); 35] = [
 
 #[test]
 fn lexer_messages(rt: HostRuntime) -> Result<(), Fail> {
-    for (held, want) in &OF_THE_LEXER {
+    for (held, want) in OF_THE_LEXER {
         assert_message(&rt, rt.alloc(), held.error(), want)?;
     }
     Ok(())
@@ -306,7 +306,7 @@ impl Worded {
     }
 }
 
-const WITH_WORDS: [(Worded, &'static str); 15] = [
+const WITH_WORDS: &[(Worded, &str)] = &[
     (
         Worded::InvalidIdentInStrict("yield"),
         "`yield` cannot be used as an identifier in strict mode",
@@ -365,7 +365,7 @@ const WITH_WORDS: [(Worded, &'static str); 15] = [
 
 #[test]
 fn messages_with_words(rt: HostRuntime) -> Result<(), Fail> {
-    for (worded, want) in &WITH_WORDS {
+    for (worded, want) in WITH_WORDS {
         assert_message(&rt, rt.alloc(), worded.error(), want)?;
     }
     Ok(())
