@@ -4,7 +4,7 @@ use std::alloc::{AllocError, Global};
 use std::hash::{DefaultHasher, Hash, Hasher};
 use std::test::Fail;
 
-const TEXTS: [&str; 5] = ["", "a", "été", "a€😀", "\\u{62}"];
+const TEXTS: &[&str] = &["", "a", "été", "a€😀", "\\u{62}"];
 
 /// Whether the atom is this text, and held so.
 fn holds(atom: &Atom, text: &str, is_borrowed: bool) -> bool {
@@ -17,19 +17,20 @@ fn copies(alloc: Global, atom: &Atom) -> Result<bool, AllocError> {
     Ok(copy == *atom && copy.is_borrowed() == atom.is_borrowed())
 }
 
+/// Whether an atom borrows this text and another owns it, and copies of them do so too.
+fn borrows_and_owns(alloc: Global, text: &str) -> Result<bool, AllocError> {
+    let borrowed = Atom::from(text);
+    let owned = Atom::from(String::from_str(alloc, text)?);
+    Ok(holds(&borrowed, text, true)
+        && holds(&owned, text, false)
+        && copies(alloc, &borrowed)?
+        && copies(alloc, &owned)?)
+}
+
 #[test]
-fn borrows_and_owns(rt: HostRuntime) -> Result<(), Fail> {
+fn borrow_and_own(rt: HostRuntime) -> Result<(), Fail> {
     for text in TEXTS {
-        let borrowed = Atom::from(text);
-        let owned = Atom::from(String::from_str(rt.alloc(), text)?);
-        assert!(rt;
-            holds(&borrowed, text, true) && holds(&owned, text, false),
-            "{text}"
-        );
-        assert!(rt;
-            copies(rt.alloc(), &borrowed)? && copies(rt.alloc(), &owned)?,
-            "{text}"
-        );
+        assert!(rt; borrows_and_owns(rt.alloc(), *text)?, "{text}");
     }
     Ok(())
 }
@@ -40,15 +41,19 @@ fn hash_of(atom: &Atom) -> u64 {
     hasher.finish()
 }
 
+/// Whether an atom that borrows a text and one that owns another are equal, and hashed alike, exactly if that is said.
+fn are_equal_if(alloc: Global, left: &str, right: &str, same: bool) -> Result<bool, AllocError> {
+    let borrowed = Atom::from(left);
+    let owned = Atom::from(String::from_str(alloc, right)?);
+    Ok((borrowed == owned) == same && (hash_of(&borrowed) == hash_of(&owned)) == same)
+}
+
 #[test]
 fn equal_where_the_bytes_are(rt: HostRuntime) -> Result<(), Fail> {
     for (i, left) in TEXTS.iter().enumerate() {
         for (j, right) in TEXTS.iter().enumerate() {
-            let owned = Atom::from(String::from_str(rt.alloc(), *right)?);
-            let borrowed = Atom::from(*left);
             assert!(rt;
-                (borrowed == owned) == (i == j)
-                    && (hash_of(&borrowed) == hash_of(&owned)) == (i == j),
+                are_equal_if(rt.alloc(), *left, *right, i == j)?,
                 "{left} and {right}"
             );
         }

@@ -1,6 +1,6 @@
 //! Comments, and a store of them in memory.
 ghost use Rattle.std.specs.Prelude.{◌≡◌, ◌≤◌, [], ◌∷◌, ◌++◌, OnOk, OnErr, IfErr, map, if◌then◌else◌};
-ghost use Rattle.ecma_place.specs.Comment.{Added, Leading, Trailing};
+ghost use Rattle.ecma_place.specs.Comment.{Leading, Trailing};
 
 use ecma_place::{Atom, BytePos, Comment, CommentKind, Comments, Span};
 use std::alloc::{AllocError, Global};

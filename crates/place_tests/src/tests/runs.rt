@@ -4,7 +4,7 @@ use std::alloc::{AllocError, Global};
 use std::test::Fail;
 
 // Each class, some of its bytes, and characters that end its runs.
-const CLASSES: [(ByteClass, &str, &str); 6] = [
+const CLASSES: &[(ByteClass, &str, &str)] = &[
     (
         ByteClass::Blank,
         "\t\u{b}\u{c} ",
@@ -17,7 +17,7 @@ const CLASSES: [(ByteClass, &str, &str); 6] = [
     (ByteClass::Block, "a/'\"\\\t ", "*\r\n\u{2028}\u{2029}€"),
 ];
 
-const LENGTHS: [usize; 8] = [0, 1, 31, 32, 33, 63, 64, 65];
+const LENGTHS: &[usize] = &[0, 1, 31, 32, 33, 63, 64, 65];
 
 // `é`, and behind it a run of so many of the bytes.
 fn text_of(alloc: Global, members: &str, count: usize) -> Result<String, AllocError> {
@@ -43,9 +43,9 @@ fn run_behind_first(text: &str, class: ByteClass) -> Option<u32> {
 fn ends_with_the_text(rt: HostRuntime) -> Result<(), Fail> {
     for (class, members, _) in CLASSES {
         for count in LENGTHS {
-            let text = text_of(rt.alloc(), members, count)?;
-            let run = run_behind_first(text.as_str(), class);
-            assert!(rt; run == Some(count as u32), "{class:?}");
+            let text = text_of(rt.alloc(), *members, *count)?;
+            let run = run_behind_first(text.as_str(), *class);
+            assert!(rt; run == Some(*count as u32), "{class:?}");
         }
     }
     Ok(())
@@ -56,11 +56,11 @@ fn ends_before_a_byte_outside(rt: HostRuntime) -> Result<(), Fail> {
     for (class, members, ends) in CLASSES {
         for count in LENGTHS {
             for end in ends.chars() {
-                let mut text = text_of(rt.alloc(), members, count)?;
+                let mut text = text_of(rt.alloc(), *members, *count)?;
                 text.push(end)?;
-                text.push_str(members)?;
-                let run = run_behind_first(text.as_str(), class);
-                assert!(rt; run == Some(count as u32), "{class:?} before {end}");
+                text.push_str(*members)?;
+                let run = run_behind_first(text.as_str(), *class);
+                assert!(rt; run == Some(*count as u32), "{class:?} before {end}");
             }
         }
     }
