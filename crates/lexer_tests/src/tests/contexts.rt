@@ -56,7 +56,8 @@ fn take(state: &mut State, kind: TokenKind) -> Result<(), AllocError> {
 fn assert_rows(rt: &impl Abort, state: &mut State, rows: &[Row]) -> Result<(), Fail> {
     for (kind, depth, expr_allowed) in rows {
         take(state, *kind)?;
-        assert!(rt; state.contexts.len() == *depth && state.expr_allowed == *expr_allowed);
+        assert_eq!(rt; state.contexts.len(), *depth);
+        assert_eq!(rt; state.expr_allowed, *expr_allowed);
     }
     Ok(())
 }
@@ -96,37 +97,35 @@ fn a_copy_of_contexts_stays(rt: HostRuntime) -> Result<(), Fail> {
     Ok(())
 }
 
-const FUNCTION_IN_AN_EXPRESSION: &[Row] = &[
-    (NAME, 1, false),
-    (ASSIGN, 1, true),
-    (FUNCTION, 2, false),
-    (TokenKind::LParen, 3, true),
-    (TokenKind::RParen, 2, false),
-    (TokenKind::LBrace, 3, true),
-    (TokenKind::RBrace, 1, false),
-];
-
 #[test]
 fn a_function_in_an_expression_ends_where_its_body_does(rt: HostRuntime) -> Result<(), Fail> {
-    assert_rows(&rt, &mut start(rt.alloc()), FUNCTION_IN_AN_EXPRESSION)
+    let rows = [
+        (NAME, 1, false),
+        (ASSIGN, 1, true),
+        (FUNCTION, 2, false),
+        (TokenKind::LParen, 3, true),
+        (TokenKind::RParen, 2, false),
+        (TokenKind::LBrace, 3, true),
+        (TokenKind::RBrace, 1, false),
+    ];
+    assert_rows(&rt, &mut start(rt.alloc()), &rows)
 }
-
-const TEMPLATES_IN_EACH_OTHER: &[Row] = &[
-    (TokenKind::BackQuote, 2, false),
-    (TokenKind::Template, 2, false),
-    (TokenKind::DollarLBrace, 3, true),
-    (TokenKind::BackQuote, 4, false),
-    (TokenKind::Template, 4, false),
-    (TokenKind::BackQuote, 3, false),
-    (TokenKind::RBrace, 2, false),
-    (TokenKind::Template, 2, false),
-    (TokenKind::BackQuote, 1, false),
-];
 
 #[test]
 fn templates_stand_in_each_other(rt: HostRuntime) -> Result<(), Fail> {
     let mut state = start(rt.alloc());
-    assert_rows(&rt, &mut state, TEMPLATES_IN_EACH_OTHER)?;
+    let rows = [
+        (TokenKind::BackQuote, 2, false),
+        (TokenKind::Template, 2, false),
+        (TokenKind::DollarLBrace, 3, true),
+        (TokenKind::BackQuote, 4, false),
+        (TokenKind::Template, 4, false),
+        (TokenKind::BackQuote, 3, false),
+        (TokenKind::RBrace, 2, false),
+        (TokenKind::Template, 2, false),
+        (TokenKind::BackQuote, 1, false),
+    ];
+    assert_rows(&rt, &mut state, &rows)?;
     assert_eq!(rt; state.contexts.current(), Some(TokenContext::BraceStmt));
     Ok(())
 }
@@ -145,58 +144,54 @@ fn contexts_may_be_few(rt: HostRuntime) -> Result<(), Fail> {
     assert_rows(&rt, &mut start_in(alloc, &[TokenContext::Tpl])?, &rows)
 }
 
-const HEAD_OF_A_FOR: &[Row] = &[
-    (FOR, 1, false),
-    (TokenKind::LParen, 2, true),
-    (OF, 2, false),
-    (OF, 2, true),
-    (OF, 2, true),
-    (TokenKind::RParen, 1, true),
-    (OF, 1, false),
-];
-
 #[test]
 fn of_separates_in_the_head_of_a_for(rt: HostRuntime) -> Result<(), Fail> {
-    assert_rows(&rt, &mut start(rt.alloc()), HEAD_OF_A_FOR)
+    let rows = [
+        (FOR, 1, false),
+        (TokenKind::LParen, 2, true),
+        (OF, 2, false),
+        (OF, 2, true),
+        (OF, 2, true),
+        (TokenKind::RParen, 1, true),
+        (OF, 1, false),
+    ];
+    assert_rows(&rt, &mut start(rt.alloc()), &rows)
 }
-
-const OBJECT: &[Row] = &[
-    (ASSIGN, 1, true),
-    (TokenKind::LBrace, 2, true),
-    (NAME, 2, false),
-    (TokenKind::Colon, 2, true),
-    (TokenKind::LBrace, 3, true),
-    (TokenKind::RBrace, 2, false),
-    (TokenKind::RBrace, 1, false),
-];
-
-const BLOCK: &[Row] = &[
-    (TokenKind::LBrace, 2, true),
-    (NAME, 2, false),
-    (TokenKind::Colon, 2, true),
-    (TokenKind::LBrace, 3, true),
-    (TokenKind::RBrace, 2, true),
-    (TokenKind::RBrace, 1, true),
-];
 
 #[test]
 fn braces_are_blocks_or_objects(rt: HostRuntime) -> Result<(), Fail> {
     let alloc = rt.alloc();
-    assert_rows(&rt, &mut start(alloc), OBJECT)?;
-    assert_rows(&rt, &mut start(alloc), BLOCK)
+    let object = [
+        (ASSIGN, 1, true),
+        (TokenKind::LBrace, 2, true),
+        (NAME, 2, false),
+        (TokenKind::Colon, 2, true),
+        (TokenKind::LBrace, 3, true),
+        (TokenKind::RBrace, 2, false),
+        (TokenKind::RBrace, 1, false),
+    ];
+    assert_rows(&rt, &mut start(alloc), &object)?;
+    let block = [
+        (TokenKind::LBrace, 2, true),
+        (NAME, 2, false),
+        (TokenKind::Colon, 2, true),
+        (TokenKind::LBrace, 3, true),
+        (TokenKind::RBrace, 2, true),
+        (TokenKind::RBrace, 1, true),
+    ];
+    assert_rows(&rt, &mut start(alloc), &block)
 }
-
-const SIGNS: &[Row] = &[
-    (TokenKind::PlusPlus, 1, true),
-    (NAME, 1, false),
-    (TokenKind::MinusMinus, 1, false),
-    (TokenKind::BinOp(BinOpToken::Div), 1, true),
-    (TokenKind::Num, 1, false),
-];
 
 #[test]
 fn signs_leave_the_flag(rt: HostRuntime) -> Result<(), Fail> {
-    assert_rows(&rt, &mut start(rt.alloc()), SIGNS)
+    let rows = [
+        (TokenKind::PlusPlus, 1, true),
+        (NAME, 1, false),
+        (TokenKind::MinusMinus, 1, false),
+        (TokenKind::BinOp(BinOpToken::Div), 1, true),
+        (TokenKind::Num, 1, false),
+    ];
+    assert_rows(&rt, &mut start(rt.alloc()), &rows)
 }
 
 /// Takes in a token as often as that.
