@@ -121,8 +121,7 @@ next-tells bytes i d true inside e (counted, within, behind) =
     let last : last_start (line_starts (take (i + 1) bytes)) ≡ i + 1 = ap last_start next ∙ last-push (line_starts (take i bytes)) (i + 1) in
     let long = length-take (i + 1) bytes in
     let same : i + 1 - 1 ≡ i = omega arith in
-    let fails : not (is_line_feed (get_or bytes (i + 1 - 1) d)) ≡ false = ap (λ n. not (is_line_feed (get_or bytes n d))) same ∙ ap not e in
-    (
+    let fails : not (is_line_feed (get_or bytes (i + 1 - 1) d)) ≡ false = ap (λ n. not (is_line_feed (get_or bytes n d))) same ∙ ap not e in (
       omega (arith, ap length next, length-append (line_starts (take i bytes)) ((i + 1) ∷ []), counted, count_by_more_yes is_line_feed bytes i d inside e),
       omega (arith, last, long, inside),
       omega (arith, suffix_len-take_no (λ byte. not (is_line_feed byte)) bytes (i + 1) d (omega arith) (omega arith) fails, last, long, inside),
@@ -134,8 +133,7 @@ next-tells bytes i d false inside e (counted, within, behind) =
     let short = length-take i bytes in
     let same : i + 1 - 1 ≡ i = omega arith in
     let passes : not (is_line_feed (get_or bytes (i + 1 - 1) d)) ≡ true = ap (λ n. not (is_line_feed (get_or bytes n d))) same ∙ ap not e in
-    let one = suffix_len-take_yes (λ byte. not (is_line_feed byte)) bytes (i + 1) d (omega arith) (omega arith) passes ∙ ap (λ n. 1 + suffix_len (λ byte. not (is_line_feed byte)) (take n bytes)) same in
-    (
+    let one = suffix_len-take_yes (λ byte. not (is_line_feed byte)) bytes (i + 1) d (omega arith) (omega arith) passes ∙ ap (λ n. 1 + suffix_len (λ byte. not (is_line_feed byte)) (take n bytes)) same in (
       ap length next ∙ counted ∙ sym (count_by_more_no is_line_feed bytes i d inside e),
       omega (arith, last, long, short, within, inside),
       omega (arith, one, behind, last, long, short, within, inside),

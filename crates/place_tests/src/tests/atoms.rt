@@ -21,10 +21,12 @@ fn copies(alloc: Global, atom: &Atom) -> Result<bool, AllocError> {
 fn borrows_and_owns(alloc: Global, text: &str) -> Result<bool, AllocError> {
     let borrowed = Atom::from(text);
     let owned = Atom::from(String::from_str(alloc, text)?);
-    Ok(holds(&borrowed, text, true)
-        && holds(&owned, text, false)
-        && copies(alloc, &borrowed)?
-        && copies(alloc, &owned)?)
+    Ok(
+        holds(&borrowed, text, true)
+            && holds(&owned, text, false)
+            && copies(alloc, &borrowed)?
+            && copies(alloc, &owned)?,
+    )
 }
 
 #[test]

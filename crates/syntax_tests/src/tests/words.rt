@@ -103,9 +103,11 @@ fn has_text(alloc: Global, text: &str, kind: WordKind) -> Result<bool, AllocErro
 fn is_keyword(alloc: Global, text: &str, keyword: Keyword) -> Result<bool, AllocError> {
     let shown = format!(in alloc; "{:?}", keyword)?;
     let want = format!(in alloc; "keyword '{}'", text)?;
-    Ok(shown.as_str() == want.as_str()
-        && keyword.as_str() == text
-        && text.parse::<KnownIdent>() == Err(()))
+    Ok(
+        shown.as_str() == want.as_str()
+            && keyword.as_str() == text
+            && text.parse::<KnownIdent>() == Err(()),
+    )
 }
 
 #[test]
@@ -125,11 +127,13 @@ fn keywords_both_ways(rt: HostRuntime) -> Result<(), Fail> {
 fn is_known(alloc: Global, text: &str, known: KnownIdent) -> Result<bool, AllocError> {
     let shown = format!(in alloc; "{}", known)?;
     let atom = Atom::from(known);
-    Ok(shown.as_str() == text
-        && atom.as_str() == text
-        && known.as_str() == text
-        && <&'static str>::from(known) == text
-        && text.parse::<KnownIdent>() == Ok(known))
+    Ok(
+        shown.as_str() == text
+            && atom.as_str() == text
+            && known.as_str() == text
+            && <&'static str>::from(known) == text
+            && text.parse::<KnownIdent>() == Ok(known),
+    )
 }
 
 #[test]
@@ -257,7 +261,12 @@ fn names_by_themselves(rt: HostRuntime) -> Result<(), Fail> {
     let known = KnownIdent::Type_;
     assert!(rt;
         IdentLike::from("type") == IdentLike::Known(known)
-            && is_named(rt.alloc(), IdentLike::from("type"), IdentKind::Known(known), "type")?
+            && is_named(
+                rt.alloc(),
+                IdentLike::from("type"),
+                IdentKind::Known(known),
+                "type"
+            )?
             && is_named(rt.alloc(), IdentLike::from("let"), IdentKind::Other, "let")?
     );
     Ok(())
