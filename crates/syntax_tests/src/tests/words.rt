@@ -272,14 +272,15 @@ fn names_by_themselves(rt: HostRuntime) -> Result<(), Fail> {
     Ok(())
 }
 
-/// A copy of a name that owns its text equals one that borrows it, and owns its own.
+/// A copy of a name that owns its text equals one that borrows it, is printed so, and owns its own.
 #[test]
 fn owned_names(rt: HostRuntime) -> Result<(), Fail> {
-    let copy = owned_name(rt.alloc(), "let")?.copy(rt.alloc())?;
+    let owned = owned_name(rt.alloc(), "let")?;
+    let copy = owned.copy(rt.alloc())?;
     let is_same = copy == IdentLike::from("let");
-    let is_other = IdentKind::Other == copy.kind();
+    let is_read = is_named(rt.alloc(), owned, IdentKind::Other, "let")?;
     let atom = Atom::from(copy);
-    assert!(rt; is_same && is_other && atom.as_str() == "let" && !atom.is_borrowed());
+    assert!(rt; is_same && is_read && atom.as_str() == "let" && !atom.is_borrowed());
     Ok(())
 }
 
