@@ -1,4 +1,3 @@
-pub use Rattle.ecma_state.proofs.AttachmentRows
 pub use Rattle.ecma_laws.proofs.CollectingLemmas
 pub use Rattle.ecma_pieces.proofs.CoveredLemmas
 pub use Rattle.ecma_laws.proofs.DeterminedLemmas
@@ -26,4 +25,3 @@ pub use Rattle.ecma_laws.proofs.StepLemmas
 pub use Rattle.ecma_laws.proofs.TilingLemmas
 pub use Rattle.ecma_dispatch.proofs.TokenLemmas
 pub use Rattle.ecma_laws.proofs.ToldLemmas
-pub use Rattle.ecma_state.proofs.TransitionRows

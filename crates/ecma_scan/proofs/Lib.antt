@@ -1,19 +1,10 @@
 pub mod CharacterLaws
 pub mod CommentLaws
-mod CommentRows
-mod EscapeRows
 pub mod ExpressionReading
-mod ExpressionRows
-mod GapRows
-mod NumberRows
 pub mod PunctuatorLaws
-mod PunctuatorRows
 pub mod SeparationLaws
 pub mod ShebangLaws
 pub mod ShebangLemmas
-mod StringRows
-mod TemplateRows
-mod WordRows
 pub use Rattle.ecma_grammar.proofs.Agreement
 pub use Rattle.ecma_grammar.proofs.ForNextLemmas
 pub use Rattle.ecma_gap.proofs.BarsLaws

@@ -1,4 +1,2 @@
-pub mod AttachmentRows
 pub mod ErrorLemmas
 pub mod LookaheadLemmas
-pub mod TransitionRows

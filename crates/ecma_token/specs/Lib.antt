@@ -1,7 +1,6 @@
 pub mod Kinds
 pub mod Messages
 pub mod MessageView
-pub mod Fixed
 pub mod Questions
 pub mod Quoted
 pub mod View

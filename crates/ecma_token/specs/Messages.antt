@@ -3,7 +3,7 @@ use Rattle.std.specs.Prelude.{ℕ, List, [], ◌++◌, ◌-◌, codes, length, t
 use Rattle.std.specs.List.{join_by}
 use Rattle.ecma_word.specs.Word.{word_text}
 use Rattle.ecma_word.specs.Operators.{bin_op_text, assign_op_text}
-use Rattle.ecma_token.specs.Fixed.{fixed_error_text}
+use Rattle.ecma_fixed.specs.Fixed.{fixed_error_text}
 use Rattle.ecma_token.specs.Quoted.{quoted_char}
 use Rattle.ecma_token.specs.declared.token.Radix.{Radix}
 use Rattle.ecma_token.specs.declared.token.Radix.TheVariants.{Binary, Octal, Decimal, Hex}

@@ -1,5 +1,5 @@
 -- Tokens and errors as callers see them: what owns memory is seen as what it holds.
-use Rattle.std.specs.Prelude.{◌≡◌, ℕ, Bool, true, false, not, ◌&&◌, List, [], ◌∷◌, map, string_bytes}
+use Rattle.std.specs.Prelude.{◌≡◌, Option, Some, None, ℕ, Bool, true, false, not, ◌&&◌, List, [], ◌∷◌, map, string_bytes}
 use Rattle.ecma_place.specs.Atom.{AtomView}
 use Rattle.ecma_place.specs.declared.place.Span.{Span}
 use Rattle.ecma_word.specs.Word.{word_owns_nothing}
@@ -164,3 +164,20 @@ can_own_nothing (UnexpectedTokenWithSuggestions all) = false
 can_own_nothing (Expected' p token got) = false
 can_own_nothing (WithLabel' p q kind at span note) = false
 can_own_nothing kind = not (holds_words kind)
+
+-- its one word, of a kind that holds one
+abbrev pub word_of : SyntaxError → Option AtomView
+word_of (EscapeInReservedWord word) = Some word
+word_of (InvalidIdentInStrict word) = Some word
+word_of (DuplicateLabel word) = Some word
+word_of (JSXExpectedClosingTag word) = Some word
+word_of (PrivateNameModifier word) = Some word
+word_of (ExportExpectFrom word) = Some word
+word_of (ImportBindingIsString word) = Some word
+word_of (TS1030 word) = Some word
+word_of (TS1089 word) = Some word
+word_of (TS1273 word) = Some word
+word_of (TS1274 word) = Some word
+word_of (TS1277 word) = Some word
+word_of (TsNonNullAssertionNotAllowed word) = Some word
+word_of _ = None

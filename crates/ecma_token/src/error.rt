@@ -1,9 +1,9 @@
 //! What a text can have wrong.
-ghost use Rattle.std.specs.Prelude.{◌≡◌, IfOk, IsOk, IsTrue};
-ghost use Rattle.ecma_token.specs.View.{IsErrorAt, error_kind, error_span, error_view, holds_words, can_own_nothing, kind_owns_nothing, kind_view};
+ghost use Rattle.std.specs.Prelude.{◌≡◌, ◌&&◌, IfOk, IsOk, IsTrue, Some};
+ghost use Rattle.ecma_token.specs.View.{IsErrorAt, error_kind, error_span, error_view, holds_words, can_own_nothing, kind_owns_nothing, kind_view, word_of};
 
-use crate::fixed::FixedError;
 use crate::token::{Radix, Token};
+use ecma_fixed::FixedError;
 use ecma_place::{Atom, Span, Spanned};
 use std::alloc::{AllocError, Global};
 
@@ -126,6 +126,20 @@ fn boxed<'a>(alloc: Global, kind: SyntaxError<'a>) -> Result<Box<SyntaxError<'a>
     Ok(Box::new(alloc, kind)?)
 }
 
+/// Two texts, as they are, or neither.
+pub(crate) fn copy_two<'a>(
+    left: &Atom<'a>,
+    right: &Atom<'a>,
+    alloc: Global,
+) -> Result<(Atom<'a>, Atom<'a>), AllocError>
+    ensures same { IfOk result (λ both. both ≡ (left.now, right.now)) }
+    ensures free { IsTrue (left.now.is_borrowed && right.now.is_borrowed) → IsOk result }
+{
+    let left = left.copy(alloc)?;
+    let right = right.copy(alloc)?;
+    Ok((left, right))
+}
+
 fn at_span<'a>(inner: Box<SyntaxError<'a>>, span: Span) -> Error<'a>
     ensures { IsErrorAt result inner.entry.value span }
 {
@@ -231,49 +245,62 @@ impl<'a> SyntaxError<'a> {
     }
 
     /// The same, where it holds words. It is apart from `copy` since each text that may be refused costs a proof for all
-    /// that recurs beside it.
+    /// that recurs beside it, and one word's copy is asked for in one place.
     fn copy_words(&self, alloc: Global) -> Result<SyntaxError<'a>, AllocError>
         requires { IsTrue (holds_words self.now) }
         ensures same { IfOk result (λ kind. kind_view kind ≡ kind_view self.now) }
         ensures free { IsTrue (kind_owns_nothing self.now) → IsOk result }
     {
         match self {
-            SyntaxError::EscapeInReservedWord { word } => Ok(SyntaxError::EscapeInReservedWord {
-                word: word.copy(alloc)?,
-            }),
-            SyntaxError::JSXExpectedClosingTag { tag } => Ok(SyntaxError::JSXExpectedClosingTag {
-                tag: tag.copy(alloc)?,
-            }),
-            SyntaxError::TS1029(left, right) => Ok(SyntaxError::TS1029(
-                left.copy(alloc)?,
-                right.copy(alloc)?,
-            )),
-            SyntaxError::TS1243(left, right) => Ok(SyntaxError::TS1243(
-                left.copy(alloc)?,
-                right.copy(alloc)?,
-            )),
-            SyntaxError::InvalidIdentInStrict(word) => Ok(SyntaxError::InvalidIdentInStrict(
-                word.copy(alloc)?,
-            )),
-            SyntaxError::DuplicateLabel(word) => Ok(SyntaxError::DuplicateLabel(word.copy(alloc)?)),
-            SyntaxError::PrivateNameModifier(word) => Ok(SyntaxError::PrivateNameModifier(word.copy(
-                alloc,
-            )?)),
-            SyntaxError::ExportExpectFrom(word) => Ok(SyntaxError::ExportExpectFrom(word.copy(
-                alloc,
-            )?)),
-            SyntaxError::ImportBindingIsString(word) => Ok(SyntaxError::ImportBindingIsString(
-                word.copy(alloc)?,
-            )),
-            SyntaxError::TS1030(word) => Ok(SyntaxError::TS1030(word.copy(alloc)?)),
-            SyntaxError::TS1089(word) => Ok(SyntaxError::TS1089(word.copy(alloc)?)),
-            SyntaxError::TS1273(word) => Ok(SyntaxError::TS1273(word.copy(alloc)?)),
-            SyntaxError::TS1274(word) => Ok(SyntaxError::TS1274(word.copy(alloc)?)),
-            SyntaxError::TS1277(word) => Ok(SyntaxError::TS1277(word.copy(alloc)?)),
-            SyntaxError::TsNonNullAssertionNotAllowed(word) => Ok(
-                SyntaxError::TsNonNullAssertionNotAllowed(word.copy(alloc)?),
-            ),
+            SyntaxError::TS1029(left, right) => {
+                let (left, right) = copy_two(left, right, alloc)?;
+                Ok(SyntaxError::TS1029(left, right))
+            }
+            SyntaxError::TS1243(left, right) => {
+                let (left, right) = copy_two(left, right, alloc)?;
+                Ok(SyntaxError::TS1243(left, right))
+            }
+            SyntaxError::EscapeInReservedWord { word }
+            | SyntaxError::JSXExpectedClosingTag { tag: word }
+            | SyntaxError::InvalidIdentInStrict(word)
+            | SyntaxError::DuplicateLabel(word)
+            | SyntaxError::PrivateNameModifier(word)
+            | SyntaxError::ExportExpectFrom(word)
+            | SyntaxError::ImportBindingIsString(word)
+            | SyntaxError::TS1030(word)
+            | SyntaxError::TS1089(word)
+            | SyntaxError::TS1273(word)
+            | SyntaxError::TS1274(word)
+            | SyntaxError::TS1277(word)
+            | SyntaxError::TsNonNullAssertionNotAllowed(word) => {
+                let word = word.copy(alloc)?;
+                Ok(self.with_word(word))
+            }
             _ => Err(AllocError),
+        }
+    }
+
+    /// The same kind with this word.
+    fn with_word(&self, word: Atom<'a>) -> SyntaxError<'a>
+        requires { Some word ≡ word_of self.now }
+        ensures { kind_view result ≡ kind_view self.now }
+    {
+        match self {
+            SyntaxError::EscapeInReservedWord { .. } => SyntaxError::EscapeInReservedWord { word },
+            SyntaxError::JSXExpectedClosingTag { .. } => SyntaxError::JSXExpectedClosingTag {
+                tag: word,
+            },
+            SyntaxError::InvalidIdentInStrict(_) => SyntaxError::InvalidIdentInStrict(word),
+            SyntaxError::DuplicateLabel(_) => SyntaxError::DuplicateLabel(word),
+            SyntaxError::PrivateNameModifier(_) => SyntaxError::PrivateNameModifier(word),
+            SyntaxError::ExportExpectFrom(_) => SyntaxError::ExportExpectFrom(word),
+            SyntaxError::ImportBindingIsString(_) => SyntaxError::ImportBindingIsString(word),
+            SyntaxError::TS1030(_) => SyntaxError::TS1030(word),
+            SyntaxError::TS1089(_) => SyntaxError::TS1089(word),
+            SyntaxError::TS1273(_) => SyntaxError::TS1273(word),
+            SyntaxError::TS1274(_) => SyntaxError::TS1274(word),
+            SyntaxError::TS1277(_) => SyntaxError::TS1277(word),
+            _ => SyntaxError::TsNonNullAssertionNotAllowed(word),
         }
     }
 

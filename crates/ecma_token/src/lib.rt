@@ -2,14 +2,13 @@
 #![tactic(auto)]
 
 pub mod error;
-pub mod fixed;
 pub mod kind;
 mod message;
 mod names;
 mod quoted;
 pub mod token;
 
+pub use ecma_fixed::FixedError;
 pub use error::{Error, SyntaxError};
-pub use fixed::FixedError;
 pub use kind::TokenKind;
 pub use token::{Radix, Token, TokenAndSpan};

@@ -1,7 +1,7 @@
 //! The parser's errors that hold nothing, under names of their own.
 
 use crate::error::SyntaxError;
-use crate::fixed::FixedError;
+use ecma_fixed::FixedError;
 
 /// The parser's errors that hold nothing, so that they are written as the others are.
 impl SyntaxError<'static> {

@@ -5,7 +5,7 @@ ghost use Rattle.ecma_token.specs.Kinds.{token_kind};
 ghost use Rattle.ecma_token.specs.Messages.{spelling, token_text};
 ghost use Rattle.ecma_token.specs.View.{has_texts, is_sign, owns_nothing, spanned_view, token_view};
 
-use crate::error::Error;
+use crate::error::{Error, copy_two};
 use crate::kind::TokenKind;
 use ecma_place::{Atom, Span, Spanned};
 use ecma_word::{AssignOp, BinOpToken, Word};
@@ -203,38 +203,50 @@ impl<'a> Token<'a> {
             Token::Template {
                 raw,
                 cooked: Ok(cooked),
-            } => Ok(Token::Template {
-                raw: raw.copy(alloc)?,
-                cooked: Ok(cooked.copy(alloc)?),
-            }),
-            Token::Str { value, raw } => Ok(Token::Str {
-                value: value.copy(alloc)?,
-                raw: raw.copy(alloc)?,
-            }),
-            Token::Regex(body, flags) => Ok(Token::Regex(body.copy(alloc)?, flags.copy(alloc)?)),
+            } => {
+                let (raw, cooked) = copy_two(raw, cooked, alloc)?;
+                Ok(Token::Template {
+                    raw,
+                    cooked: Ok(cooked),
+                })
+            }
+            Token::Str { value, raw } => {
+                let (value, raw) = copy_two(value, raw, alloc)?;
+                Ok(Token::Str { value, raw })
+            }
+            Token::Regex(body, flags) => {
+                let (body, flags) = copy_two(body, flags, alloc)?;
+                Ok(Token::Regex(body, flags))
+            }
             Token::Num {
                 raw,
                 radix,
                 digits,
                 whole,
-            } => Ok(Token::Num {
-                raw: raw.copy(alloc)?,
-                radix: *radix,
-                digits: digits.copy(alloc)?,
-                whole: *whole,
-            }),
-            Token::BigInt { raw, radix, digits } => Ok(Token::BigInt {
-                raw: raw.copy(alloc)?,
-                radix: *radix,
-                digits: digits.copy(alloc)?,
-            }),
+            } => {
+                let (raw, digits) = copy_two(raw, digits, alloc)?;
+                Ok(Token::Num {
+                    raw,
+                    radix: *radix,
+                    digits,
+                    whole: *whole,
+                })
+            }
+            Token::BigInt { raw, radix, digits } => {
+                let (raw, digits) = copy_two(raw, digits, alloc)?;
+                Ok(Token::BigInt {
+                    raw,
+                    radix: *radix,
+                    digits,
+                })
+            }
             Token::JSXName { name } => Ok(Token::JSXName {
                 name: name.copy(alloc)?,
             }),
-            Token::JSXText { value, raw } => Ok(Token::JSXText {
-                value: value.copy(alloc)?,
-                raw: raw.copy(alloc)?,
-            }),
+            Token::JSXText { value, raw } => {
+                let (value, raw) = copy_two(value, raw, alloc)?;
+                Ok(Token::JSXText { value, raw })
+            }
             Token::Shebang(text) => Ok(Token::Shebang(text.copy(alloc)?)),
             _ => Err(AllocError),
         }

@@ -1,6 +1,6 @@
 //! The parser's errors that hold nothing, and their messages.
 ghost use Rattle.std.specs.Prelude.{◌≡◌};
-ghost use Rattle.ecma_token.specs.Fixed.{fixed_error_text};
+ghost use Rattle.ecma_fixed.specs.Fixed.{fixed_error_text};
 
 /// An error that the parser raises and that holds nothing, so that its message is fixed. The lexer raises none of
 /// these. Those named `TS` have the number of TypeScript's own message on the subject.

@@ -1,0 +1,6 @@
+//! The errors that hold nothing.
+#![tactic(auto)]
+
+pub mod fixed;
+
+pub use fixed::FixedError;

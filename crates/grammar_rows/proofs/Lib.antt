@@ -1,0 +1,9 @@
+mod CommentRows
+mod EscapeRows
+mod ExpressionRows
+mod GapRows
+mod NumberRows
+mod PunctuatorRows
+mod StringRows
+mod TemplateRows
+mod WordRows

@@ -1,0 +1,2 @@
+mod AttachmentRows
+mod TransitionRows
