@@ -1,9 +1,7 @@
 //! What is told of a text.
 ghost use Rattle.std.specs.Prelude.{◌≡◌, ◌<◌, ◌^◌, length, true};
-ghost use Rattle.ecma_lexer.specs.Rereads.{is_in_order, rule_of};
+ghost use Rattle.ecma_slashes.specs.Rereads.{is_in_order, rule_of};
 
-use crate::report::{More, Report, Row};
-use crate::words::{Asked, Face};
 use ecma_html::{Class, html_of_steps};
 use ecma_imports::{Form, Specifier, specifiers};
 use ecma_lexer::{
@@ -11,6 +9,8 @@ use ecma_lexer::{
     Settings, Slashes, Step, ascend, canonical, classes_of_steps, count_rereads, replay, steps_by,
 };
 use ecma_place::{BytePos, CommentKind, Span, Spanned};
+use ecma_report::report::{More, Report, Row};
+use ecma_report::words::{Asked, Face};
 use ecma_token::{Error, Token, TokenKind};
 use serde_json::json;
 use std::alloc::{AllocError, Global};

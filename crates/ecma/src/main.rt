@@ -2,16 +2,14 @@
 #![tactic(auto)]
 
 mod faces;
-mod report;
 mod source;
-mod words;
 
 use crate::faces::tell;
-use crate::report::Report;
 use crate::source::{STANDARD_INPUT, read, refusal};
-use crate::words::{Asked, command, slash_places};
 use clap::ArgMatches;
 use ecma_place::BytePos;
+use ecma_report::report::Report;
+use ecma_report::words::{Asked, command, slash_places};
 use ecma_stdio::{Halt, arguments, exit_code, exit_without_words, send, text_of};
 use std::alloc::Global;
 use std::io::Write;

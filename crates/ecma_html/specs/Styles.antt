@@ -1,8 +1,8 @@
 -- The classes of the parts of a text, as a stylesheet names them. All of this is our own choice.
 use Rattle.std.specs.Prelude.{ℕ, Bool, true, false, List, [], ◌∷◌, ◌++◌, Option, Some, None, codes, drop, if◌then◌else◌}
 use Rattle.ecma_place.specs.declared.place.Span.{Span}
-use Rattle.ecma_syntax.specs.declared.word.WordKind.{WordKind}
-use Rattle.ecma_syntax.specs.declared.word.WordKind.TheVariants as word
+use Rattle.ecma_word.specs.declared.word.WordKind.{WordKind}
+use Rattle.ecma_word.specs.declared.word.WordKind.TheVariants as word
 use Rattle.ecma_token.specs.declared.kind.TokenKind.{TokenKind}
 use Rattle.ecma_token.specs.declared.kind.TokenKind.TheVariants as kind
 use Rattle.ecma_state.specs.declared.kept.Kept.{Kept}
@@ -10,8 +10,8 @@ use Rattle.ecma_classes.specs.Classes.{holds_byte}
 use Rattle.ecma_classes.specs.declared.piece.Class as piece
 use Rattle.ecma_classes.specs.declared.piece.Class.TheVariants as pieces
 use Rattle.ecma_classes.specs.declared.piece.Piece.{Piece}
-use Rattle.ecma_html.specs.declared.«class».Class.{Class}
-use Rattle.ecma_html.specs.declared.«class».Class.TheVariants.{Keyword, Literal, Name, Property, Text, Template, Number, Expression, Comment, Wrong}
+use Rattle.ecma_html.specs.declared...«class».Class.{Class}
+use Rattle.ecma_html.specs.declared...«class».Class.TheVariants.{Keyword, Literal, Name, Property, Text, Template, Number, Expression, Comment, Wrong}
 
 abbrev pub class_name : Class → List ℕ
 class_name Keyword = codes "keyword"

@@ -1,13 +1,13 @@
 -- What is made of a text.
 use Rattle.std.specs.Prelude.{ℕ, List, length}
 use Rattle.std.specs.Str.{chars}
-use Rattle.ecma_syntax.specs.declared.context.Context.{Context}
-use Rattle.ecma_lexer.specs.ByFlag.{text_steps}
-use Rattle.ecma_lexer.specs.Classes.{begin, classes_of}
-use Rattle.ecma_lexer.specs.Run.{session}
-use Rattle.ecma_lexer.specs.Session.{Session, kept_tokens}
-use Rattle.ecma_lexer.specs.declared.settings.Settings.{Settings}
-use Rattle.ecma_lexer.specs.declared.step.Step.{Step}
+use Rattle.ecma_settings.specs.declared.context.Context.{Context}
+use Rattle.ecma_slashes.specs.ByFlag.{text_steps}
+use Rattle.ecma_classes.specs.Classes.{begin, classes_of}
+use Rattle.ecma_state.specs.Run.{session}
+use Rattle.ecma_state.specs.Session.{Session, kept_tokens}
+use Rattle.ecma_state.specs.declared.settings.Settings.{Settings}
+use Rattle.ecma_state.specs.declared.step.Step.{Step}
 use Rattle.ecma_html.specs.Markup.{html_of}
 use Rattle.ecma_html.specs.Styles.{styled, token_classes}
 

@@ -2,7 +2,7 @@
 ghost use Rattle.std.specs.Prelude.{◌≡◌, IfOk};
 ghost use Rattle.ecma_html.specs.Styles as style;
 
-use ecma_state::kept::Kept;
+use ecma_state::Kept;
 use ecma_syntax::WordKind;
 use ecma_token::TokenKind;
 use std::alloc::{AllocError, Global};

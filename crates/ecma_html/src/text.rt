@@ -5,8 +5,11 @@ ghost use Rattle.ecma_html.specs.Unmark.{shown, unmark};
 
 use crate::class::token_classes;
 use crate::markup::html;
-use ecma_lexer::{Settings, Step, classes, replay, steps_by_flag};
+use ecma_classes::classes;
 use ecma_place::BytePos;
+use ecma_replay::replay;
+use ecma_slashes::steps_by_flag;
+use ecma_state::{Settings, Step};
 use ecma_syntax::Context;
 use std::alloc::{AllocError, Global};
 

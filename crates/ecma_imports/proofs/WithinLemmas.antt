@@ -9,7 +9,7 @@ use Rattle.ecma_place.specs.Text.{Text, byte_len}
 use Rattle.ecma_place.specs.declared.place.Span.{Span}
 use Rattle.ecma_place.proofs.MoveLemmas.{byte_len-append}
 use Rattle.ecma_state.specs.declared.kept.Kept.{Kept}
-use Rattle.ecma_lexer.specs.Classes.{StandsIn, begin, spans_of_kept}
+use Rattle.ecma_classes.specs.Classes.{StandsIn, begin, spans_of_kept}
 use Rattle.ecma_imports.specs.Lines.{LiesWithin}
 use Rattle.ecma_imports.specs.Stages.{form_of, next_depth, next_stage, part_of, specifiers_from, told}
 use Rattle.ecma_imports.specs.declared.imported.Form.{Form}

@@ -1,13 +1,13 @@
 -- What is written of the specifiers of a text: a line each. The form of the lines is our own choice.
 use Rattle.std.specs.Prelude.{ℕ, ◌≤◌, List, [], ◌∷◌, ◌++◌, codes, decimal, flat_map, slice_range}
 use Rattle.std.specs.Str.{chars}
-use Rattle.ecma_syntax.specs.declared.context.Context.{Context}
-use Rattle.ecma_lexer.specs.ByFlag.{text_steps}
-use Rattle.ecma_lexer.specs.Classes.{begin}
-use Rattle.ecma_lexer.specs.Run.{session}
-use Rattle.ecma_lexer.specs.Session.{kept_tokens}
-use Rattle.ecma_lexer.specs.declared.settings.Settings.{Settings}
-use Rattle.ecma_lexer.specs.declared.step.Step.{Step}
+use Rattle.ecma_settings.specs.declared.context.Context.{Context}
+use Rattle.ecma_slashes.specs.ByFlag.{text_steps}
+use Rattle.ecma_classes.specs.Classes.{begin}
+use Rattle.ecma_state.specs.Run.{session}
+use Rattle.ecma_state.specs.Session.{kept_tokens}
+use Rattle.ecma_state.specs.declared.settings.Settings.{Settings}
+use Rattle.ecma_state.specs.declared.step.Step.{Step}
 use Rattle.ecma_imports.specs.Stages.{specifiers_of}
 use Rattle.ecma_imports.specs.declared.imported.Form.{Form}
 use Rattle.ecma_imports.specs.declared.imported.Form.TheVariants.{Static, Dynamic}

@@ -3,13 +3,13 @@
 -- the `type` of TypeScript; that they are told by tokens alone is our own choice.
 use Rattle.std.specs.Prelude.{ℕ, zero, suc, ◌+◌, ◌-◌, ◌==◌, Bool, true, false, List, [], ◌∷◌, ◌++◌, Option, Some, None, if◌then◌else◌}
 use Rattle.ecma_place.specs.declared.place.Span.{Span}
-use Rattle.ecma_syntax.specs.declared.operator.BinOpToken.{BinOpToken}
-use Rattle.ecma_syntax.specs.declared.operator.BinOpToken.TheVariants.{Mul}
-use Rattle.ecma_syntax.specs.declared.word.IdentKind.TheVariants as ident
-use Rattle.ecma_syntax.specs.declared.keyword.Keyword.TheVariants as keyword
-use Rattle.ecma_syntax.specs.declared.known_ident.KnownIdent.TheVariants as known
-use Rattle.ecma_syntax.specs.declared.word.WordKind.{WordKind}
-use Rattle.ecma_syntax.specs.declared.word.WordKind.TheVariants as word
+use Rattle.ecma_word.specs.declared.operator.BinOpToken.{BinOpToken}
+use Rattle.ecma_word.specs.declared.operator.BinOpToken.TheVariants.{Mul}
+use Rattle.ecma_word.specs.declared.word.IdentKind.TheVariants as ident
+use Rattle.ecma_word.specs.declared.keyword.Keyword.TheVariants as keyword
+use Rattle.ecma_word.specs.declared.known_ident.KnownIdent.TheVariants as known
+use Rattle.ecma_word.specs.declared.word.WordKind.{WordKind}
+use Rattle.ecma_word.specs.declared.word.WordKind.TheVariants as word
 use Rattle.ecma_token.specs.declared.kind.TokenKind.{TokenKind}
 use Rattle.ecma_token.specs.declared.kind.TokenKind.TheVariants as kind
 use Rattle.ecma_state.specs.declared.kept.Kept.{Kept}

@@ -4,7 +4,7 @@ ghost use Rattle.ecma_imports.specs.Stages.{form_of, specifiers_of};
 
 use crate::stage::{Part, Stage};
 use ecma_place::Span;
-use ecma_state::kept::Kept;
+use ecma_state::Kept;
 use std::alloc::{AllocError, Global};
 
 /// How a module is imported.

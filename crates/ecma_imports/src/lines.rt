@@ -5,8 +5,10 @@ ghost use Rattle.ecma_imports.specs.Lines as rows;
 ghost use Rattle.ecma_imports.specs.Lines.{LiesWithin, imports_of, imports_of_steps};
 
 use crate::imported::{Form, Specifier, specifiers};
-use ecma_lexer::{Settings, Step, replay, steps_by_flag};
 use ecma_place::BytePos;
+use ecma_replay::replay;
+use ecma_slashes::steps_by_flag;
+use ecma_state::{Settings, Step};
 use ecma_syntax::Context;
 use std::alloc::{AllocError, Global};
 

@@ -1,7 +1,7 @@
 //! Reads a text from standard input, and writes what the words of the command line ask for.
 #![tactic(auto)]
 
-use ecma_lines::{explanation, run};
+use ecma_program::{explanation, run};
 use ecma_stdio::{arguments, exit_code, exit_without_words, send, words};
 use std::process::ExitCode;
 

@@ -6,7 +6,9 @@ pub mod laws;
 pub use ecma_canonical::{Canon, canonical, canonical_text, clean_text, joined};
 pub use ecma_classes::{Class, Piece, classes, piece};
 pub use ecma_pieces::classes_of_steps;
+pub use ecma_place as place;
 pub use ecma_replay::{Answer, Replay, answer, replay, replayed, runner};
+pub use ecma_scan as scan;
 pub use ecma_slashes::{
     Slashes, add_steps_by, add_steps_to_end, ascend, count_rereads, read_by, read_by_flag,
     read_telling, steps_by, steps_by_flag,
@@ -17,3 +19,5 @@ pub use ecma_state::{
     token_context, token_contexts,
 };
 pub use ecma_stream::{CommentList, Lexer, Tokens, comment_list, hand_comments, lexer, tokens};
+pub use ecma_syntax as syntax;
+pub use ecma_token as token;

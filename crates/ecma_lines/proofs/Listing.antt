@@ -8,15 +8,15 @@ use Rattle.ecma_place.specs.Cursor.{Cursor, place}
 use Rattle.ecma_place.specs.Text.{Text, byte_len}
 use Rattle.ecma_place.proofs.MoveLemmas.{byte_len-append}
 use Rattle.ecma_token.specs.View.{SpannedView, spanned_view}
-use Rattle.ecma_lexer.specs.declared.kept.Kept.{Kept}
-use Rattle.ecma_lexer.specs.declared.step.Step.TheVariants.{SetCtx}
-use Rattle.ecma_lexer.specs.Session.{LexerState, Session, kept_back, kept_of, lexer_state, state_of}
-use Rattle.ecma_lexer.specs.Ending.{behind_reads, errors_of, most_tokens, reads, tokens_of}
-use Rattle.ecma_lexer.specs.Reading.{reading}
-use Rattle.ecma_lexer.specs.Run.{mode_of, reading_of, start_of, state_behind}
-use Rattle.ecma_lexer.proofs.EndLemmas.{reading-on}
-use Rattle.ecma_lexer.proofs.EndingLemmas.{ReadSoFar, plain-reading, read_tokens, so_far-end, so_far-plain, so_far-start, so_far-token, tokens_run_out}
-use Rattle.ecma_lexer.proofs.TilingLemmas.{Standing, act_standing, fold_standing, session_standing}
+use Rattle.ecma_state.specs.declared.kept.Kept.{Kept}
+use Rattle.ecma_state.specs.declared.step.Step.TheVariants.{SetCtx}
+use Rattle.ecma_state.specs.Session.{LexerState, Session, kept_back, kept_of, lexer_state, state_of}
+use Rattle.ecma_stream.specs.Ending.{behind_reads, errors_of, most_tokens, reads, tokens_of}
+use Rattle.ecma_state.specs.Reading.{reading}
+use Rattle.ecma_state.specs.Run.{mode_of, reading_of, start_of, state_behind}
+use Rattle.ecma_stream.proofs.EndLemmas.{reading-on}
+use Rattle.ecma_stream.proofs.EndingLemmas.{ReadSoFar, plain-reading, read_tokens, so_far-end, so_far-plain, so_far-start, so_far-token, tokens_run_out}
+use Rattle.ecma_laws.proofs.TilingLemmas.{Standing, act_standing, fold_standing, session_standing}
 use Rattle.ecma_options.specs.Begin.{begin, context, settings, whole}
 use Rattle.ecma_lines.specs.ErrorLines.{errors_from, errors_text, found_lines, list_lines, token_lines}
 use Rattle.ecma_lines.specs.Lines.{line, lines, tokens_from, tokens_text}

@@ -1,12 +1,12 @@
 -- What is written of the tokens of a text: a line each. The form of the lines is our own choice.
 use Rattle.std.specs.Prelude.{ℕ, Bool, true, false, List, [], ◌∷◌, ◌++◌, Option, option_map, map, flat_map, codes, decimal, slice_range, if◌then◌else◌, ◌==◌}
-use Rattle.ecma_syntax.specs.declared.word.WordKind.{WordKind}
-use Rattle.ecma_syntax.specs.declared.word.WordKind.TheVariants as word
+use Rattle.ecma_word.specs.declared.word.WordKind.{WordKind}
+use Rattle.ecma_word.specs.declared.word.WordKind.TheVariants as word
 use Rattle.ecma_token.specs.declared.kind.TokenKind.{TokenKind}
 use Rattle.ecma_token.specs.declared.kind.TokenKind.TheVariants as kind
-use Rattle.ecma_lexer.specs.declared.kept.Kept.{Kept}
-use Rattle.ecma_lexer.specs.Session.{Session, kept_of}
-use Rattle.ecma_lexer.specs.Ending.{tokens_of}
+use Rattle.ecma_state.specs.declared.kept.Kept.{Kept}
+use Rattle.ecma_state.specs.Session.{Session, kept_of}
+use Rattle.ecma_stream.specs.Ending.{tokens_of}
 use Rattle.ecma_options.specs.declared.options.Options.{Options}
 use Rattle.ecma_lines.specs.Rereads.{session_behind}
 use Rattle.ecma_stdio.specs.Escaped.{escaped}

@@ -1,16 +1,17 @@
 //! What is written of the comments of a text: a line each.
 ghost use Rattle.std.specs.Prelude.{◌≡◌, ◌++◌, None, Some, ◌^◌, ◌<◌, true, length, string_bytes, IfOk, MatchResult, OnOk};
-ghost use Rattle.ecma_lexer.specs.Ending.{comments_of};
-ghost use Rattle.ecma_lexer.specs.HandOver.{has_comments};
-ghost use Rattle.ecma_lexer.specs.Session.{Session, lexer_state, state_of};
+ghost use Rattle.ecma_stream.specs.Ending.{comments_of};
+ghost use Rattle.ecma_state.specs.HandOver.{has_comments};
+ghost use Rattle.ecma_state.specs.Session.{Session, lexer_state, state_of};
 ghost use Rattle.ecma_lines.specs.CommentLines as rows;
 ghost use Rattle.ecma_lines.specs.Rereads.{Lacks};
 
 use crate::rereads::open;
-use ecma_lexer::{BufferedComment, BufferedCommentKind, CommentList, Lexer, hand_comments};
 use ecma_options::{Options, pass_next};
 use ecma_place::CommentKind;
+use ecma_state::{BufferedComment, BufferedCommentKind};
 use ecma_stdio::{Fault, push_escaped};
+use ecma_stream::{CommentList, Lexer, hand_comments};
 use std::alloc::{AllocError, Global};
 
 /// The comments of a lexer that answered the end, in the order in which it hands them over.

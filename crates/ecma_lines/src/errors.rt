@@ -1,16 +1,16 @@
 //! What is written of the errors of a text: a line each.
 ghost use Rattle.std.specs.Prelude.{◌≡◌, ◌++◌, ◌^◌, ◌<◌, Some, codes, flat_map, length, map, string_bytes, is_some, IfOk, MatchResult, OnOk};
 ghost use Rattle.ecma_token.specs.View.{error_view, refusal_of, spanned_view, token_view};
-ghost use Rattle.ecma_lexer.specs.Run.{reading_of, state_behind};
-ghost use Rattle.ecma_lexer.specs.Session.{lexer_state};
+ghost use Rattle.ecma_state.specs.Run.{reading_of, state_behind};
+ghost use Rattle.ecma_state.specs.Session.{lexer_state};
 ghost use Rattle.ecma_lines.specs.ErrorLines as rows;
 ghost use Rattle.ecma_lines.specs.Rereads.{Lacks};
 
 use crate::rereads::{ReadAgain, open};
-use ecma_lexer::{Lexer, Tokens};
 use ecma_options::Options;
 use ecma_place::{Span, Spanned};
 use ecma_stdio::{Fault, push_escaped};
+use ecma_stream::{Lexer, Tokens};
 use ecma_token::{Error, Token, TokenAndSpan};
 use std::alloc::{AllocError, Global};
 

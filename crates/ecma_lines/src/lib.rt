@@ -1,18 +1,7 @@
-//! What the program writes of a text: lines of its tokens, errors, comments or pieces, or its canonical text, and the words
-//! that ask for them.
+//! Lines of a text that is read with some of its slashes again: those of its tokens, its errors and its comments.
 #![tactic(auto)]
 
-mod canon;
-mod classes;
-pub mod command;
 pub mod comments;
-mod errors;
-mod kept_tokens;
-mod lines;
-mod particulars;
-pub mod program;
-mod rereads;
-mod standard_error;
-
-pub use program::run;
-pub use standard_error::explanation;
+pub mod errors;
+pub mod lines;
+pub mod rereads;

@@ -1,15 +1,16 @@
 //! What is written of the tokens of a text: a line each.
 ghost use Rattle.std.specs.Prelude.{◌≡◌, ◌++◌, ◌+◌, ◌^◌, ◌<◌, ◌≤◌, Some, length, map, string_bytes, option_map, IfOk, MatchResult, OnOk};
-ghost use Rattle.ecma_lexer.specs.Run.{reading_of, state_behind};
-ghost use Rattle.ecma_lexer.specs.Session.{kept_of, lexer_state};
+ghost use Rattle.ecma_state.specs.Run.{reading_of, state_behind};
+ghost use Rattle.ecma_state.specs.Session.{kept_of, lexer_state};
 ghost use Rattle.ecma_token.specs.View.{spanned_view};
 ghost use Rattle.ecma_lines.specs.Lines as rows;
 ghost use Rattle.ecma_lines.specs.Rereads.{AllWithin, Lacks};
 
 use crate::rereads::{ReadAgain, open};
-use ecma_lexer::{Kept, Lexer};
 use ecma_options::Options;
+use ecma_state::Kept;
 use ecma_stdio::{Fault, push_escaped};
+use ecma_stream::Lexer;
 use ecma_syntax::WordKind;
 use ecma_token::{TokenAndSpan, TokenKind};
 use std::alloc::{AllocError, Global};

@@ -1,6 +1,6 @@
 -- Where the reading of a text begins that is measured.
 use Rattle.std.specs.Prelude.{ℕ, Bool, false, List}
-use Rattle.ecma_lexer.specs.Session.{Session}
+use Rattle.ecma_state.specs.Session.{Session}
 use Rattle.ecma_options.specs.Begin as reading
 use Rattle.ecma_options.specs.declared.options.Options.{Options}
 

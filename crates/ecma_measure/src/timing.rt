@@ -3,9 +3,9 @@ ghost use Rattle.std.specs.Prelude.{◌^◌, ◌<◌, length};
 
 use crate::command::{Answers, Measure};
 use crate::count::options;
-use ecma_lexer::{Lexer, Tokens};
 use ecma_options::{begin, pass_next};
 use ecma_stdio::{Fault, Halt};
+use ecma_stream::{Lexer, Tokens};
 use ecma_token::TokenAndSpan;
 use std::alloc::{AllocError, Global};
 use std::time::{Clock, Duration, Instant};

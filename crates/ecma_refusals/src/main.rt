@@ -4,16 +4,11 @@
 //! are those of a run in which nothing is refused. `bench/refusals` refuses each request in turn and compares.
 #![tactic(auto)]
 
-mod asked;
-mod cover;
 mod faces;
-mod kept;
 mod numbers;
-mod reading;
-mod rows;
-mod told;
-mod whole;
 
+use refused_calls::{cover, kept, whole};
+use refused_reads::{reading, told};
 use std::io;
 
 fn main(rt: HostRuntime) -> io::Result<()> {

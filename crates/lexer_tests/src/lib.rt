@@ -1,4 +1,4 @@
-//! Tests of `ecma_lexer`: they see of it what any caller sees.
+//! Rows of texts: what the lexer reads of each, as any caller sees it.
 #![tactic(auto)]
 
 #[cfg(test)]

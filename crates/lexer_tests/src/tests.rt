@@ -1,35 +1,26 @@
-//! Tests of the lexer: rows of texts, each with its listing, and what no listing shows.
+//! Rows of texts, each with its listing.
 mod attached;
 mod beginnings;
 mod code;
-mod comments;
-mod contexts;
-mod copies;
-mod depths;
-mod error_lists;
 mod errors;
 mod gaps;
-mod items;
-mod listing;
 mod numbers;
-mod pieces;
-mod played;
 mod reader_texts;
-mod replays;
-mod rereads;
-mod slots;
-mod states;
 mod strings;
 mod templates;
 mod words;
 
-use ecma_lexer::{Kept, Lexer};
-use std::alloc::AllocError;
+use listings::listing::Row;
+use listings::played::listing_both_ways;
+use std::alloc::Global;
+use std::process::Abort;
+use std::test::Fail;
 
-/// What is kept of the next token.
-fn next(lexer: &mut Lexer) -> Result<Option<Kept>, AllocError> {
-    match lexer.read()? {
-        Some(token) => Ok(Some(Kept::of(&token))),
-        None => Ok(None),
+/// Reads the text of each row, by a lexer and by a replay, and asserts its listing.
+fn assert_listings(rt: &impl Abort, alloc: Global, rows: &[Row]) -> Result<(), Fail> {
+    for (settings, text, expected) in rows {
+        let found = listing_both_ways(alloc, *settings, text)?;
+        assert_eq!(rt; found.as_str(), *expected, "{text:?}");
     }
+    Ok(())
 }

@@ -4,10 +4,12 @@ use super::steps::steps_over;
 use ecma_lexer::{Canon, Kept, Replay, Settings, Step, canonical, canonical_text, replay};
 use ecma_place::{BytePos, StringInput};
 use ecma_syntax::{EsVersion, NumberRule, Syntax};
+use listings::commands::Command::{
+    Allow, Back, Leave, Module, Pop, Read, Reread, Save, Take, Withdraw,
+};
 use std::alloc::{AllocError, Global};
 use std::process::Abort;
 use std::test::Fail;
-use step_tables::Command::{Allow, Back, Leave, Module, Pop, Read, Reread, Save, Take, Withdraw};
 
 /// Where a text starts, the text, what is done with it, and its canonical text.
 type Row = (u32, &'static str, Steps, &'static str);

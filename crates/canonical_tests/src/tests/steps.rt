@@ -1,7 +1,7 @@
 //! Steps over a text, as a table can hold them.
 use ecma_lexer::Step;
+use listings::commands::{Command, most_reads, push_reads, steps_of};
 use std::alloc::{AllocError, Global};
-use step_tables::{Command, most_reads, push_reads, steps_of};
 
 /// What is done with a text.
 #[derive(Clone, Copy)]

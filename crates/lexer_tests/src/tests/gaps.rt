@@ -1,5 +1,6 @@
 //! Rows over gaps: white space, comments, conflict markers.
-use super::listing::{IGNORING, MODULE, PLAIN, Row, TYPES, assert_listings};
+use super::assert_listings;
+use listings::listing::{IGNORING, MODULE, PLAIN, Row, TYPES};
 use std::test::Fail;
 
 pub(super) const ROWS: &[Row] = &[

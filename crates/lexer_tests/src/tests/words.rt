@@ -1,5 +1,6 @@
 //! Rows over words.
-use super::listing::{PLAIN, Row, assert_listings};
+use super::assert_listings;
+use listings::listing::{PLAIN, Row};
 use std::test::Fail;
 
 pub(super) const ROWS: &[Row] = &[

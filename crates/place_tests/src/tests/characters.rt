@@ -3,7 +3,7 @@ use ecma_place::character::{CharExt, is_white_space};
 
 #[test]
 fn tells_characters_of_names(rt: HostRuntime) {
-    for (c, starts, goes_on) in [
+    const ROWS: &[(char, bool, bool)] = &[
         ('$', true, true),
         ('_', true, true),
         ('A', true, true),
@@ -27,7 +27,9 @@ fn tells_characters_of_names(rt: HostRuntime) {
         ('日', true, true),
         ('𝒳', true, true),
         ('😀', false, false),
-    ] {
+    ];
+    for row in ROWS {
+        let (c, starts, goes_on) = *row;
         assert!(rt;
             c.is_ident_start() == starts && c.is_ident_part() == goes_on && c.to_char() == Some(c),
             "{c}"
@@ -38,7 +40,7 @@ fn tells_characters_of_names(rt: HostRuntime) {
 #[test]
 fn tells_white_space(rt: HostRuntime) {
     // The character, and whether it is a line break, a line terminator, and other white space.
-    for (c, line_break, terminator, other) in [
+    const ROWS: &[(char, bool, bool, bool)] = &[
         ('\n', true, true, false),
         ('\r', true, true, false),
         ('\u{2028}', false, true, false),
@@ -59,7 +61,9 @@ fn tells_white_space(rt: HostRuntime) {
         ('a', false, false, false),
         ('é', false, false, false),
         ('😀', false, false, false),
-    ] {
+    ];
+    for row in ROWS {
+        let (c, line_break, terminator, other) = *row;
         let code = c as u32;
         assert!(rt;
             c.is_line_break() == line_break

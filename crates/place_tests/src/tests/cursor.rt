@@ -9,7 +9,7 @@ const START: BytePos = BytePos(7);
 
 #[test]
 fn fits_below_two_to_the_32(rt: HostRuntime) {
-    for (text, start, fits) in [
+    const ROWS: &[(&str, u32, bool)] = &[
         ("", 4_294_967_295, true),
         ("a", 4_294_967_294, true),
         ("a", 4_294_967_295, false),
@@ -18,7 +18,9 @@ fn fits_below_two_to_the_32(rt: HostRuntime) {
         ("a€😀", 4_294_967_287, true),
         ("a€😀", 4_294_967_288, false),
         ("a€😀", 0, true),
-    ] {
+    ];
+    for row in ROWS {
+        let (text, start, fits) = *row;
         assert!(rt;
             StringInput::fits(text, BytePos(start)) == fits,
             "at {start}"
@@ -28,15 +30,17 @@ fn fits_below_two_to_the_32(rt: HostRuntime) {
 
 #[test]
 fn steps_over_characters(rt: HostRuntime) {
-    let mut input = StringInput::new(TEXT, START);
-    for (place, rest, cur, peek, ahead) in [
+    const ROWS: &[(u32, &str, Option<char>, Option<char>, Option<char>)] = &[
         (7, "aé€😀b", Some('a'), Some('é'), Some('€')),
         (8, "é€😀b", Some('é'), Some('€'), Some('😀')),
         (10, "€😀b", Some('€'), Some('😀'), Some('b')),
         (13, "😀b", Some('😀'), Some('b'), None),
         (17, "b", Some('b'), None, None),
         (18, "", None, None, None),
-    ] {
+    ];
+    let mut input = StringInput::new(TEXT, START);
+    for row in ROWS {
+        let (place, rest, cur, peek, ahead) = *row;
         assert!(rt;
             input.cur_pos() == BytePos(place)
                 && input.last_pos() == BytePos(place)
@@ -55,15 +59,17 @@ fn steps_over_characters(rt: HostRuntime) {
 
 #[test]
 fn looks_at_bytes(rt: HostRuntime) {
-    let mut input = StringInput::new(TEXT, START);
-    for (place, ascii, byte) in [
+    const ROWS: &[(u32, Option<u8>, Option<u8>)] = &[
         (7, Some(b'a'), Some(b'a')),
         (8, None, Some(0xc3)),
         (10, None, Some(0xe2)),
         (13, None, Some(0xf0)),
         (17, Some(b'b'), Some(b'b')),
         (18, None, None),
-    ] {
+    ];
+    let mut input = StringInput::new(TEXT, START);
+    for row in ROWS {
+        let (place, ascii, byte) = *row;
         if input.has_place(BytePos(place)) {
             input.reset_to(BytePos(place));
         }
@@ -82,14 +88,16 @@ fn looks_at_bytes(rt: HostRuntime) {
 
 #[test]
 fn eats_ascii_bytes(rt: HostRuntime) {
-    let mut input = StringInput::new("a/é", START);
-    for (byte, eaten, place) in [
+    const ROWS: &[(u8, bool, u32)] = &[
         (b'/', false, 7),
         (b'a', true, 8),
         (b'a', false, 8),
         (b'/', true, 9),
         (0x43, false, 9),
-    ] {
+    ];
+    let mut input = StringInput::new("a/é", START);
+    for row in ROWS {
+        let (byte, eaten, place) = *row;
         assert!(rt; byte < 128);
         assert!(rt;
             input.eat_byte(byte) == eaten && input.cur_pos() == BytePos(place),
@@ -100,9 +108,7 @@ fn eats_ascii_bytes(rt: HostRuntime) {
 
 #[test]
 fn tells_what_the_rest_begins_with(rt: HostRuntime) {
-    let mut input = StringInput::new(TEXT, START);
-    assert!(rt; input.eat_byte(b'a'));
-    for (text, begins) in [
+    const ROWS: &[(&str, bool)] = &[
         ("", true),
         ("é", true),
         ("é€😀b", true),
@@ -110,7 +116,11 @@ fn tells_what_the_rest_begins_with(rt: HostRuntime) {
         ("é€😁", false),
         ("e", false),
         ("aé", false),
-    ] {
+    ];
+    let mut input = StringInput::new(TEXT, START);
+    assert!(rt; input.eat_byte(b'a'));
+    for row in ROWS {
+        let (text, begins) = *row;
         assert!(rt; input.is_str(text) == begins, "{text}");
     }
 }
@@ -126,9 +136,7 @@ fn tells_places_of_the_text(rt: HostRuntime) {
 
 #[test]
 fn slices_between_places(rt: HostRuntime) {
-    let mut input = StringInput::new(TEXT, START);
-    assert!(rt; input.eat_byte(b'a'));
-    for (from, to, text) in [
+    const ROWS: &[(u32, u32, &str)] = &[
         (7, 7, ""),
         (7, 8, "a"),
         (7, 10, "aé"),
@@ -137,7 +145,11 @@ fn slices_between_places(rt: HostRuntime) {
         (7, 18, "aé€😀b"),
         (17, 18, "b"),
         (18, 18, ""),
-    ] {
+    ];
+    let mut input = StringInput::new(TEXT, START);
+    assert!(rt; input.eat_byte(b'a'));
+    for row in ROWS {
+        let (from, to, text) = *row;
         let from = BytePos(from);
         let to = BytePos(to);
         assert!(rt; input.has_place(from) && input.has_place(to) && from <= to);
@@ -150,8 +162,10 @@ fn slices_between_places(rt: HostRuntime) {
 
 #[test]
 fn moves_by_bytes(rt: HostRuntime) {
+    const ROWS: &[(u32, &str)] = &[(7, "aé€😀b"), (10, "€😀b"), (17, "b"), (18, ""), (18, "")];
     let mut input = StringInput::new(TEXT, START);
-    for (place, rest) in [(7, "aé€😀b"), (10, "€😀b"), (17, "b"), (18, ""), (18, "")] {
+    for row in ROWS {
+        let (place, rest) = *row;
         let here = input.cur_pos().0;
         assert!(rt; here <= place && input.has_place(BytePos(place)));
         input.bump_bytes((place - here) as usize);
@@ -164,13 +178,15 @@ fn moves_by_bytes(rt: HostRuntime) {
 
 #[test]
 fn takes_characters_that_pass(rt: HostRuntime) {
-    let mut input = StringInput::new(TEXT, START);
-    for (end, taken, place) in [
+    const ROWS: &[(char, &str, u32)] = &[
         ('a', "", 7),
         ('😀', "aé€", 13),
         ('!', "😀b", 18),
         ('!', "", 18),
-    ] {
+    ];
+    let mut input = StringInput::new(TEXT, START);
+    for row in ROWS {
+        let (end, taken, place) = *row;
         assert!(rt;
             input.uncons_while(|c| c != end) == taken && input.cur_pos() == BytePos(place),
             "{taken}"

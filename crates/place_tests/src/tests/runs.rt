@@ -69,12 +69,14 @@ fn ends_before_a_byte_outside(rt: HostRuntime) -> Result<(), Fail> {
 
 #[test]
 fn steps_over_characters_past_ascii(rt: HostRuntime) {
-    for (class, text, length) in [
+    const ROWS: &[(ByteClass, &str, u32)] = &[
         (ByteClass::Plain(Quote::Single), "aé\u{2028}€😀'b", 13),
         (ByteClass::Plain(Quote::Double), "aé\u{2029}€😀\"b", 13),
         (ByteClass::Line, "aé日😀\u{2028}b", 10),
         (ByteClass::Block, "aé日😀*/", 10),
-    ] {
+    ];
+    for row in ROWS {
+        let (class, text, length) = *row;
         let input = StringInput::new(text, BytePos::DUMMY);
         assert!(rt;
             input.run_bytes(class) == length

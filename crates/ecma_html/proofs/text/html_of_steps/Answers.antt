@@ -1,5 +1,5 @@
 use Rattle.std.specs.Str.{chars}
-use Rattle.ecma_lexer.specs.Classes.{begin}
+use Rattle.ecma_classes.specs.Classes.{begin}
 use Rattle.ecma_pieces.proofs.CoveredLemmas.{slices_may_be_covered}
 use Rattle.ecma_html.proofs.text.html_of_steps.Goals as goal
 

@@ -1,6 +1,6 @@
 use Rattle.std.proofs.Common.{◌∙◌, ap}
 use Rattle.std.specs.Str.{chars}
-use Rattle.ecma_lexer.specs.Classes.{begin}
+use Rattle.ecma_classes.specs.Classes.{begin}
 use Rattle.ecma_pieces.proofs.CoveredLemmas.{replays_may_be_covered}
 use Rattle.ecma_imports.specs.Stages.{specifiers_of}
 use Rattle.ecma_imports.specs.declared.stage.Stage.TheVariants.{Nothing}

@@ -1,5 +1,5 @@
 use Rattle.std.proofs.Common.{sym, ◌∙◌}
-use Rattle.ecma_lexer.specs.Session.{lexer_state}
+use Rattle.ecma_state.specs.Session.{lexer_state}
 use Rattle.ecma_lines.proofs.Gathering.{passed-end, passed-next}
 use Rattle.ecma_lines.proofs.Listing.{some-less}
 use Rattle.ecma_lines.proofs.comments.read_out.Goals as goal

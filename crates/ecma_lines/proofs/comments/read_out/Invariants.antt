@@ -1,6 +1,6 @@
 -- So many reads gave a token each, until the end is answered.
-use Rattle.ecma_lexer.specs.Ending.{most_tokens}
-use Rattle.ecma_lexer.specs.Session.{lexer_state}
+use Rattle.ecma_stream.specs.Ending.{most_tokens}
+use Rattle.ecma_state.specs.Session.{lexer_state}
 use Rattle.ecma_lines.proofs.Gathering.{PassedSoFar}
 use Rattle.ecma_lines.proofs.comments.read_out.Given as goal
 

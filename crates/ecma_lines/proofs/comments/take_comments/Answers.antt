@@ -1,5 +1,5 @@
 use Rattle.std.proofs.Common.{◌∙◌}
-use Rattle.ecma_lexer.specs.Session.{lexer_state}
+use Rattle.ecma_state.specs.Session.{lexer_state}
 use Rattle.ecma_lines.proofs.Gathering.{handed-all}
 use Rattle.ecma_lines.proofs.comments.take_comments.Goals as goal
 

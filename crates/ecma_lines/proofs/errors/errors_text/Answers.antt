@@ -1,7 +1,7 @@
 use Rattle.std.proofs.Common.{◌++◌, sym, ap, map, ◌∙◌}
 use Rattle.std.specs.Prelude.{flat_map}
 use Rattle.ecma_token.specs.View.{spanned_view}
-use Rattle.ecma_lexer.specs.Session.{lexer_state}
+use Rattle.ecma_state.specs.Session.{lexer_state}
 use Rattle.ecma_lines.specs.ErrorLines.{token_lines}
 use Rattle.ecma_lines.proofs.Listing.{errors-end, errors-next, listed-plain, listed-start, some-less}
 use Rattle.ecma_lines.proofs.errors.errors_text.Goals as goal

@@ -1,6 +1,6 @@
 -- The lines so far are those of the errors of the tokens that so many reads gave, until the end is answered.
-use Rattle.ecma_lexer.specs.Ending.{most_tokens}
-use Rattle.ecma_lexer.specs.Session.{lexer_state}
+use Rattle.ecma_stream.specs.Ending.{most_tokens}
+use Rattle.ecma_state.specs.Session.{lexer_state}
 use Rattle.ecma_lines.specs.ErrorLines.{token_lines}
 use Rattle.ecma_lines.proofs.Listing.{Listed}
 use Rattle.ecma_lines.proofs.errors.errors_text.Given as goal

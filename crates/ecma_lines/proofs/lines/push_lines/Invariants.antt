@@ -1,7 +1,7 @@
 -- What was added is the lines of the first tokens.
 use Rattle.std.proofs.Common.{◌≡◌, ◌++◌, map, take}
 use Rattle.ecma_token.specs.View.{spanned_view}
-use Rattle.ecma_lexer.specs.Session.{kept_of}
+use Rattle.ecma_state.specs.Session.{kept_of}
 use Rattle.ecma_lines.specs.Lines.{lines}
 use Rattle.ecma_lines.proofs.lines.push_lines.Given as goal
 

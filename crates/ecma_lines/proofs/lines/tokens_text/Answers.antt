@@ -1,8 +1,8 @@
 use Rattle.std.proofs.Common.{false, ◌≡◌, ◌++◌, sym, ap, map, ◌∙◌}
 use Rattle.std.specs.Prelude.{flat_map}
 use Rattle.ecma_token.specs.View.{spanned_view}
-use Rattle.ecma_lexer.specs.Session.{kept_of, lexer_state}
-use Rattle.ecma_lexer.specs.Run.{reading_of}
+use Rattle.ecma_state.specs.Session.{kept_of, lexer_state}
+use Rattle.ecma_state.specs.Run.{reading_of}
 use Rattle.ecma_lines.specs.Lines.{line, lines}
 use Rattle.ecma_lines.proofs.Listing.{first-within, line_of, lines-end, lines-kept, listed-next, listed-plain, listed-start, no-kept, session_behind-standing, some-kept, token-less, token-within}
 use Rattle.ecma_lines.proofs.lines.tokens_text.Goals as goal

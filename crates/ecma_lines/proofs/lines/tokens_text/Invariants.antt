@@ -1,6 +1,6 @@
 -- The lines so far are those of the tokens that so many reads gave.
-use Rattle.ecma_lexer.specs.Ending.{most_tokens}
-use Rattle.ecma_lexer.specs.Session.{lexer_state}
+use Rattle.ecma_stream.specs.Ending.{most_tokens}
+use Rattle.ecma_state.specs.Session.{lexer_state}
 use Rattle.ecma_lines.proofs.Listing.{Listed, line_of}
 use Rattle.ecma_lines.proofs.lines.tokens_text.Given as goal
 

@@ -1,5 +1,5 @@
 use Rattle.std.proofs.Common.{arith, sym, ◌∙◌}
-use Rattle.ecma_lexer.specs.Session.{lexer_state}
+use Rattle.ecma_state.specs.Session.{lexer_state}
 use Rattle.ecma_measure.proofs.Counting.{counted-end, counted-fits, counted-less, counted-next}
 use Rattle.ecma_measure.proofs.count.count_tokens.Goals as goal
 

@@ -1,9 +1,9 @@
 use Rattle.std.proofs.Common.{subst, sym}
 use Rattle.std.specs.List.{All}
 use Rattle.std.specs.Str.{chars}
-use Rattle.ecma_lexer.specs.Joined.{StandsIn}
-use Rattle.ecma_lexer.specs.Sharing.{begin}
-use Rattle.ecma_lexer.proofs.KeptPlaces.{replayed_tokens_stand}
+use Rattle.ecma_canonical.specs.Joined.{StandsIn}
+use Rattle.ecma_clean.specs.Sharing.{begin}
+use Rattle.ecma_canonical.proofs.KeptPlaces.{replayed_tokens_stand}
 use Rattle.canonical_tests.proofs.tests.canonical.joined.Goals as goal
 
 pub canonical_text-requires-clause-stand : goal.canonical_text-requires-clause-stand

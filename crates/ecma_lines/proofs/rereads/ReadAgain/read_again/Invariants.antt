@@ -1,6 +1,6 @@
 -- The numbers that are left lead on from where the run stands.
 use Rattle.std.proofs.Common.{◌≡◌, drop}
-use Rattle.ecma_lexer.specs.Session.{Session}
+use Rattle.ecma_state.specs.Session.{Session}
 use Rattle.ecma_lines.specs.Rereads.{Stands, behind_rereads}
 use Rattle.ecma_lines.proofs.rereads.ReadAgain.read_again.Given as goal
 

@@ -2,11 +2,11 @@ use Rattle.std.proofs.Common.{◌≡◌, ◌∙◌, ◌+◌, ◌-◌, ◌<◌, s
 use Rattle.std.specs.Prelude.{option_map}
 use Rattle.std.proofs.lemmas.List.{map-append}
 use Rattle.ecma_token.specs.View.{spanned_view}
-use Rattle.ecma_lexer.specs.declared.step.Step.TheVariants.{Read}
-use Rattle.ecma_lexer.specs.Ending.{behind_reads}
-use Rattle.ecma_lexer.specs.Run.{act_on, reading_of}
-use Rattle.ecma_lexer.specs.Session.{lexer_state, state_of}
-use Rattle.ecma_lexer.specs.Slashes.{slash_answered}
+use Rattle.ecma_state.specs.declared.step.Step.TheVariants.{Read}
+use Rattle.ecma_stream.specs.Ending.{behind_reads}
+use Rattle.ecma_state.specs.Run.{act_on, reading_of}
+use Rattle.ecma_state.specs.Session.{lexer_state, state_of}
+use Rattle.ecma_stream.specs.Slashes.{slash_answered}
 use Rattle.ecma_lines.proofs.RereadLemmas.{no-slash-behind, token-behind}
 use Rattle.ecma_lines.proofs.rereads.ReadAgain.read_on.Goals as goal
 

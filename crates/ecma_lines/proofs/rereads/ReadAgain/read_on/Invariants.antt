@@ -1,7 +1,7 @@
 -- The reads that are left lead on from where the run stands.
 use Rattle.std.proofs.Common.{◌≡◌, ◌-◌}
-use Rattle.ecma_lexer.specs.Ending.{behind_reads}
-use Rattle.ecma_lexer.specs.Session.{Session}
+use Rattle.ecma_stream.specs.Ending.{behind_reads}
+use Rattle.ecma_state.specs.Session.{Session}
 use Rattle.ecma_lines.specs.Rereads.{Stands}
 use Rattle.ecma_lines.proofs.rereads.ReadAgain.read_on.Given as goal
 

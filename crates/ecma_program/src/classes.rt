@@ -1,0 +1,79 @@
+//! What is written of the pieces that cover a text: a line each.
+ghost use Rattle.std.specs.Prelude.{◌≡◌, ◌++◌, ◌^◌, ◌<◌, Some, length, string_bytes, IfOk, MatchResult, OnOk};
+ghost use Rattle.ecma_program.specs.ClassLines as rows;
+ghost use Rattle.ecma_lines.specs.Rereads.{Lacks};
+
+use crate::kept_tokens::keep_tokens;
+use ecma_classes::{Class, Piece, classes};
+use ecma_lines::comments::take_comments;
+use ecma_lines::rereads::open;
+use ecma_options::Options;
+use ecma_place::BytePos;
+use ecma_stdio::Fault;
+use std::alloc::{AllocError, Global};
+
+fn class_name(class: Class) -> &'static str
+    ensures { result.now ≡ rows.class_name class }
+{
+    match class {
+        Class::Token => "token",
+        Class::Comment => "comment",
+        Class::Trivia => "trivia",
+    }
+}
+
+/// The line of a piece: where it begins and ends, and its class.
+fn line(alloc: Global, piece: Piece) -> Result<String, AllocError>
+    ensures { IfOk result (λ text. string_bytes text ≡ rows.piece_line piece) }
+{
+    let lo = piece.span.lo.0;
+    let hi = piece.span.hi.0;
+    let class = class_name(piece.class);
+    format!(in alloc; "{lo} {hi} {class}\n")
+}
+
+/// Adds the lines of pieces, in order.
+fn push_pieces(alloc: Global, out: &mut Vec<u8>, pieces: &[Piece]) -> Result<(), AllocError>
+    ensures { OnOk result (out.new.items ≡ out.old.items ++ rows.piece_lines pieces.now) }
+{
+    for piece in pieces {
+        let line = line(alloc, *piece)?;
+        out.extend_from_slice(line.as_bytes())?;
+    }
+    Ok(())
+}
+
+/// The pieces that cover a text which starts at the place 0, where the tokens with these numbers are read again.
+fn pieces(alloc: Global, options: Options, rereads: &[u64], text: &str) -> Result<Vec<Piece>, Fault>
+    requires { length text.now < 2 ^ 32 }
+    ensures { MatchResult result
+        (λ pieces. rows.text_pieces options rereads.now text.now ≡ Some pieces.items)
+        (λ fault. Lacks (rows.text_pieces options rereads.now text.now) fault) }
+{
+    let mut opened = open(alloc, true, options, rereads, text)?;
+    let kept = keep_tokens(alloc, &mut opened)?;
+    let comments = take_comments(alloc, &mut opened.lexer)?;
+    Ok(classes(alloc, text, BytePos(0), &kept, &comments)?)
+}
+
+/// The lines of the pieces that cover a text which starts at the place 0, where the tokens with these numbers are read again.
+///
+/// # Errors
+///
+/// `NoSlash` where one of those is no slash or isn't there; `OutOfMemory`.
+pub fn classes_text(
+    alloc: Global,
+    options: Options,
+    rereads: &[u64],
+    text: &str,
+) -> Result<Vec<u8>, Fault>
+    requires { length text.now < 2 ^ 32 }
+    ensures { MatchResult result
+        (λ out. rows.classes_text options rereads.now text.now ≡ Some out.items)
+        (λ fault. Lacks (rows.classes_text options rereads.now text.now) fault) }
+{
+    let pieces = pieces(alloc, options, rereads, text)?;
+    let mut out = Vec::new(alloc);
+    push_pieces(alloc, &mut out, &pieces)?;
+    Ok(out)
+}

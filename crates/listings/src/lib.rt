@@ -1,0 +1,7 @@
+//! Listings: what a text comes to, read by a lexer or played by steps, as rows of tests hold it.
+#![tactic(auto)]
+
+pub mod commands;
+pub mod listing;
+pub mod played;
+pub mod store;

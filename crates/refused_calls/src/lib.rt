@@ -1,0 +1,6 @@
+//! The other calls of the lexer that take memory, played: what a parser has it keep, lists of steps, and pieces.
+#![tactic(auto)]
+
+pub mod cover;
+pub mod kept;
+pub mod whole;

@@ -1,0 +1,91 @@
+//! Lists of steps played over texts, and the canonical texts of these.
+ghost use Rattle.std.specs.Prelude.{◌+◌, ◌<◌, ◌^◌, length};
+
+use ecma_canonical::{Canon, canonical};
+use ecma_place::StringInput;
+use ecma_replay::{Replay, replay};
+use ecma_state::Step;
+use refused_reads::rows::{DEEP, START, TEXTS, contexts, module, settings};
+use refused_reads::told::{tell_comments, tell_errors};
+use std::alloc::Global;
+use std::io;
+
+fn played<'a>(
+    rt: &impl Print,
+    alloc: Global,
+    text: &'a str,
+    steps: &[Step],
+) -> io::Result<Replay<'a>>
+    requires { 0 + length text.now < 2 ^ 32 }
+{
+    let settings = settings();
+    match replay(alloc, &settings, text, START, steps) {
+        Ok(played) => Ok(played),
+        Err(_) => {
+            println!(rt; "refused replay")?;
+            Ok(replay(alloc, &settings, text, START, steps)?)
+        }
+    }
+}
+
+fn canon(rt: &impl Print, alloc: Global, text: &str, steps: &[Step]) -> io::Result<Canon>
+    requires { 0 + length text.now < 2 ^ 32 }
+{
+    let settings = settings();
+    match canonical(alloc, &settings, text, START, steps) {
+        Ok(canon) => Ok(canon),
+        Err(_) => {
+            println!(rt; "refused canonical")?;
+            Ok(canonical(alloc, &settings, text, START, steps)?)
+        }
+    }
+}
+
+fn play_text(rt: &impl Print, alloc: Global, text: &str, steps: &[Step]) -> io::Result<()> {
+    if !StringInput::fits(text, START) {
+        return Ok(());
+    }
+    println!(rt; "replay {text:?}")?;
+    let found = played(rt, alloc, text, steps)?;
+    let answers = found.answers.len();
+    let kept = found.kept.len();
+    println!(rt; "answers {answers}, kept {kept}, ended {}", found.ended)?;
+    tell_errors(rt, "recorded", found.errors.as_slice())?;
+    tell_errors(rt, "waiting", found.waiting.as_slice())?;
+    tell_comments(rt, &found.comments)?;
+    match canon(rt, alloc, text, steps)? {
+        Canon::Text(text) => println!(rt; "canonical {:?}", text.as_str()),
+        Canon::NotClean => println!(rt; "not clean"),
+        Canon::TooLong => println!(rt; "too long"),
+    }
+}
+
+/// Plays reads over each text, what turns out to be a module, and a way back among many contexts.
+pub fn play(rt: &impl Print, alloc: Global) -> io::Result<()> {
+    let reads = [
+        Step::Read,
+        Step::Read,
+        Step::Read,
+        Step::Read,
+        Step::Read,
+        Step::Read,
+        Step::Read,
+        Step::Read,
+    ];
+    for text in TEXTS {
+        play_text(rt, alloc, text, &reads)?;
+    }
+    let module = [Step::Read, Step::Read, Step::Read, Step::SetCtx(module())];
+    play_text(rt, alloc, "a\n-->x\nb", &module)?;
+    let back = [
+        Step::SetContexts(contexts(alloc)?),
+        Step::Read,
+        Step::Read,
+        Step::Save,
+        Step::Read,
+        Step::Back(0),
+        Step::Read,
+        Step::TakeErrors,
+    ];
+    play_text(rt, alloc, DEEP, &back)
+}

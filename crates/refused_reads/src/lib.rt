@@ -1,0 +1,7 @@
+//! The ways in which a token is asked for, played over texts of which something takes memory, a line for each answer.
+#![tactic(auto)]
+
+pub mod asked;
+pub mod reading;
+pub mod rows;
+pub mod told;
