@@ -2,8 +2,8 @@
 #![tactic(auto)]
 
 use ecma_lexer::Lexer;
-use ecma_place::{BytePos, StringInput};
-use ecma_syntax::{EsVersion, Syntax};
+use ecma_lexer::place::{BytePos, StringInput};
+use ecma_lexer::syntax::{EsVersion, Syntax};
 use std::io;
 
 const SOURCE: &str = "let x = 1;";
