@@ -7,8 +7,8 @@ use Rattle.ecma_classes.specs.Classes.{Tile, joined}
 use Rattle.ecma_classes.specs.declared.piece.Class as piece
 use Rattle.ecma_classes.specs.declared.piece.Class.TheVariants as pieces
 use Rattle.ecma_classes.specs.declared.piece.Piece.{Piece}
-use Rattle.ecma_html.specs.declared...«class».Class.{Class}
-use Rattle.ecma_html.specs.declared...«class».Class.TheVariants.{Keyword, Literal, Name, Property, Text, Template, Number, Expression, Comment, Wrong}
+use Rattle.ecma_html.specs.declared.«class».Class.{Class}
+use Rattle.ecma_html.specs.declared.«class».Class.TheVariants.{Keyword, Literal, Name, Property, Text, Template, Number, Expression, Comment, Wrong}
 use Rattle.ecma_html.specs.Markup.{close_tag, escaped, escaped_byte, html_of, open_tag, piece_html, pieces_html, styled_html}
 use Rattle.ecma_html.specs.Styles.{Styled, class_name, left_classes, piece_class, styled}
 use Rattle.ecma_html.specs.Unmark.{Inside, Outside, Reference, Tag, Unmarked, at, in_text, read_byte, shown, shown_byte, unmark}

@@ -10,8 +10,8 @@ use Rattle.ecma_classes.specs.Classes.{holds_byte}
 use Rattle.ecma_classes.specs.declared.piece.Class as piece
 use Rattle.ecma_classes.specs.declared.piece.Class.TheVariants as pieces
 use Rattle.ecma_classes.specs.declared.piece.Piece.{Piece}
-use Rattle.ecma_html.specs.declared...«class».Class.{Class}
-use Rattle.ecma_html.specs.declared...«class».Class.TheVariants.{Keyword, Literal, Name, Property, Text, Template, Number, Expression, Comment, Wrong}
+use Rattle.ecma_html.specs.declared.«class».Class.{Class}
+use Rattle.ecma_html.specs.declared.«class».Class.TheVariants.{Keyword, Literal, Name, Property, Text, Template, Number, Expression, Comment, Wrong}
 
 abbrev pub class_name : Class → List ℕ
 class_name Keyword = codes "keyword"
