@@ -1,0 +1,108 @@
+//! A TypeScript parser looks ahead again and again, and goes back: by copies of the lexer, and by lists of steps.
+ghost use Rattle.std.specs.Prelude.{◌<◌, ◌^◌, length};
+
+use crate::job::Job;
+use crate::reading::{finish, keep_by_flag};
+use crate::settings::{fits, options};
+use ecma_options::begin;
+use ecma_place::BytePos;
+use ecma_replay::{Replay, replay};
+use ecma_samples::{Random, Sample};
+use ecma_state::Step;
+use ecma_stream::Lexer;
+use std::alloc::{AllocError, Global};
+
+/// How many tokens lie between two places where a parser looks ahead.
+const BETWEEN: u64 = 20;
+
+/// How many tokens it looks ahead at most.
+const AHEAD: usize = 12;
+
+/// Reads so many tokens ahead, and goes back.
+fn look_ahead(job: &mut Job, lexer: &mut Lexer, tokens: usize) -> Result<(), AllocError> {
+    let copy = lexer.copy()?;
+    for _ in 0..tokens {
+        if !keep_by_flag(lexer, &mut job.digest)? {
+            break;
+        }
+    }
+    lexer.go_back(copy);
+    Ok(())
+}
+
+/// Reads a text, and looks ahead every so many tokens.
+fn parse(job: &mut Job, random: &mut Random, comments: bool, text: &str) -> Result<(), AllocError>
+    requires { length text.now < 2 ^ 32 }
+{
+    let mut lexer = begin(job.alloc, comments, options(true, true), text)?;
+    for number in 0..u64::MAX {
+        if number % BETWEEN == 0 {
+            look_ahead(job, &mut lexer, random.below(AHEAD))?;
+        }
+        if !keep_by_flag(&mut lexer, &mut job.digest)? {
+            break;
+        }
+    }
+    finish(lexer, &mut job.digest);
+    Ok(())
+}
+
+/// Steps that read a text of so many bytes, with a save every so many tokens that is gone back to.
+fn steps_for(alloc: Global, random: &mut Random, bytes: usize) -> Result<Vec<Step>, AllocError> {
+    let mut steps = Vec::new(alloc);
+    for save in 0..bytes / 200 {
+        steps.push(Step::Save)?;
+        for _ in 0..random.below(AHEAD) {
+            steps.push(Step::Read)?;
+        }
+        steps.push(Step::Back(save))?;
+        for _ in 0..2 * BETWEEN {
+            steps.push(Step::Read)?;
+        }
+    }
+    Ok(steps)
+}
+
+fn add_replay(job: &mut Job, played: &Replay) {
+    job.digest.add(played.answers.len() as u64);
+    job.digest.add_kept(&played.kept);
+    job.digest.add_errors(played.errors.as_slice());
+    job.digest.add_errors(played.waiting.as_slice());
+    job.digest.add(u64::from(played.ended));
+    job.digest.add_comments(&played.comments);
+}
+
+/// Plays such steps over a text.
+fn play(job: &mut Job, random: &mut Random, comments: bool, text: &str) -> Result<(), AllocError>
+    requires { length text.now < 2 ^ 32 }
+{
+    let steps = steps_for(job.alloc, random, text.len())?;
+    let settings = options(true, true).settings(comments);
+    let played = replay(job.alloc, &settings, text, BytePos(0), &steps)?;
+    add_replay(job, &played);
+    Ok(())
+}
+
+/// One text by copies, and another by steps.
+fn look_twice(job: &mut Job, comments: bool, count: usize, bytes: usize) -> Result<(), AllocError> {
+    let mut pool = job.pool(Sample::TypeScript)?;
+    let mut random = Random::new(job.seed);
+    for _ in 0..job.texts(count) {
+        let text = pool.text(job.alloc, job.bytes(bytes))?;
+        if fits(text.as_str()) {
+            parse(job, &mut random, comments, text.as_str())?;
+        }
+        let text = pool.text(job.alloc, job.bytes(bytes / 2))?;
+        if fits(text.as_str()) {
+            play(job, &mut random, comments, text.as_str())?;
+        }
+    }
+    Ok(())
+}
+
+pub fn run(job: &mut Job) -> Result<(), AllocError> {
+    look_twice(job, true, 100, 20_000)?;
+    look_twice(job, true, 4, 200_000)?;
+    look_twice(job, false, 1, 600_000)?;
+    look_twice(job, true, 1, 400_000)
+}

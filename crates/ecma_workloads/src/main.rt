@@ -1,0 +1,86 @@
+//! Jobs that users of the lexer wait for, over texts that a number gives: `NAME SEED` does one, and writes a digest of all its
+//! results; with no words each is done in its small form.
+#![tactic(auto)]
+
+mod awkward;
+mod digest;
+mod job;
+mod keep;
+mod lookahead;
+mod modules;
+mod play;
+mod reading;
+mod report;
+mod settings;
+
+use crate::job::Job;
+use ecma_stdio::{arguments, exit_code, exit_without_words, number, words};
+use std::alloc::AllocError;
+use std::io;
+use std::process::ExitCode;
+
+/// The status where the words name no job, or no seed.
+const BAD_WORDS: u8 = 2;
+
+/// The status where there was no memory, or the digest did not go out.
+const FAILED: u8 = 1;
+
+const JOBS: [&str; 6] = ["keep", "lookahead", "play", "report", "awkward", "modules"];
+
+/// Does the job of this name, and says whether there is one.
+fn run_job(job: &mut Job, name: &str) -> Result<bool, AllocError> {
+    match name {
+        "keep" => keep::run(job)?,
+        "lookahead" => lookahead::run(job)?,
+        "play" => play::run(job)?,
+        "report" => report::run(job)?,
+        "awkward" => awkward::run(job)?,
+        "modules" => modules::run(job)?,
+        _ => return Ok(false),
+    }
+    Ok(true)
+}
+
+/// Does a job, writes its digest, and answers the status.
+fn tell_job(rt: &HostRuntime, name: &str, seed: u64, small: bool) -> u8 {
+    let mut job = Job::new(rt.alloc(), seed, small);
+    match run_job(&mut job, name) {
+        Ok(true) => {
+            let digest = job.digest.value();
+            let told: io::Result<()> = println!(rt; "{name} {digest}");
+            if told.is_ok() { 0 } else { FAILED }
+        }
+        Ok(false) => BAD_WORDS,
+        Err(_) => FAILED,
+    }
+}
+
+/// The seed that a word writes.
+fn seed_of(word: &str) -> Option<u64> {
+    if word == "0" { Some(0) } else { number(word) }
+}
+
+/// Does what the words ask for, and answers the status.
+fn run(rt: &HostRuntime, words: &[String]) -> u8 {
+    match words {
+        [] => {
+            let mut status = 0;
+            for name in JOBS {
+                status = tell_job(rt, name, 1, true).max(status);
+            }
+            status
+        }
+        [name, seed] => match seed_of(seed.as_str()) {
+            Some(seed) => tell_job(rt, name.as_str(), seed, false),
+            None => BAD_WORDS,
+        },
+        _ => BAD_WORDS,
+    }
+}
+
+fn main(rt: HostRuntime) -> ExitCode {
+    match arguments(&rt) {
+        Ok(arguments) => exit_code(run(&rt, words(arguments.as_slice()))),
+        Err(_) => exit_without_words(),
+    }
+}

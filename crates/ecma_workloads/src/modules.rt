@@ -1,0 +1,90 @@
+//! Many small files: imports, HTML, canonical texts and rows of tokens.
+use crate::job::Job;
+use crate::settings::{fits, options};
+use ecma_html::html_text;
+use ecma_imports::imports_text;
+use ecma_rows::{TokenRow, count_tokens, write_canonical, write_tokens};
+use ecma_samples::{Random, Sample};
+use std::alloc::AllocError;
+
+/// Options for rows of numbers: a module, slashes by the flag.
+const BY_FLAG: u32 = 2 + 8;
+
+/// How long the modules are, and up to a hundred bytes more.
+const LENGTHS: &[usize] = &[100, 200, 400, 800, 1_600, 3_200, 6_400, 12_800];
+
+/// How many rows there is room for.
+const ROOM: usize = 8192;
+
+fn write_imports(job: &mut Job, text: &str) -> Result<(), AllocError> {
+    if !fits(text) {
+        return Ok(());
+    }
+    let options = options(false, true);
+    let settings = options.settings(false);
+    let lines = imports_text(job.alloc, &settings, options.context(), text)?;
+    job.digest.add_bytes(&lines);
+    Ok(())
+}
+
+fn write_html(job: &mut Job, text: &str) -> Result<(), AllocError> {
+    if !fits(text) {
+        return Ok(());
+    }
+    let options = options(false, true);
+    let settings = options.settings(true);
+    let html = html_text(job.alloc, &settings, options.context(), text)?;
+    job.digest.add_bytes(&html);
+    Ok(())
+}
+
+fn write_rows(job: &mut Job, room: &mut [TokenRow], text: &str) -> Result<(), AllocError> {
+    let answer = write_tokens(job.alloc, text.as_bytes(), BY_FLAG, &[], room)?;
+    job.digest.add(answer.count as u64);
+    for row in room.iter().take(answer.count) {
+        job.digest
+            .add((u64::from(row.hi) << 32) | u64::from(row.lo));
+        job.digest
+            .add((u64::from(row.kind) << 32) | u64::from(row.flags));
+    }
+    Ok(())
+}
+
+fn write_canon(job: &mut Job, room: &mut [u8], text: &str) -> Result<(), AllocError> {
+    let answer = write_canonical(job.alloc, text.as_bytes(), BY_FLAG, &[], room)?;
+    job.digest.add(answer.count as u64);
+    let written = answer.count.min(room.len());
+    job.digest.add_bytes(&room[..written]);
+    Ok(())
+}
+
+pub fn run(job: &mut Job) -> Result<(), AllocError> {
+    let mut pool = job.pool(Sample::Module)?;
+    let mut random = Random::new(job.seed);
+    let none = TokenRow {
+        lo: 0,
+        hi: 0,
+        kind: 0,
+        flags: 0,
+    };
+    let mut rows = vec![in job.alloc; none; ROOM]?;
+    let mut canon = vec![in job.alloc; 0u8; 32_768]?;
+    for _ in 0..job.texts(1_500) {
+        let length = match LENGTHS.get(random.below(LENGTHS.len())) {
+            Some(length) => length.saturating_add(random.below(100)),
+            None => 0,
+        };
+        let text = pool.text(job.alloc, length)?;
+        write_imports(job, text.as_str())?;
+        let text = pool.text(job.alloc, length)?;
+        write_html(job, text.as_str())?;
+        let text = pool.text(job.alloc, length)?;
+        write_rows(job, &mut rows, text.as_str())?;
+        let text = pool.text(job.alloc, length)?;
+        let answer = count_tokens(job.alloc, text.as_str().as_bytes(), BY_FLAG, &[])?;
+        job.digest.add(answer.count as u64);
+        let text = pool.text(job.alloc, length)?;
+        write_canon(job, &mut canon, text.as_str())?;
+    }
+    Ok(())
+}

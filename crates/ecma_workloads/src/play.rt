@@ -1,0 +1,112 @@
+//! Lists of steps are made and played: for the tokens, the canonical text, the pieces, HTML and imports.
+ghost use Rattle.std.specs.Prelude.{◌<◌, ◌^◌, length};
+
+use crate::job::Job;
+use crate::settings::{fits, options};
+use ecma_canonical::{Canon, canonical};
+use ecma_classes::{Class, Piece};
+use ecma_html::html_of_steps;
+use ecma_imports::imports_of_steps;
+use ecma_pieces::classes_of_steps;
+use ecma_place::BytePos;
+use ecma_replay::{Answer, Replay, replay};
+use ecma_samples::Sample;
+use ecma_slashes::steps_by_flag;
+use ecma_state::Step;
+use std::alloc::AllocError;
+
+const START: BytePos = BytePos(0);
+
+/// What steps are played for.
+#[derive(Clone, Copy)]
+enum Asked {
+    Tokens,
+    Canonical,
+    Pieces,
+    Html,
+    Imports,
+}
+
+fn add_replay(job: &mut Job, played: &Replay) {
+    for answer in &played.answers {
+        if let Answer::Token(token) = answer {
+            job.digest.add_token(token);
+        }
+    }
+    job.digest.add_kept(&played.kept);
+    job.digest.add_errors(played.errors.as_slice());
+    job.digest.add_errors(played.waiting.as_slice());
+    job.digest.add(u64::from(played.ended));
+    job.digest.add_comments(&played.comments);
+}
+
+fn add_canon(job: &mut Job, canon: &Canon) {
+    match canon {
+        Canon::Text(text) => job.digest.add_bytes(text.as_str().as_bytes()),
+        Canon::NotClean => job.digest.add(1),
+        Canon::TooLong => job.digest.add(2),
+    }
+}
+
+fn add_pieces(job: &mut Job, pieces: &[Piece]) {
+    for piece in pieces {
+        job.digest.add_span(piece.span);
+        job.digest.add(match piece.class {
+            Class::Token => 1,
+            Class::Comment => 2,
+            Class::Trivia => 3,
+        });
+    }
+}
+
+/// Plays the steps over the text that they were made for.
+fn play(job: &mut Job, asked: Asked, text: &str, steps: &[Step]) -> Result<(), AllocError>
+    requires { length text.now < 2 ^ 32 }
+{
+    let settings = options(false, false).settings(true);
+    let alloc = job.alloc;
+    match asked {
+        Asked::Tokens => add_replay(job, &replay(alloc, &settings, text, START, steps)?),
+        Asked::Canonical => add_canon(job, &canonical(alloc, &settings, text, START, steps)?),
+        Asked::Pieces => add_pieces(
+            job,
+            &classes_of_steps(alloc, &settings, text, START, steps)?,
+        ),
+        Asked::Html => job
+            .digest
+            .add_bytes(&html_of_steps(alloc, &settings, text, steps)?),
+        Asked::Imports => job
+            .digest
+            .add_bytes(&imports_of_steps(alloc, &settings, text, steps)?),
+    }
+    Ok(())
+}
+
+/// Makes the steps of a text, and plays them.
+fn step_through(job: &mut Job, asked: Asked, text: &str) -> Result<(), AllocError>
+    requires { length text.now < 2 ^ 32 }
+{
+    let options = options(false, false);
+    let settings = options.settings(true);
+    let steps = steps_by_flag(job.alloc, &settings, options.context(), text, START)?;
+    play(job, asked, text, &steps)
+}
+
+pub fn run(job: &mut Job) -> Result<(), AllocError> {
+    let mut pool = job.pool(Sample::Script)?;
+    for _ in 0..job.texts(3) {
+        for asked in [
+            Asked::Tokens,
+            Asked::Canonical,
+            Asked::Pieces,
+            Asked::Html,
+            Asked::Imports,
+        ] {
+            let text = pool.text(job.alloc, job.bytes(1_000_000))?;
+            if fits(text.as_str()) {
+                step_through(job, asked, text.as_str())?;
+            }
+        }
+    }
+    Ok(())
+}
