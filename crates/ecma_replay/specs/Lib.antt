@@ -1,3 +1,4 @@
+pub mod Playing
 pub mod Replay
 pub use Rattle.ecma_state.specs.Attachment
 pub use Rattle.ecma_state.specs.Buffers

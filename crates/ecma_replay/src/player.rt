@@ -1,8 +1,9 @@
 //! A lexer that takes steps, and keeps the tokens that it answered.
-ghost use Rattle.std.specs.Prelude.{◌≡◌, ◌∷◌, [], drop, reverse, if◌then◌else◌, IfOk, OnOk};
+ghost use Rattle.std.specs.Prelude.{◌≡◌, ◌≤◌, ◌++◌, ◌∷◌, [], List, length, reverse, if◌then◌else◌, IfOk, OnOk};
 ghost use Rattle.ecma_state.specs.Session.{Session, lexer_state, state_of};
 ghost use Rattle.ecma_state.specs.Run.{act};
-ghost use Rattle.ecma_replay.specs.Replay.{Acts, IsAt};
+ghost use Rattle.ecma_replay.specs.Playing.{Acts, Grows, IsAt, kept_at, without};
+ghost use Rattle.ecma_replay.specs.declared.player.Entry.{Entry};
 ghost use Rattle.ecma_state.specs.declared.step.Step.{Step};
 
 use crate::answer::Answer;
@@ -14,72 +15,97 @@ use ecma_syntax::Context;
 use std::alloc::{AllocError, Global};
 use std::marker::Model;
 
-/// The tokens that are kept, which contracts see as a list, the newest first.
+/// A token that was kept.
+#[derive(Clone, Copy)]
+pub struct Entry {
+    pub token: Kept,
+    /// Whether it stands in the place of the newest before it, since that was read again.
+    pub again: bool,
+    /// The number of what was kept before it.
+    pub before: usize,
+}
+
+/// All tokens that were kept, those too that were gone back on, of which contracts see the newest first.
+///
+/// What was kept at a time has a number: how many tokens had been kept by then. So going back is taking an older number, and
+/// nothing is copied for it.
 #[derive(Drop)]
 pub struct KeptTokens {
     /// The newest is last.
-    items: Vec<Kept>,
+    entries: Vec<Entry>,
 }
 
 impl Model for KeptTokens {
     ghost use Rattle.std.specs.Prelude.{List, reverse};
-    ghost use Rattle.ecma_state.specs.declared.kept.Kept.{Kept};
+    ghost use Rattle.ecma_replay.specs.declared.player.Entry.{Entry};
 
-    ghost Value = { List Kept };
+    ghost Value = { List Entry };
 
-    ghost view = { λ k. reverse k.items.items };
+    ghost view = { λ k. reverse k.entries.items };
 }
 
 impl KeptTokens {
     /// No tokens, which takes no memory.
-    fn new(alloc: Global) -> KeptTokens
+    pub fn new(alloc: Global) -> KeptTokens
         ensures { result ≡ [] }
     {
         KeptTokens {
-            items: Vec::new(alloc),
+            entries: Vec::new(alloc),
         }
     }
 
-    /// Keeps a token, in the place of the newest where it was read again.
-    fn keep(&mut self, again: bool, token: Kept) -> Result<(), AllocError>
-        ensures { OnOk result (self.new ≡ token ∷ (if again then drop 1 self.old else self.old)) }
+    /// Keeps a token, and answers the number of what is kept then.
+    fn keep(&mut self, entry: Entry) -> Result<usize, AllocError>
+        ensures kept { IfOk result (λ number. kept_at number self.new ≡ entry.token ∷ without entry.again (kept_at entry.before self.old)) }
+        ensures within { IfOk result (λ number. number ≤ length self.new) }
+        ensures grows { OnOk result (Grows self.old self.new) }
     {
-        if again {
-            let _ = self.items.pop();
+        self.entries.push(entry)?;
+        Ok(self.entries.len())
+    }
+
+    /// The tokens of a number, in the order in which they were kept.
+    pub fn into_vec(self, alloc: Global, number: usize) -> Result<Vec<Kept>, AllocError>
+        ensures { IfOk result (λ kept. reverse kept.items ≡ kept_at number self) }
+    {
+        let KeptTokens { mut entries } = self;
+        let mut kept = Vec::new(alloc);
+        let mut at = number;
+        let mut again = false;
+        'entries: while let Some(entry) = entries.pop() {
+            if at == entries.len() + 1 {
+                push_unless(&mut kept, again, entry.token)?;
+                again = entry.again;
+                at = entry.before;
+            }
         }
-        self.items.push(token)?;
-        Ok(())
-    }
-
-    /// The same tokens.
-    fn copy(&self) -> Result<KeptTokens, AllocError>
-        ensures { IfOk result (λ k. k ≡ self.now) }
-    {
-        Ok(KeptTokens {
-            items: Vec::from_slice(*self.items.allocator(), self.items.as_slice())?,
-        })
-    }
-
-    /// The tokens in the order in which they were kept.
-    pub fn into_vec(self) -> Vec<Kept>
-        ensures { reverse result.items ≡ self }
-    {
-        self.items
+        kept.reverse();
+        Ok(kept)
     }
 }
 
-/// A lexer, and the tokens that are kept of what it answered.
+/// Adds a token, but where it is passed over.
+fn push_unless(kept: &mut Vec<Kept>, passed: bool, token: Kept) -> Result<(), AllocError>
+    ensures { OnOk result (kept.new.items ≡ (if passed then kept.old.items else kept.old.items ++ token ∷ [])) }
+{
+    if !passed {
+        kept.push(token)?;
+    }
+    Ok(())
+}
+
+/// A lexer, and the number of the tokens that are kept of what it answered.
 #[derive(Drop)]
 pub struct Player<'a> {
     pub lexer: Lexer<'a>,
-    pub kept: KeptTokens,
+    pub kept: usize,
 }
 
 impl<'a> Model for Player<'a> {
     ghost use Rattle.std.specs.Coded.{codes};
     ghost use denote.Signature.{static_lft};
     ghost use Rattle.ecma_token.specs.contracts.error.Error as e;
-    ghost use Rattle.ecma_replay.specs.Replay.{PlayerValue};
+    ghost use Rattle.ecma_replay.specs.Playing.{PlayerValue};
 
     ghost Value = { PlayerValue };
 
@@ -90,22 +116,19 @@ impl<'a> Model for Player<'a> {
 
 impl<'a> Player<'a> {
     /// A lexer that has taken no step yet, which takes no memory.
-    pub fn new(alloc: Global, lexer: Lexer<'a>) -> Player<'a>
-        ensures { (s : Session) → lexer_state lexer.entry ≡ state_of s → s.past ≡ [] → IsAt s result }
+    pub fn new(lexer: Lexer<'a>) -> Player<'a>
+        ensures { (s : Session) → lexer_state lexer.entry ≡ state_of s → s.past ≡ [] → IsAt [] s result }
     {
-        Player {
-            lexer,
-            kept: KeptTokens::new(alloc),
-        }
+        Player { lexer, kept: 0 }
     }
 
     /// The same lexer with the same tokens.
     pub fn copy(&self) -> Result<Player<'a>, AllocError>
-        ensures { (s : Session) → IsAt s self.now → IfOk result (λ copy. IsAt s copy) }
+        ensures { (kept : List Entry) (s : Session) → IsAt kept s self.now → IfOk result (λ copy. IsAt kept s copy) }
     {
         Ok(Player {
             lexer: self.lexer.copy()?,
-            kept: self.kept.copy()?,
+            kept: self.kept,
         })
     }
 
@@ -118,13 +141,20 @@ impl<'a> Player<'a> {
         self.kept = kept;
     }
 
-    pub fn read(&mut self) -> Result<Answer<'a>, AllocError>
-        ensures { (s : Session) → IsAt s self.old → IfOk result (λ answer. Acts (act s Step.Read) answer self.new) }
+    /// Reads, and keeps the token that is answered.
+    pub fn read(&mut self, kept: &mut KeptTokens) -> Result<Answer<'a>, AllocError>
+        ensures acts { (s : Session) → IsAt kept.old s self.old → IfOk result (λ answer. Acts kept.new (act s Step.Read) answer self.new) }
+        ensures grows { OnOk result (Grows kept.old kept.new) }
     {
         let again = self.lexer.reads_again();
+        let before = self.kept;
         match self.lexer.read()? {
             Some(token) => {
-                self.kept.keep(again, Kept::of(&token))?;
+                self.kept = kept.keep(Entry {
+                    token: Kept::of(&token),
+                    again,
+                    before,
+                })?;
                 Ok(Answer::Token(token))
             }
             None => Ok(Answer::End),
@@ -132,21 +162,21 @@ impl<'a> Player<'a> {
     }
 
     pub fn set_ctx(&mut self, context: Context) -> Result<Answer<'a>, AllocError>
-        ensures { (s : Session) → IsAt s self.old → IfOk result (λ answer. Acts (act s (Step.SetCtx context)) answer self.new) }
+        ensures { (kept : List Entry) (s : Session) → IsAt kept s self.old → IfOk result (λ answer. Acts kept (act s (Step.SetCtx context)) answer self.new) }
     {
         self.lexer.set_ctx(context)?;
         Ok(Answer::Done)
     }
 
     pub fn set_expr_allowed(&mut self, allowed: bool) -> Answer<'a>
-        ensures { (s : Session) → IsAt s self.old → Acts (act s (Step.SetExprAllowed allowed)) result self.new }
+        ensures { (kept : List Entry) (s : Session) → IsAt kept s self.old → Acts kept (act s (Step.SetExprAllowed allowed)) result self.new }
     {
         self.lexer.set_expr_allowed(allowed);
         Answer::Done
     }
 
     pub fn set_contexts(&mut self, contexts: &TokenContexts) -> Result<Answer<'a>, AllocError>
-        ensures { (s : Session) → IsAt s self.old → IfOk result (λ answer. Acts (act s (Step.SetContexts contexts.now)) answer self.new) }
+        ensures { (kept : List Entry) (s : Session) → IsAt kept s self.old → IfOk result (λ answer. Acts kept (act s (Step.SetContexts contexts.now)) answer self.new) }
     {
         let contexts = contexts.copy()?;
         self.lexer.set_token_context(contexts);
@@ -154,7 +184,7 @@ impl<'a> Player<'a> {
     }
 
     pub fn pop_context(&mut self) -> Answer<'a>
-        ensures { (s : Session) → IsAt s self.old → Acts (act s Step.PopContext) result self.new }
+        ensures { (kept : List Entry) (s : Session) → IsAt kept s self.old → Acts kept (act s Step.PopContext) result self.new }
     {
         if self.lexer.pop_context() {
             Answer::Done
@@ -164,7 +194,7 @@ impl<'a> Player<'a> {
     }
 
     pub fn reread(&mut self) -> Answer<'a>
-        ensures { (s : Session) → IsAt s self.old → Acts (act s Step.Reread) result self.new }
+        ensures { (kept : List Entry) (s : Session) → IsAt kept s self.old → Acts kept (act s Step.Reread) result self.new }
     {
         match self.lexer.last_slash() {
             Some(slash) => {
@@ -176,14 +206,14 @@ impl<'a> Player<'a> {
     }
 
     pub fn withdraw(&mut self) -> Answer<'a>
-        ensures { (s : Session) → IsAt s self.old → Acts (act s Step.Withdraw) result self.new }
+        ensures { (kept : List Entry) (s : Session) → IsAt kept s self.old → Acts kept (act s Step.Withdraw) result self.new }
     {
         self.lexer.set_next_regexp(None);
         Answer::Done
     }
 
     pub fn take_errors(&mut self) -> Answer<'a>
-        ensures { (s : Session) → IsAt s self.old → Acts (act s Step.TakeErrors) result self.new }
+        ensures { (kept : List Entry) (s : Session) → IsAt kept s self.old → Acts kept (act s Step.TakeErrors) result self.new }
     {
         Answer::Errors(self.lexer.take_errors())
     }

@@ -3,11 +3,12 @@ ghost use Rattle.std.specs.Prelude.{◌+◌, ◌<◌, ◌^◌, ◌++◌, ◌∷�
 ghost use Rattle.std.specs.Str.{chars};
 ghost use Rattle.ecma_state.specs.Session.{Session};
 ghost use Rattle.ecma_state.specs.Run.{start_of};
-ghost use Rattle.ecma_replay.specs.Replay.{Follows, Replays, TilesText, with_answer};
+ghost use Rattle.ecma_replay.specs.Playing.{Follows, with_answer};
+ghost use Rattle.ecma_replay.specs.Replay.{Replays, TilesText};
 ghost use Rattle.ecma_state.specs.declared.step.Step.{Step};
 
 use crate::answer::Answer;
-use crate::player::Player;
+use crate::player::{KeptTokens, Player};
 use crate::replayed::Replay;
 use ecma_place::{BytePos, StringInput};
 use ecma_state::settings::Settings;
@@ -20,6 +21,7 @@ use std::marker::Model;
 #[derive(Drop)]
 struct Runner<'a> {
     player: Player<'a>,
+    kept: KeptTokens,
     saves: Vec<Player<'a>>,
     answers: Vec<Answer<'a>>,
 }
@@ -29,13 +31,13 @@ impl<'a> Model for Runner<'a> {
     ghost use denote.Signature.{static_lft};
     ghost use Rattle.ecma_token.specs.contracts.error.Error as e;
     ghost use Rattle.ecma_token.specs.contracts.token.Token as t;
-    ghost use Rattle.ecma_replay.specs.Replay.{RunnerValue};
+    ghost use Rattle.ecma_replay.specs.Playing.{RunnerValue};
 
     ghost Value = { RunnerValue };
 
     ghost coded = { Prim.hlevel (codes, (e.the_row static_lft).coded, (t.the_row static_lft).coded) };
 
-    ghost view = { λ r. record { player = r.player; saves = r.saves.items; answers = r.answers.items } };
+    ghost view = { λ r. record { player = r.player; kept = r.kept; saves = r.saves.items; answers = r.answers.items } };
 }
 
 impl<'a> Runner<'a> {
@@ -45,7 +47,8 @@ impl<'a> Runner<'a> {
     {
         let lexer = Lexer::with_settings(alloc, settings, input);
         Runner {
-            player: Player::new(alloc, lexer),
+            player: Player::new(lexer),
+            kept: KeptTokens::new(alloc),
             saves: Vec::new(alloc),
             answers: Vec::new(alloc),
         }
@@ -77,7 +80,7 @@ impl<'a> Runner<'a> {
         ensures { (begin : Session) (xs : List Step) → Follows begin xs self.old → IfOk result (λ answer. Follows begin (xs ++ step.now ∷ []) (with_answer self.new answer)) }
     {
         match step {
-            Step::Read => self.player.read(),
+            Step::Read => self.player.read(&mut self.kept),
             Step::SetCtx(context) => self.player.set_ctx(*context),
             Step::SetExprAllowed(allowed) => Ok(self.player.set_expr_allowed(*allowed)),
             Step::SetContexts(contexts) => self.player.set_contexts(contexts),
@@ -99,24 +102,25 @@ impl<'a> Runner<'a> {
         Ok(())
     }
 
-    fn finish(self) -> Replay<'a>
-        ensures { (begin : Session) (xs : List Step) → Follows begin xs self.entry → Replays begin xs result }
+    fn finish(self, alloc: Global) -> Result<Replay<'a>, AllocError>
+        ensures { (begin : Session) (xs : List Step) → Follows begin xs self.entry → IfOk result (λ r. Replays begin xs r) }
     {
         let Runner {
             player,
+            kept,
             saves: _,
             answers,
         } = self;
-        let Player { lexer, kept } = player;
-        let (errors, comments, ended) = lexer.into_parts();
-        Replay {
+        let kept = kept.into_vec(alloc, player.kept)?;
+        let (errors, comments, ended) = player.lexer.into_parts();
+        Ok(Replay {
             answers,
-            kept: kept.into_vec(),
+            kept,
             errors: errors.recorded,
             waiting: errors.waiting,
             comments,
             ended,
-        }
+        })
     }
 }
 
@@ -147,5 +151,5 @@ pub fn replay<'a>(
     'steps: for step in steps {
         runner.perform(step)?;
     }
-    Ok(runner.finish())
+    runner.finish(alloc)
 }

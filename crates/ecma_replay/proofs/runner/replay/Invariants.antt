@@ -1,7 +1,7 @@
 -- The runner has come to where the steps so far lead.
 use Rattle.std.proofs.Common.{take}
 use Rattle.std.specs.Str.{chars}
-use Rattle.ecma_replay.specs.Replay.{Follows}
+use Rattle.ecma_replay.specs.Playing.{Follows}
 use Rattle.ecma_state.specs.Run.{start_of}
 use Rattle.ecma_replay.proofs.runner.replay.Given as goal
 

@@ -5,4 +5,4 @@ use Rattle.ecma_replay.proofs.runner.Runner.new.Goals as goal
 
 pub returns : goal.returns
 returns c =
-    start_follows (start_of c.args.settings.now c.args.input) _ (c.new.ensures (start_of c.args.settings.now c.args.input) c.with_settings-lexer.ensures refl) c.new-2.ensures.items c.new-3.ensures.items
+    start_follows (start_of c.args.settings.now c.args.input) _ c.new-2.ensures (c.new.ensures (start_of c.args.settings.now c.args.input) c.with_settings-lexer.ensures refl) c.new-3.ensures.items c.new-4.ensures.items

@@ -1,0 +1,63 @@
+-- What a replay holds while it plays its steps, and how that stands to the run of these.
+use Rattle.std.specs.Prelude.{◌≡◌, ◌≤◌, ◌++◌, ◌==◌, ⊤, ℕ, suc, Bool, true, false, List, [], ◌∷◌, drop, if◌then◌else◌, length, map}
+use Rattle.ecma_state.specs.Counting.{count_all, none_yet}
+use Rattle.ecma_state.specs.Run.{Acted, act_all, answers_behind}
+use Rattle.ecma_state.specs.Session.{LexerValue, Session, kept_back, kept_of, lexer_state, state_of}
+use Rattle.ecma_replay.specs.Replay.{answer_view}
+use Rattle.ecma_replay.specs.declared.answer.Answer.{Answer}
+use Rattle.ecma_replay.specs.declared.player.Entry.{Entry}
+use Rattle.ecma_state.specs.declared.kept.Kept.{Kept}
+use Rattle.ecma_state.specs.declared.step.Step.{Step}
+
+-- these tokens, or those before the newest
+abbrev pub without : Bool → List Kept → List Kept
+without true kept = drop 1 kept
+without false kept = kept
+
+-- the tokens of a number, the newest first: those of the entry with this number, where all entries come newest first
+abbrev pub kept_at : ℕ → List Entry → List Kept
+kept_at n [] = []
+kept_at n (e ∷ es) = if n == suc (length es) then e.token ∷ without e.again (kept_at e.before es) else kept_at n es
+
+-- entries came to others
+abbrev pub Grows : List Entry → List Entry → Type 0
+Grows old new = (more : List Entry) × (new ≡ more ++ old)
+
+-- a lexer, and the number of the tokens that are kept of what it answered
+pub record PlayerValue : Type 0 where
+  pub lexer : LexerValue
+  pub kept : ℕ
+
+-- it has come to a session, by these entries
+pub record IsAt (entries : List Entry) (s : Session) (p : PlayerValue) : Type 0 where
+  pub state : lexer_state p.lexer ≡ state_of s
+  pub kept : kept_at p.kept entries ≡ map kept_of (kept_back s.past)
+  pub within : p.kept ≤ length entries
+
+-- a step answered and led to what it does in the run
+pub record Acts (entries : List Entry) (acted : Acted) (answer : Answer) (p : PlayerValue) : Type 0 where
+  pub answered : answer_view answer ≡ acted.answer
+  pub after : IsAt entries acted.after p
+
+-- as many have come to the sessions behind as many lists of counting steps
+abbrev pub AllAt : List Entry → Session → List (List Step) → List PlayerValue → Type 0
+AllAt entries begin [] [] = ⊤
+AllAt entries begin [] (p ∷ ps) = ⊥
+AllAt entries begin (steps ∷ more) [] = ⊥
+AllAt entries begin (steps ∷ more) (p ∷ ps) = IsAt entries (act_all begin steps) p × AllAt entries begin more ps
+
+-- what a list of steps has come to: the lexer that goes on, the entries of tokens, the lexers that were saved, and the answers
+pub record RunnerValue : Type 0 where
+  pub player : PlayerValue
+  pub kept : List Entry
+  pub saves : List PlayerValue
+  pub answers : List Answer
+
+abbrev pub with_answer : RunnerValue → Answer → RunnerValue
+with_answer r answer = record r { answers = r.answers ++ answer ∷ [] }
+
+-- it has come to where these steps lead
+pub record Follows (begin : Session) (steps : List Step) (r : RunnerValue) : Type 0 where
+  pub player : IsAt r.kept (act_all begin (count_all none_yet steps).steps) r.player
+  pub saves : AllAt r.kept begin (count_all none_yet steps).saves r.saves
+  pub answers : map answer_view r.answers ≡ answers_behind begin none_yet steps
