@@ -7,7 +7,7 @@ use crate::class::token_classes;
 use crate::markup::html;
 use ecma_classes::classes;
 use ecma_place::BytePos;
-use ecma_replay::replay;
+use ecma_replay::gather;
 use ecma_slashes::steps_by_flag;
 use ecma_state::{Settings, Step};
 use ecma_syntax::Context;
@@ -31,9 +31,9 @@ pub fn html_of_steps(
     ensures back { IfOk result (λ v. unmark v.items ≡ shown source.now) }
 {
     let start = BytePos(0);
-    let played = replay(alloc, settings, source, start, steps)?;
-    let kept = played.kept.as_slice();
-    let comments = played.comments.as_slice();
+    let gathered = gather(alloc, settings, source, start, steps)?;
+    let kept = gathered.kept.as_slice();
+    let comments = gathered.comments.as_slice();
     let pieces = classes(alloc, source, start, kept, comments)?;
     let styles = token_classes(alloc, kept)?;
     html(alloc, source, &styles, &pieces)

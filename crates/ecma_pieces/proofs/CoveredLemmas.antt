@@ -17,7 +17,8 @@ use Rattle.ecma_state.specs.declared.step.Step.{Step}
 use Rattle.ecma_laws.specs.Order.{InOrder}
 use Rattle.ecma_laws.proofs.KeptSpans.{AllLie, kept_lie}
 use Rattle.ecma_laws.proofs.TilingLemmas.{begins_standing, fold_standing}
-use Rattle.ecma_replay.specs.Replay.{Replays}
+use Rattle.ecma_replay.specs.Replay.{Gathers, Replays}
+use Rattle.ecma_replay.specs.declared.gathered.Gathered.{Gathered}
 use Rattle.ecma_replay.specs.declared.replayed.Replay.{Replay}
 use Rattle.ecma_classes.specs.Classes.{LieInOrder, LiesWell, StandsIn, comment_spans, holds_byte, is_apart, is_inside, spans_of_comments, spans_of_kept, token_spans}
 use Rattle.ecma_classes.proofs.ApartLemmas.{apart_filter, before-apart, behind-apart}
@@ -158,3 +159,10 @@ pub slices_may_be_covered : (settings : Settings) (input : Cursor) (steps : List
 slices_may_be_covered settings input steps r kept comments replays same_kept same_comments =
     let all = replays_may_be_covered settings input steps r replays in
     subst (λ ks. MayBeCovered input ks comments) (sym same_kept) (subst (λ cs. MayBeCovered input r.kept.items cs) (sym same_comments) all)
+
+-- so does what is gathered of them
+pub gathered_may_be_covered : (settings : Settings) (input : Cursor) (steps : List Step) (r : Gathered) (kept : List Kept) (comments : List BufferedComment)
+    → Gathers (start_of settings input) steps r → kept ≡ r.kept.items → comments ≡ r.comments.items → MayBeCovered input kept comments
+gathered_may_be_covered settings input steps r kept comments gathers same_kept same_comments =
+    subst (λ ks. MayBeCovered input ks comments) (sym (same_kept ∙ gathers.kept))
+    (subst (λ cs. MayBeCovered input (kept_tokens (session settings input steps)) cs) (sym (same_comments ∙ gathers.comments)) (runs_may_be_covered settings input steps))

@@ -4,7 +4,7 @@ ghost use Rattle.ecma_pieces.specs.Covered.{pieces_of};
 
 use ecma_classes::{Piece, classes};
 use ecma_place::BytePos;
-use ecma_replay::replay;
+use ecma_replay::gather;
 use ecma_state::settings::Settings;
 use ecma_state::step::Step;
 use std::alloc::{AllocError, Global};
@@ -27,8 +27,8 @@ pub fn classes_of_steps(
     requires fits { start.0 + length source.now < 2 ^ 32 }
     ensures same { IfOk result (λ v. v.items ≡ pieces_of settings.now start.0 source.now steps.now) }
 {
-    let played = replay(alloc, settings, source, start, steps)?;
-    let kept = played.kept.as_slice();
-    let comments = played.comments.as_slice();
+    let gathered = gather(alloc, settings, source, start, steps)?;
+    let kept = gathered.kept.as_slice();
+    let comments = gathered.comments.as_slice();
     classes(alloc, source, start, kept, comments)
 }

@@ -1,5 +1,5 @@
 -- The tokens of a number are the same however many entries come behind them, and how they are read off the entries.
-use Rattle.std.proofs.Common.{◌≡◌, ◌∙◌, ℕ, zero, suc, ◌+◌, ◌<◌, ◌≤◌, Bool, true, false, List, length, length-append, arith, append_assoc, append-nil, eqb-true, eq-eqb, [], ◌∷◌, ◌++◌, drop, map, reverse, refl, sym, subst, ap, Result, Ok, Err}
+use Rattle.std.proofs.Common.{◌≡◌, ◌∙◌, ℕ, suc, ◌+◌, ◌≤◌, Bool, true, false, List, length, length-append, arith, append_assoc, eqb-true, eq-eqb, [], ◌∷◌, ◌++◌, reverse, refl, sym, subst, ap, Result, Ok, Err}
 use Rattle.std.specs.Prelude.{◌==◌, if◌then◌else◌, OnOk}
 use Rattle.std.proofs.lemmas.List.{length-reverse, reverse-append}
 use Rattle.ecma_replay.specs.Playing.{AllAt, Grows, IsAt, PlayerValue, kept_at, without}

@@ -6,10 +6,10 @@ use Rattle.std.proofs.lemmas.List.Sums.{fold-append}
 use Rattle.ecma_syntax.specs.declared.context.Context.{Context}
 use Rattle.ecma_state.specs.Contexts.{Contexts}
 use Rattle.ecma_state.specs.Counting.{Counted, count_all, count_step, counted, gone_back, none_yet}
-use Rattle.ecma_replay.specs.Playing.{Acts, AllAt, Follows, Grows, IsAt, PlayerValue, RunnerValue, with_answer}
+use Rattle.ecma_replay.specs.Playing.{Acts, AllAt, CourseValue, Follows, Grows, IsAt, PlayerValue, Responds, Stands}
 use Rattle.ecma_replay.specs.Replay.{answer_view}
 use Rattle.ecma_replay.specs.declared.player.Entry.{Entry}
-use Rattle.ecma_replay.proofs.KeptLemmas.{all_grow, is_at_grow}
+use Rattle.ecma_replay.proofs.KeptLemmas.{all_grow}
 use Rattle.ecma_state.specs.Run.{act, act_all, act_on, answer_behind, answers_behind, back_answer}
 use Rattle.ecma_state.specs.Session.{Session}
 use Rattle.ecma_replay.specs.declared.answer.Answer.{Answer}
@@ -24,33 +24,42 @@ answers-more begin c [] x = refl
 answers-more begin c (y ∷ ys) x = ap (λ more. answer_behind begin c y ∷ more) (answers-more begin (count_step c y) ys x)
 
 -- what stands behind one more step, by what it counts and answers
-more : (begin : Session) (xs : List Step) (x : Step) (old new : RunnerValue) (answer : Answer) → Follows begin xs old
+more : (begin : Session) (xs : List Step) (x : Step) (new : CourseValue) (answer : Answer)
     → (c : Counted) → count_step (count_all none_yet xs) x ≡ c
-    → IsAt new.kept (act_all begin c.steps) new.player → AllAt new.kept begin c.saves new.saves → new.answers ≡ old.answers
-    → answer_view answer ≡ answer_behind begin (count_all none_yet xs) x → Follows begin (xs ++ x ∷ []) (with_answer new answer)
-more begin xs x old new answer follows c counts player saves answers answered =
+    → IsAt new.kept (act_all begin c.steps) new.player → AllAt new.kept begin c.saves new.saves
+    → answer_view answer ≡ answer_behind begin (count_all none_yet xs) x → Responds begin xs x answer new
+more begin xs x new answer c counts player saves answered =
     let all : count_all none_yet (xs ++ x ∷ []) ≡ c = fold-append count_step none_yet xs (x ∷ []) ∙ counts in
     record {
-      player = subst (λ d. IsAt new.kept (act_all begin d.steps) new.player) (sym all) player;
-      saves = subst (λ d. AllAt new.kept begin d.saves new.saves) (sym all) saves;
-      answers = map-append answer_view new.answers (answer ∷ [])
-          ∙ ap (λ front. map answer_view front ++ answer_view answer ∷ []) answers
-          ∙ ap (λ front. front ++ answer_view answer ∷ []) follows.answers
-          ∙ ap (λ a. answers_behind begin none_yet xs ++ a ∷ []) answered
-          ∙ sym (answers-more begin none_yet xs x);
+      answered = answered;
+      stands = record {
+        player = subst (λ d. IsAt new.kept (act_all begin d.steps) new.player) (sym all) player;
+        saves = subst (λ d. AllAt new.kept begin d.saves new.saves) (sym all) saves;
+      };
     }
 
+-- its answer stands behind those before it
+pub follows_more : (begin : Session) (xs : List Step) (x : Step) (before answers : List Answer) (answer : Answer) (old new : CourseValue) → Follows begin xs before old
+    → answers ≡ before ++ answer ∷ [] → Responds begin xs x answer new → Follows begin (xs ++ x ∷ []) answers new
+follows_more begin xs x before answers answer old new follows adds responds = record {
+  answers = ap (map answer_view) adds ∙ map-append answer_view before (answer ∷ [])
+      ∙ ap (λ front. front ++ answer_view answer ∷ []) follows.answers
+      ∙ ap (λ a. answers_behind begin none_yet xs ++ a ∷ []) responds.answered
+      ∙ sym (answers-more begin none_yet xs x);
+  stands = responds.stands;
+}
+
 -- a step that counts
-counts-one : (begin : Session) (xs : List Step) (x : Step) (old new : RunnerValue) (answer : Answer) → Follows begin xs old
+counts-one : (begin : Session) (xs : List Step) (x : Step) (old new : CourseValue) (answer : Answer) → Stands begin xs old
     → count_step (count_all none_yet xs) x ≡ counted (count_all none_yet xs) x
     → answer_behind begin (count_all none_yet xs) x ≡ (act (act_all begin (count_all none_yet xs).steps) x).answer
-    → ((s : Session) → IsAt old.kept s old.player → Acts new.kept (act s x) answer new.player) → Grows old.kept new.kept → new.saves ≡ old.saves → new.answers ≡ old.answers → Follows begin (xs ++ x ∷ []) (with_answer new answer)
-counts-one begin xs x old new answer follows counts answers acts grows saves kept =
+    → ((s : Session) → IsAt old.kept s old.player → Acts new.kept (act s x) answer new.player) → Grows old.kept new.kept → new.saves ≡ old.saves → Responds begin xs x answer new
+counts-one begin xs x old new answer stands counts answers acts grows saves =
     let c = count_all none_yet xs in
-    let acted = acts (act_all begin c.steps) follows.player in
+    let acted = acts (act_all begin c.steps) stands.player in
     let further : act_all begin (c.steps ++ x ∷ []) ≡ act_on (act_all begin c.steps) x = fold-append act_on begin c.steps (x ∷ []) in
-    more begin xs x old new answer follows (counted c x) counts (subst (λ s. IsAt new.kept s new.player) (sym further) acted.after)
-    (subst (AllAt new.kept begin c.saves) (sym saves) (all_grow old.kept new.kept grows begin c.saves old.saves follows.saves)) kept (acted.answered ∙ sym answers)
+    more begin xs x new answer (counted c x) counts (subst (λ s. IsAt new.kept s new.player) (sym further) acted.after)
+    (subst (AllAt new.kept begin c.saves) (sym saves) (all_grow old.kept new.kept grows begin c.saves old.saves stands.saves)) (acted.answered ∙ sym answers)
 
 -- each of them
 
@@ -90,19 +99,19 @@ pub counts_take_errors : Counts TakeErrors
 unfolding count_step
 counts_take_errors = record { steps = λ c. refl; answers = λ begin c. refl }
 
--- so does such a step where the runner is seen whole
-pub step_follows : (x step : Step) → step ≡ x → Counts x → (old shown new : RunnerValue) (answer : Answer) → shown ≡ old → new.saves ≡ shown.saves → new.answers ≡ shown.answers → Grows shown.kept new.kept
-    → ((s : Session) → IsAt shown.kept s shown.player → Acts new.kept (act s x) answer new.player) → (begin : Session) (xs : List Step) → Follows begin xs old → Follows begin (xs ++ step ∷ []) (with_answer new answer)
-step_follows x step is counts old shown new answer shows saves kept grows acts begin xs follows =
-    subst (λ y. Follows begin (xs ++ y ∷ []) (with_answer new answer)) (sym is)
-    (counts-one begin xs x shown new answer (subst (Follows begin xs) (sym shows) follows) (counts.steps (count_all none_yet xs)) (counts.answers begin (count_all none_yet xs)) acts grows saves kept)
+-- so does such a step where the course is seen whole
+pub step_responds : (x step : Step) → step ≡ x → Counts x → (old shown new : CourseValue) (answer : Answer) → shown ≡ old → new.saves ≡ shown.saves → Grows shown.kept new.kept
+    → ((s : Session) → IsAt shown.kept s shown.player → Acts new.kept (act s x) answer new.player) → (begin : Session) (xs : List Step) → Stands begin xs old → Responds begin xs step answer new
+step_responds x step is counts old shown new answer shows saves grows acts begin xs stands =
+    subst (λ y. Responds begin xs y answer new) (sym is)
+    (counts-one begin xs x shown new answer (subst (Stands begin xs) (sym shows) stands) (counts.steps (count_all none_yet xs)) (counts.answers begin (count_all none_yet xs)) acts grows saves)
 
-pub step_follows_ok : {E : Type 0} → (x step : Step) → step ≡ x → Counts x → (old shown new : RunnerValue) (result : Result Answer E) → shown ≡ old → new.saves ≡ shown.saves → new.answers ≡ shown.answers → OnOk result (Grows shown.kept new.kept)
-    → ((s : Session) → IsAt shown.kept s shown.player → IfOk result (λ answer. Acts new.kept (act s x) answer new.player)) → (begin : Session) (xs : List Step) → Follows begin xs old
-    → IfOk result (λ answer. Follows begin (xs ++ step ∷ []) (with_answer new answer))
-step_follows_ok x step is counts old shown new (Ok answer) shows saves kept grows acts begin xs follows =
-    step_follows x step is counts old shown new answer shows saves kept grows acts begin xs follows
-step_follows_ok x step is counts old shown new (Err error) shows saves kept grows acts begin xs follows = tt
+pub step_responds_ok : {E : Type 0} → (x step : Step) → step ≡ x → Counts x → (old shown new : CourseValue) (result : Result Answer E) → shown ≡ old → new.saves ≡ shown.saves → OnOk result (Grows shown.kept new.kept)
+    → ((s : Session) → IsAt shown.kept s shown.player → IfOk result (λ answer. Acts new.kept (act s x) answer new.player)) → (begin : Session) (xs : List Step) → Stands begin xs old
+    → IfOk result (λ answer. Responds begin xs step answer new)
+step_responds_ok x step is counts old shown new (Ok answer) shows saves grows acts begin xs stands =
+    step_responds x step is counts old shown new answer shows saves grows acts begin xs stands
+step_responds_ok x step is counts old shown new (Err error) shows saves grows acts begin xs stands = tt
 
 -- a save
 
@@ -112,16 +121,16 @@ all-more es begin [] (q ∷ qs) more p all at = absurd all
 all-more es begin (xs ∷ xss) [] more p all at = absurd all
 all-more es begin (xs ∷ xss) (q ∷ qs) more p all at = (all.0, all-more es begin xss qs more p all.1 at)
 
-pub save_follows : (begin : Session) (xs : List Step) (old new : RunnerValue) (saved : PlayerValue) → Follows begin xs old → ((s : Session) → IsAt old.kept s old.player → IsAt old.kept s saved)
-    → new.kept ≡ old.kept → new.player ≡ old.player → new.saves ≡ old.saves ++ saved ∷ [] → new.answers ≡ old.answers → Follows begin (xs ++ Save ∷ []) (with_answer new answers.Done)
+pub save_responds : (begin : Session) (xs : List Step) (old new : CourseValue) (saved : PlayerValue) → Stands begin xs old → ((s : Session) → IsAt old.kept s old.player → IsAt old.kept s saved)
+    → new.kept ≡ old.kept → new.player ≡ old.player → new.saves ≡ old.saves ++ saved ∷ [] → Responds begin xs Save answers.Done new
 unfolding count_step
-save_follows begin xs old new saved follows same entries player saves kept =
+save_responds begin xs old new saved stands same entries player saves =
     let c = count_all none_yet xs in
     let here = act_all begin c.steps in
-    more begin xs Save old new answers.Done follows (record c { saves = c.saves ++ c.steps ∷ [] }) refl (subst (λ es. IsAt es here new.player) (sym entries) (subst (IsAt old.kept here) (sym player) follows.player))
+    more begin xs Save new answers.Done (record c { saves = c.saves ++ c.steps ∷ [] }) refl (subst (λ es. IsAt es here new.player) (sym entries) (subst (IsAt old.kept here) (sym player) stands.player))
     (subst (λ es. AllAt es begin (c.saves ++ c.steps ∷ []) new.saves) (sym entries)
-    (subst (AllAt old.kept begin (c.saves ++ c.steps ∷ [])) (sym saves) (all-more old.kept begin c.saves old.saves c.steps saved follows.saves (same here follows.player))))
-    kept refl
+    (subst (AllAt old.kept begin (c.saves ++ c.steps ∷ [])) (sym saves) (all-more old.kept begin c.saves old.saves c.steps saved stands.saves (same here stands.player))))
+    refl
 
 -- a way back
 
@@ -153,25 +162,25 @@ all-none es begin (xs ∷ xss) [] n all e = absurd all
 all-none es begin (xs ∷ xss) (q ∷ qs) zero all e = cc
 all-none es begin (xs ∷ xss) (q ∷ qs) (suc n) all e = all-none es begin xss qs n all.1 e
 
-pub back_follows : (begin : Session) (xs : List Step) (n : ℕ) (old new : RunnerValue) (saved : PlayerValue) → Follows begin xs old → slice_get old.saves n ≡ Some saved
-    → ((s : Session) → IsAt old.kept s saved → IsAt old.kept s new.player) → new.kept ≡ old.kept → new.saves ≡ old.saves → new.answers ≡ old.answers → Follows begin (xs ++ Back n ∷ []) (with_answer new answers.Done)
+pub back_responds : (begin : Session) (xs : List Step) (n : ℕ) (old new : CourseValue) (saved : PlayerValue) → Stands begin xs old → slice_get old.saves n ≡ Some saved
+    → ((s : Session) → IsAt old.kept s saved → IsAt old.kept s new.player) → new.kept ≡ old.kept → new.saves ≡ old.saves → Responds begin xs (Back n) answers.Done new
 unfolding count_step
-back_follows begin xs n old new saved follows found same entries saves kept =
+back_responds begin xs n old new saved stands found same entries saves =
     let c = count_all none_yet xs in
-    let there = all-get old.kept begin c.saves old.saves n saved follows.saves found in
-    more begin xs (Back n) old new answers.Done follows (record c { steps = there.0 }) (ap (gone_back c) there.1) (subst (λ es. IsAt es (act_all begin there.0) new.player) (sym entries) (same (act_all begin there.0) there.2))
-    (subst (λ es. AllAt es begin c.saves new.saves) (sym entries) (subst (AllAt old.kept begin c.saves) (sym saves) follows.saves)) kept (sym (ap back_answer there.1))
+    let there = all-get old.kept begin c.saves old.saves n saved stands.saves found in
+    more begin xs (Back n) new answers.Done (record c { steps = there.0 }) (ap (gone_back c) there.1) (subst (λ es. IsAt es (act_all begin there.0) new.player) (sym entries) (same (act_all begin there.0) there.2))
+    (subst (λ es. AllAt es begin c.saves new.saves) (sym entries) (subst (AllAt old.kept begin c.saves) (sym saves) stands.saves)) (sym (ap back_answer there.1))
 
-pub no_save_follows : (begin : Session) (xs : List Step) (n : ℕ) (old new : RunnerValue) → Follows begin xs old → slice_get old.saves n ≡ None
-    → new ≡ old → Follows begin (xs ++ Back n ∷ []) (with_answer new answers.NoSave)
+pub no_save_responds : (begin : Session) (xs : List Step) (n : ℕ) (old new : CourseValue) → Stands begin xs old → slice_get old.saves n ≡ None
+    → new ≡ old → Responds begin xs (Back n) answers.NoSave new
 unfolding count_step
-no_save_follows begin xs n old new follows none same =
+no_save_responds begin xs n old new stands none same =
     let c = count_all none_yet xs in
-    let no_steps = all-none old.kept begin c.saves old.saves n follows.saves none in
-    more begin xs (Back n) old new answers.NoSave follows c (ap (gone_back c) no_steps) (subst (λ r. IsAt r.kept (act_all begin c.steps) r.player) (sym same) follows.player)
-    (subst (λ r. AllAt r.kept begin c.saves r.saves) (sym same) follows.saves) (ap (λ r. r.answers) same) (sym (ap back_answer no_steps))
+    let no_steps = all-none old.kept begin c.saves old.saves n stands.saves none in
+    more begin xs (Back n) new answers.NoSave c (ap (gone_back c) no_steps) (subst (λ r. IsAt r.kept (act_all begin c.steps) r.player) (sym same) stands.player)
+    (subst (λ r. AllAt r.kept begin c.saves r.saves) (sym same) stands.saves) (sym (ap back_answer no_steps))
 
 -- before any step
-pub start_follows : (begin : Session) (r : RunnerValue) → r.kept ≡ [] → IsAt [] begin r.player → r.saves ≡ [] → r.answers ≡ [] → Follows begin [] r
-start_follows begin r entries player saves none =
-    record { player = subst (λ es. IsAt es begin r.player) (sym entries) player; saves = subst (AllAt r.kept begin []) (sym saves) tt; answers = ap (map answer_view) none }
+pub start_stands : (begin : Session) (r : CourseValue) → r.kept ≡ [] → IsAt [] begin r.player → r.saves ≡ [] → Stands begin [] r
+start_stands begin r entries player saves =
+    record { player = subst (λ es. IsAt es begin r.player) (sym entries) player; saves = subst (AllAt r.kept begin []) (sym saves) tt }

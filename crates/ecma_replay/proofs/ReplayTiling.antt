@@ -1,6 +1,5 @@
 -- What a replay keeps tiles its text.
-use Rattle.std.proofs.Common.{◌≡◌, ◌∙◌, List, [], ◌∷◌, map, refl, sym, subst, ap, reverse, Result, Ok, Err}
-use Rattle.std.specs.Prelude.{IfOk}
+use Rattle.std.proofs.Common.{◌≡◌, ◌∙◌, List, [], ◌∷◌, map, refl, sym, subst, ap, reverse}
 use Rattle.std.proofs.lemmas.List.{reverse-reverse}
 use Rattle.ecma_place.specs.Cursor.{Cursor, place}
 use Rattle.ecma_token.specs.View.{SpannedView}
@@ -18,7 +17,7 @@ spans-of : (ts : List SpannedView) → map (λ (k : Kept). k.span) (map kept_of 
 spans-of [] = refl
 spans-of (t ∷ ts) = ap (λ l. t.span ∷ l) (spans-of ts)
 
-replays_tile : (settings : Settings) (input : Cursor) (steps : List Step) (r : Replay) → Replays (start_of settings input) steps r → TilesText settings input steps r
+pub replays_tile : (settings : Settings) (input : Cursor) (steps : List Step) (r : Replay) → Replays (start_of settings input) steps r → TilesText settings input steps r
 replays_tile settings input steps r replays =
     let s = session settings input steps in
     let kept : reverse r.kept.items ≡ map kept_of (kept_back s.past) = ap reverse replays.kept ∙ reverse-reverse (map kept_of (kept_back s.past)) in
@@ -26,8 +25,3 @@ replays_tile settings input steps r replays =
     let tiled = tiles settings input steps in
     subst (λ ended. IsTiled input (spans_kept r) ended (place s.input) (pieces_read settings input steps)) (sym replays.ended)
     (subst (λ spans. IsTiled input spans (has_ended s.past) (place s.input) (pieces_read settings input steps)) (sym spans) tiled)
-
-pub replays_tile_ok : {E : Type 0} → (settings : Settings) (input : Cursor) (steps : List Step) (result : Result Replay E) → IfOk result (λ r. Replays (start_of settings input) steps r)
-    → IfOk result (λ r. TilesText settings input steps r)
-replays_tile_ok settings input steps (Ok r) replays = replays_tile settings input steps r replays
-replays_tile_ok settings input steps (Err error) replays = tt

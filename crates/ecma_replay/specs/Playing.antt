@@ -1,7 +1,7 @@
 -- What a replay holds while it plays its steps, and how that stands to the run of these.
 use Rattle.std.specs.Prelude.{◌≡◌, ◌≤◌, ◌++◌, ◌==◌, ⊤, ℕ, suc, Bool, true, false, List, [], ◌∷◌, drop, if◌then◌else◌, length, map}
 use Rattle.ecma_state.specs.Counting.{count_all, none_yet}
-use Rattle.ecma_state.specs.Run.{Acted, act_all, answers_behind}
+use Rattle.ecma_state.specs.Run.{Acted, act_all, answer_behind, answers_behind}
 use Rattle.ecma_state.specs.Session.{LexerValue, Session, kept_back, kept_of, lexer_state, state_of}
 use Rattle.ecma_replay.specs.Replay.{answer_view}
 use Rattle.ecma_replay.specs.declared.answer.Answer.{Answer}
@@ -46,18 +46,23 @@ AllAt entries begin [] (p ∷ ps) = ⊥
 AllAt entries begin (steps ∷ more) [] = ⊥
 AllAt entries begin (steps ∷ more) (p ∷ ps) = IsAt entries (act_all begin steps) p × AllAt entries begin more ps
 
--- what a list of steps has come to: the lexer that goes on, the entries of tokens, the lexers that were saved, and the answers
-pub record RunnerValue : Type 0 where
+-- what a list of steps has come to: the lexer that goes on, the entries of tokens, and the lexers that were saved
+pub record CourseValue : Type 0 where
   pub player : PlayerValue
   pub kept : List Entry
   pub saves : List PlayerValue
-  pub answers : List Answer
-
-abbrev pub with_answer : RunnerValue → Answer → RunnerValue
-with_answer r answer = record r { answers = r.answers ++ answer ∷ [] }
 
 -- it has come to where these steps lead
-pub record Follows (begin : Session) (steps : List Step) (r : RunnerValue) : Type 0 where
-  pub player : IsAt r.kept (act_all begin (count_all none_yet steps).steps) r.player
-  pub saves : AllAt r.kept begin (count_all none_yet steps).saves r.saves
-  pub answers : map answer_view r.answers ≡ answers_behind begin none_yet steps
+pub record Stands (begin : Session) (steps : List Step) (c : CourseValue) : Type 0 where
+  pub player : IsAt c.kept (act_all begin (count_all none_yet steps).steps) c.player
+  pub saves : AllAt c.kept begin (count_all none_yet steps).saves c.saves
+
+-- one more step answered what it answers in the run, and led to where it does
+pub record Responds (begin : Session) (steps : List Step) (step : Step) (answer : Answer) (c : CourseValue) : Type 0 where
+  pub answered : answer_view answer ≡ answer_behind begin (count_all none_yet steps) step
+  pub stands : Stands begin (steps ++ step ∷ []) c
+
+-- these answers and this course are those of these steps
+pub record Follows (begin : Session) (steps : List Step) (told : List Answer) (c : CourseValue) : Type 0 where
+  pub answers : map answer_view told ≡ answers_behind begin none_yet steps
+  pub stands : Stands begin steps c

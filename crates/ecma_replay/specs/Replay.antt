@@ -10,7 +10,7 @@ use Rattle.ecma_state.specs.Session.{Session, has_ended, kept_tokens}
 use Rattle.ecma_laws.specs.Tiling.{IsTiled, pieces_read}
 use Rattle.ecma_replay.specs.declared.answer.Answer.{Answer}
 use Rattle.ecma_replay.specs.declared.answer.Answer.TheVariants.{Token, End, Done, Errors, NoSlash, NoSave, NoContext}
-use Rattle.ecma_state.specs.declared.kept.Kept.{Kept}
+use Rattle.ecma_replay.specs.declared.gathered.Gathered.{Gathered}
 use Rattle.ecma_replay.specs.declared.replayed.Replay.{Replay}
 use Rattle.ecma_state.specs.declared.settings.Settings.{Settings}
 use Rattle.ecma_state.specs.declared.step.Step.{Step}
@@ -42,3 +42,11 @@ spans_kept r = map (λ k. k.span) (reverse r.kept.items)
 abbrev pub TilesText : Settings → Cursor → List Step → Replay → Type 0
 TilesText settings input steps r =
     IsTiled input (spans_kept r) r.ended (place (session settings input steps).input) (pieces_read settings input steps)
+
+-- the same but for the answers
+pub record Gathers (begin : Session) (steps : List Step) (r : Gathered) : Type 0 where
+  pub kept : r.kept.items ≡ kept_tokens (act_all begin (counting steps))
+  pub errors : map error_view r.errors ≡ (act_all begin (counting steps)).errors.recorded
+  pub waiting : map error_view r.waiting ≡ (act_all begin (counting steps)).errors.waiting
+  pub comments : r.comments.items ≡ (act_all begin (counting steps)).comments
+  pub ended : r.ended ≡ has_ended (act_all begin (counting steps)).past

@@ -2,10 +2,13 @@
 #![tactic(auto)]
 
 pub mod answer;
+mod course;
+pub mod gathered;
 mod player;
 pub mod replayed;
 pub mod runner;
 
 pub use answer::Answer;
+pub use gathered::Gathered;
 pub use replayed::Replay;
-pub use runner::replay;
+pub use runner::{gather, replay};

@@ -1,29 +1,29 @@
 use Rattle.std.specs.Str.{chars}
 use Rattle.ecma_classes.specs.Classes.{begin}
-use Rattle.ecma_pieces.proofs.CoveredLemmas.{slices_may_be_covered}
+use Rattle.ecma_pieces.proofs.CoveredLemmas.{gathered_may_be_covered}
 use Rattle.ecma_pieces.proofs.steps.classes_of_steps.Goals as goal
 
 pub classes-requires-clause-tokens : goal.classes-requires-clause-tokens
 classes-requires-clause-tokens c =
     let input = begin c.args.start.0 (chars c.args.source.now) in
-    (slices_may_be_covered c.args.settings.now input c.args.steps.now c.in_ok-played.played c.as_slice-kept.result.now c.as_slice-comments.result.now c.in_ok-played.ensures.replays c.as_slice-kept.ensures.value c.as_slice-comments.ensures.value).tokens_stand
+    (gathered_may_be_covered c.args.settings.now input c.args.steps.now c.in_ok-gathered.gathered c.as_slice-kept.result.now c.as_slice-comments.result.now c.in_ok-gathered.ensures c.as_slice-kept.ensures.value c.as_slice-comments.ensures.value).tokens_stand
 
 pub classes-requires-clause-in_order : goal.classes-requires-clause-in_order
 classes-requires-clause-in_order c =
     let input = begin c.args.start.0 (chars c.args.source.now) in
-    (slices_may_be_covered c.args.settings.now input c.args.steps.now c.in_ok-played.played c.as_slice-kept.result.now c.as_slice-comments.result.now c.in_ok-played.ensures.replays c.as_slice-kept.ensures.value c.as_slice-comments.ensures.value).in_order
+    (gathered_may_be_covered c.args.settings.now input c.args.steps.now c.in_ok-gathered.gathered c.as_slice-kept.result.now c.as_slice-comments.result.now c.in_ok-gathered.ensures c.as_slice-kept.ensures.value c.as_slice-comments.ensures.value).in_order
 
 pub classes-requires-clause-comments : goal.classes-requires-clause-comments
 classes-requires-clause-comments c =
     let input = begin c.args.start.0 (chars c.args.source.now) in
-    (slices_may_be_covered c.args.settings.now input c.args.steps.now c.in_ok-played.played c.as_slice-kept.result.now c.as_slice-comments.result.now c.in_ok-played.ensures.replays c.as_slice-kept.ensures.value c.as_slice-comments.ensures.value).comments_stand
+    (gathered_may_be_covered c.args.settings.now input c.args.steps.now c.in_ok-gathered.gathered c.as_slice-kept.result.now c.as_slice-comments.result.now c.in_ok-gathered.ensures c.as_slice-kept.ensures.value c.as_slice-comments.ensures.value).comments_stand
 
 pub classes-requires-clause-apart : goal.classes-requires-clause-apart
 classes-requires-clause-apart c =
     let input = begin c.args.start.0 (chars c.args.source.now) in
-    (slices_may_be_covered c.args.settings.now input c.args.steps.now c.in_ok-played.played c.as_slice-kept.result.now c.as_slice-comments.result.now c.in_ok-played.ensures.replays c.as_slice-kept.ensures.value c.as_slice-comments.ensures.value).apart
+    (gathered_may_be_covered c.args.settings.now input c.args.steps.now c.in_ok-gathered.gathered c.as_slice-kept.result.now c.as_slice-comments.result.now c.in_ok-gathered.ensures c.as_slice-kept.ensures.value c.as_slice-comments.ensures.value).apart
 
 pub classes-requires-clause-inside_or_outside : goal.classes-requires-clause-inside_or_outside
 classes-requires-clause-inside_or_outside c =
     let input = begin c.args.start.0 (chars c.args.source.now) in
-    (slices_may_be_covered c.args.settings.now input c.args.steps.now c.in_ok-played.played c.as_slice-kept.result.now c.as_slice-comments.result.now c.in_ok-played.ensures.replays c.as_slice-kept.ensures.value c.as_slice-comments.ensures.value).inside_or_outside
+    (gathered_may_be_covered c.args.settings.now input c.args.steps.now c.in_ok-gathered.gathered c.as_slice-kept.result.now c.as_slice-comments.result.now c.in_ok-gathered.ensures c.as_slice-kept.ensures.value c.as_slice-comments.ensures.value).inside_or_outside

@@ -1,4 +1,4 @@
--- The runner has come to where the steps so far lead.
+-- The answers and the course are those of the steps so far.
 use Rattle.std.proofs.Common.{take}
 use Rattle.std.specs.Str.{chars}
 use Rattle.ecma_replay.specs.Playing.{Follows}
@@ -7,4 +7,4 @@ use Rattle.ecma_replay.proofs.runner.replay.Given as goal
 
 abbrev pub invariant-steps : goal.invariant-steps
 invariant-steps l =
-    Follows (start_of l.settings record { start = l.fn.start.0; text = chars l.source; at = 0 }) (take l.step-index l.steps) l.runner
+    Follows (start_of l.settings record { start = l.fn.start.0; text = chars l.source; at = 0 }) (take l.step-index l.steps) l.answers.items l.course

@@ -1,0 +1,119 @@
+//! A lexer that takes the steps of a list, with the places that it may go back to.
+ghost use Rattle.std.specs.Prelude.{◌++◌, ◌∷◌, [], List, IfOk, OnOk};
+ghost use Rattle.ecma_state.specs.Session.{Session};
+ghost use Rattle.ecma_state.specs.Run.{start_of};
+ghost use Rattle.ecma_replay.specs.Playing.{Responds, Stands};
+ghost use Rattle.ecma_replay.specs.Replay.{Gathers};
+ghost use Rattle.ecma_state.specs.declared.step.Step.{Step};
+
+use crate::answer::Answer;
+use crate::gathered::Gathered;
+use crate::player::{KeptTokens, Player};
+use ecma_place::StringInput;
+use ecma_state::settings::Settings;
+use ecma_state::step::Step;
+use ecma_stream::lexer::Lexer;
+use std::alloc::{AllocError, Global};
+use std::marker::Model;
+
+/// What a list of steps has come to, but for its answers.
+#[derive(Drop)]
+pub struct Course<'a> {
+    player: Player<'a>,
+    kept: KeptTokens,
+    saves: Vec<Player<'a>>,
+}
+
+impl<'a> Model for Course<'a> {
+    ghost use Rattle.std.specs.Coded.{codes};
+    ghost use denote.Signature.{static_lft};
+    ghost use Rattle.ecma_token.specs.contracts.error.Error as e;
+    ghost use Rattle.ecma_replay.specs.Playing.{CourseValue};
+
+    ghost Value = { CourseValue };
+
+    ghost coded = { Prim.hlevel (codes, (e.the_row static_lft).coded) };
+
+    ghost view = { λ c. record { player = c.player; kept = c.kept; saves = c.saves.items } };
+}
+
+impl<'a> Course<'a> {
+    /// Before any step, which takes no memory.
+    pub fn new(alloc: Global, settings: &Settings, input: StringInput<'a>) -> Course<'a>
+        ensures { Stands (start_of settings.now input.entry) [] result }
+    {
+        let lexer = Lexer::with_settings(alloc, settings, input);
+        Course {
+            player: Player::new(lexer),
+            kept: KeptTokens::new(alloc),
+            saves: Vec::new(alloc),
+        }
+    }
+
+    fn save(&mut self) -> Result<Answer<'a>, AllocError>
+        ensures { (begin : Session) (xs : List Step) → Stands begin xs self.old → IfOk result (λ answer. Responds begin xs Step.Save answer self.new) }
+    {
+        let saved = self.player.copy()?;
+        self.saves.push(saved)?;
+        Ok(Answer::Done)
+    }
+
+    fn back(&mut self, n: usize) -> Result<Answer<'a>, AllocError>
+        ensures { (begin : Session) (xs : List Step) → Stands begin xs self.old → IfOk result (λ answer. Responds begin xs (Step.Back n) answer self.new) }
+    {
+        match self.saves.get(n) {
+            Some(saved) => {
+                let saved = saved.copy()?;
+                self.player.go_back(saved);
+                Ok(Answer::Done)
+            }
+            None => Ok(Answer::NoSave),
+        }
+    }
+
+    /// Takes a step.
+    pub fn respond(&mut self, step: &Step) -> Result<Answer<'a>, AllocError>
+        ensures { (begin : Session) (xs : List Step) → Stands begin xs self.old → IfOk result (λ answer. Responds begin xs step.now answer self.new) }
+    {
+        match step {
+            Step::Read => self.player.read(&mut self.kept),
+            Step::SetCtx(context) => self.player.set_ctx(*context),
+            Step::SetExprAllowed(allowed) => Ok(self.player.set_expr_allowed(*allowed)),
+            Step::SetContexts(contexts) => self.player.set_contexts(contexts),
+            Step::PopContext => Ok(self.player.pop_context()),
+            Step::Reread => Ok(self.player.reread()),
+            Step::Withdraw => Ok(self.player.withdraw()),
+            Step::Save => self.save(),
+            Step::Back(n) => self.back(*n),
+            Step::TakeErrors => Ok(self.player.take_errors()),
+        }
+    }
+
+    /// Takes a step, whose answer nobody looks at.
+    pub fn pass(&mut self, step: &Step) -> Result<(), AllocError>
+        ensures { (begin : Session) (xs : List Step) → Stands begin xs self.old → OnOk result (Stands begin (xs ++ step.now ∷ []) self.new) }
+    {
+        let _answer = self.respond(step)?;
+        Ok(())
+    }
+
+    /// What the steps came to.
+    pub fn finish(self, alloc: Global) -> Result<Gathered<'a>, AllocError>
+        ensures { (begin : Session) (xs : List Step) → Stands begin xs self.entry → IfOk result (λ r. Gathers begin xs r) }
+    {
+        let Course {
+            player,
+            kept,
+            saves: _,
+        } = self;
+        let kept = kept.into_vec(alloc, player.kept)?;
+        let (errors, comments, ended) = player.lexer.into_parts();
+        Ok(Gathered {
+            kept,
+            errors: errors.recorded,
+            waiting: errors.waiting,
+            comments,
+            ended,
+        })
+    }
+}
