@@ -1,3 +1,5 @@
+pub mod Digits
+pub mod Escaping
 pub mod Halting
 pub mod Numbers
 pub mod TextReplies

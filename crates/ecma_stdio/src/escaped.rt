@@ -2,6 +2,7 @@
 ghost use Rattle.std.specs.Prelude.{◌≡◌, ◌++◌, OnOk};
 ghost use Rattle.ecma_stdio.specs.Escaped as escapes;
 
+use memchr::memchr3;
 use std::alloc::AllocError;
 
 /// Adds the byte, with a backslash where it is one, a line feed or a carriage return.
@@ -25,8 +26,12 @@ fn push_escaped_byte(out: &mut Vec<u8>, byte: u8) -> Result<(), AllocError>
 pub fn push_escaped(out: &mut Vec<u8>, bytes: &[u8]) -> Result<(), AllocError>
     ensures { OnOk result (out.new.items ≡ out.old.items ++ escapes.escaped bytes.now) }
 {
-    for byte in bytes {
-        push_escaped_byte(out, *byte)?;
+    // What stands for itself goes out in runs; most texts are one run.
+    let mut left = bytes;
+    'runs: while let Some(plain) = memchr3(b'\\', b'\n', b'\r', left) {
+        out.extend_from_slice(&left[..plain])?;
+        push_escaped_byte(out, left[plain])?;
+        left = &left[plain + 1..];
     }
-    Ok(())
+    out.extend_from_slice(left)
 }

@@ -1,7 +1,10 @@
--- What was added is the front of the bytes, escaped.
-use Rattle.std.proofs.Common.{◌≡◌, ◌++◌, take}
+-- What was added, with what is left, escaped, is all bytes, escaped.
+use Rattle.std.proofs.Common.{◌≡◌, ◌++◌, length}
 use Rattle.ecma_stdio.specs.Escaped.{escaped}
 use Rattle.ecma_stdio.proofs.escaped.push_escaped.Given as goal
 
-abbrev pub invariant-loop-byte : goal.invariant-loop-byte
-invariant-loop-byte l = l.out.items ≡ l.initial.out.items ++ escaped (take l.byte-index l.bytes)
+abbrev pub invariant-runs : goal.invariant-runs
+invariant-runs l = l.out.items ++ escaped l.left ≡ l.initial.out.items ++ escaped l.bytes
+
+abbrev pub decreases-runs : goal.decreases-runs
+decreases-runs l = length l.left
