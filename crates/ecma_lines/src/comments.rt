@@ -1,5 +1,5 @@
 //! What is written of the comments of a text: a line each.
-ghost use Rattle.std.specs.Prelude.{◌≡◌, ◌++◌, None, Some, ◌^◌, ◌<◌, true, length, string_bytes, IfOk, MatchResult, OnOk};
+ghost use Rattle.std.specs.Prelude.{◌≡◌, ◌++◌, None, Some, ◌^◌, ◌<◌, true, length, IfOk, MatchResult, OnOk};
 ghost use Rattle.ecma_stream.specs.Ending.{comments_of};
 ghost use Rattle.ecma_state.specs.HandOver.{has_comments};
 ghost use Rattle.ecma_state.specs.Session.{Session, lexer_state, state_of};
@@ -10,7 +10,7 @@ use crate::rereads::open;
 use ecma_options::{Options, pass_next};
 use ecma_place::CommentKind;
 use ecma_state::{BufferedComment, BufferedCommentKind};
-use ecma_stdio::{Fault, push_escaped};
+use ecma_stdio::{Fault, push_escaped, push_number, push_pair};
 use ecma_stream::{CommentList, Lexer, hand_comments};
 use std::alloc::{AllocError, Global};
 
@@ -44,43 +44,37 @@ fn form_name(kind: CommentKind) -> &'static str
     }
 }
 
-/// Its side, the place of its token, where it lies and its form, each with a space behind it.
-fn head(alloc: Global, buffered: &BufferedComment) -> Result<String, AllocError>
-    ensures { IfOk result (λ text. string_bytes text ≡ rows.comment_head buffered.now) }
+/// Adds its side, the place of its token, where it lies and its form, each with a space behind it.
+fn push_head(out: &mut Vec<u8>, buffered: &BufferedComment) -> Result<(), AllocError>
+    ensures { OnOk result (out.new.items ≡ out.old.items ++ rows.comment_head buffered.now) }
 {
-    let side = side_name(buffered.kind);
-    let pos = buffered.pos.0;
-    let lo = buffered.comment.span.lo.0;
-    let hi = buffered.comment.span.hi.0;
-    let form = form_name(buffered.comment.kind);
-    format!(in alloc; "{side} {pos} {lo} {hi} {form} ")
+    let span = buffered.comment.span;
+    out.extend_from_slice(side_name(buffered.kind).as_bytes())?;
+    out.push(b' ')?;
+    push_number(out, buffered.pos.0)?;
+    out.push(b' ')?;
+    push_pair(out, span.lo.0, span.hi.0)?;
+    out.extend_from_slice(form_name(buffered.comment.kind).as_bytes())?;
+    out.push(b' ')?;
+    Ok(())
 }
 
 /// Adds the line of a comment.
-fn push_comment(
-    alloc: Global,
-    out: &mut Vec<u8>,
-    buffered: &BufferedComment,
-) -> Result<(), AllocError>
+fn push_comment(out: &mut Vec<u8>, buffered: &BufferedComment) -> Result<(), AllocError>
     ensures { OnOk result (out.new.items ≡ out.old.items ++ rows.comment_line buffered.now) }
 {
-    let head = head(alloc, buffered)?;
-    out.extend_from_slice(head.as_bytes())?;
+    push_head(out, buffered)?;
     push_escaped(out, buffered.comment.text.as_str().as_bytes())?;
     out.push(b'\n')?;
     Ok(())
 }
 
 /// Adds the lines of comments, in order.
-fn push_comments(
-    alloc: Global,
-    out: &mut Vec<u8>,
-    comments: &[BufferedComment],
-) -> Result<(), AllocError>
+fn push_comments(out: &mut Vec<u8>, comments: &[BufferedComment]) -> Result<(), AllocError>
     ensures { OnOk result (out.new.items ≡ out.old.items ++ rows.comment_lines comments.now) }
 {
     for comment in comments {
-        push_comment(alloc, out, comment)?;
+        push_comment(out, comment)?;
     }
     Ok(())
 }
@@ -115,6 +109,6 @@ pub fn comments_text(
     read_out(&mut lexer)?;
     let comments = take_comments(alloc, &mut lexer)?;
     let mut out = Vec::new(alloc);
-    push_comments(alloc, &mut out, &comments)?;
+    push_comments(&mut out, &comments)?;
     Ok(out)
 }

@@ -1,5 +1,5 @@
 //! What is written of the errors of a text: a line each.
-ghost use Rattle.std.specs.Prelude.{◌≡◌, ◌++◌, ◌^◌, ◌<◌, Some, codes, flat_map, length, map, string_bytes, is_some, IfOk, MatchResult, OnOk};
+ghost use Rattle.std.specs.Prelude.{◌≡◌, ◌++◌, ◌^◌, ◌<◌, Some, codes, flat_map, length, map, is_some, IfOk, MatchResult, OnOk};
 ghost use Rattle.ecma_token.specs.View.{error_view, refusal_of, spanned_view, token_view};
 ghost use Rattle.ecma_state.specs.Run.{reading_of, state_behind};
 ghost use Rattle.ecma_state.specs.Session.{lexer_state};
@@ -9,27 +9,26 @@ ghost use Rattle.ecma_lines.specs.Rereads.{Lacks};
 use crate::rereads::{ReadAgain, open};
 use ecma_options::Options;
 use ecma_place::{Span, Spanned};
-use ecma_stdio::{Fault, push_escaped};
+use ecma_stdio::{Fault, push_escaped, push_pair};
 use ecma_stream::{Lexer, Tokens};
 use ecma_token::{Error, Token, TokenAndSpan};
 use std::alloc::{AllocError, Global};
 
-/// What kind of error it is and where it lies, each with a space behind it.
-fn head(alloc: Global, what: &str, span: Span) -> Result<String, AllocError>
-    ensures { IfOk result (λ text. string_bytes text ≡ rows.error_head what.now span) }
+/// Adds what kind of error it is and where it lies, each with a space behind it.
+fn push_head(out: &mut Vec<u8>, what: &str, span: Span) -> Result<(), AllocError>
+    ensures { OnOk result (out.new.items ≡ out.old.items ++ rows.error_head what.now span) }
 {
-    let lo = span.lo.0;
-    let hi = span.hi.0;
-    format!(in alloc; "{what} {lo} {hi} ")
+    out.extend_from_slice(what.as_bytes())?;
+    out.push(b' ')?;
+    push_pair(out, span.lo.0, span.hi.0)
 }
 
 /// Adds the line of an error.
 fn push_error(alloc: Global, out: &mut Vec<u8>, what: &str, error: &Error) -> Result<(), AllocError>
     ensures { OnOk result (out.new.items ≡ out.old.items ++ rows.error_line what.now (error_view error.now)) }
 {
-    let head = head(alloc, what, error.span())?;
     let message = error.kind().msg(alloc)?;
-    out.extend_from_slice(head.as_bytes())?;
+    push_head(out, what, error.span())?;
     push_escaped(out, message.as_bytes())?;
     out.push(b'\n')?;
     Ok(())

@@ -1,5 +1,5 @@
 //! What is written of the tokens of a text: a line each.
-ghost use Rattle.std.specs.Prelude.{◌≡◌, ◌++◌, ◌+◌, ◌^◌, ◌<◌, ◌≤◌, Some, length, map, string_bytes, option_map, IfOk, MatchResult, OnOk};
+ghost use Rattle.std.specs.Prelude.{◌≡◌, ◌++◌, ◌+◌, ◌^◌, ◌<◌, ◌≤◌, Some, codes, length, map, option_map, IfOk, MatchResult, OnOk};
 ghost use Rattle.ecma_state.specs.Run.{reading_of, state_behind};
 ghost use Rattle.ecma_state.specs.Session.{kept_of, lexer_state};
 ghost use Rattle.ecma_token.specs.View.{spanned_view};
@@ -9,7 +9,7 @@ ghost use Rattle.ecma_lines.specs.Rereads.{AllWithin, Lacks};
 use crate::rereads::{ReadAgain, open};
 use ecma_options::Options;
 use ecma_state::Kept;
-use ecma_stdio::{Fault, push_escaped};
+use ecma_stdio::{Fault, push_escaped, push_pair};
 use ecma_stream::Lexer;
 use ecma_syntax::WordKind;
 use ecma_token::{TokenAndSpan, TokenKind};
@@ -70,31 +70,35 @@ fn kind_name(kind: TokenKind) -> &'static str
     }
 }
 
-fn flag_text(flag: bool) -> &'static str
-    ensures { result.now ≡ rows.flag_text flag }
+/// Adds whether a line terminator stands before, with a space behind it.
+fn push_flag(out: &mut Vec<u8>, flag: bool) -> Result<(), AllocError>
+    ensures { OnOk result (out.new.items ≡ out.old.items ++ (rows.flag_text flag ++ codes " ")) }
 {
-    if flag { "lf" } else { "-" }
+    if flag {
+        out.extend_from_slice(b"lf ")
+    } else {
+        out.extend_from_slice(b"- ")
+    }
 }
 
-/// Where the token begins and ends, its flag and its kind, each with a space behind it.
-fn head(alloc: Global, token: Kept) -> Result<String, AllocError>
-    ensures { IfOk result (λ text. string_bytes text ≡ rows.head token) }
+/// Adds where the token begins and ends, its flag and its kind, each with a space behind it.
+fn push_head(out: &mut Vec<u8>, token: Kept) -> Result<(), AllocError>
+    ensures { OnOk result (out.new.items ≡ out.old.items ++ rows.head token) }
 {
-    let lo = token.span.lo.0;
-    let hi = token.span.hi.0;
-    let flag = flag_text(token.flag);
-    let kind = kind_name(token.kind);
-    format!(in alloc; "{lo} {hi} {flag} {kind} ")
+    push_pair(out, token.span.lo.0, token.span.hi.0)?;
+    push_flag(out, token.flag)?;
+    out.extend_from_slice(kind_name(token.kind).as_bytes())?;
+    out.push(b' ')?;
+    Ok(())
 }
 
 /// Adds the line of a token of the text with these bytes, which starts at the place 0.
-fn push_line(alloc: Global, out: &mut Vec<u8>, bytes: &[u8], token: Kept) -> Result<(), AllocError>
+fn push_line(out: &mut Vec<u8>, bytes: &[u8], token: Kept) -> Result<(), AllocError>
     requires in_order { token.span.lo.0 ≤ token.span.hi.0 }
     requires within { token.span.hi.0 ≤ length bytes.now }
     ensures { OnOk result (out.new.items ≡ out.old.items ++ rows.line bytes.now token) }
 {
-    let head = head(alloc, token)?;
-    out.extend_from_slice(head.as_bytes())?;
+    push_head(out, token)?;
     push_escaped(
         out,
         &bytes[token.span.lo.0 as usize..token.span.hi.0 as usize],
@@ -115,17 +119,12 @@ pub fn next_kept(lexer: &mut Lexer) -> Result<Option<Kept>, AllocError>
 }
 
 /// Adds the lines of these tokens of the text, in order.
-fn push_lines(
-    alloc: Global,
-    out: &mut Vec<u8>,
-    bytes: &[u8],
-    tokens: &[TokenAndSpan],
-) -> Result<(), AllocError>
+fn push_lines(out: &mut Vec<u8>, bytes: &[u8], tokens: &[TokenAndSpan]) -> Result<(), AllocError>
     requires { AllWithin (length bytes.now) (map spanned_view tokens.now) }
     ensures { OnOk result (out.new.items ≡ out.old.items ++ rows.lines bytes.now (map kept_of (map spanned_view tokens.now))) }
 {
     for token in tokens {
-        push_line(alloc, out, bytes, Kept::of(token))?;
+        push_line(out, bytes, Kept::of(token))?;
     }
     Ok(())
 }
@@ -148,9 +147,9 @@ pub fn tokens_text(
 {
     let ReadAgain { mut lexer, tokens } = open(alloc, false, options, rereads, text)?;
     let mut out = Vec::new(alloc);
-    push_lines(alloc, &mut out, text.as_bytes(), &tokens)?;
+    push_lines(&mut out, text.as_bytes(), &tokens)?;
     'tokens: while let Some(token) = next_kept(&mut lexer)? {
-        push_line(alloc, &mut out, text.as_bytes(), token)?;
+        push_line(&mut out, text.as_bytes(), token)?;
     }
     Ok(out)
 }
