@@ -1,1 +1,2 @@
+pub mod EscapedLemmas
 pub mod MarkupLemmas

@@ -1,37 +1,60 @@
 //! A text with its markup.
-ghost use Rattle.std.specs.Prelude.{◌≡◌, ◌++◌, drop, length, IfOk, OnOk};
+ghost use Rattle.std.specs.Prelude.{◌≡◌, [], ◌∷◌, ◌++◌, codes, drop, length, IfOk, OnOk, MatchOption};
 ghost use Rattle.ecma_classes.specs.Classes.{Tile, joined};
 ghost use Rattle.ecma_html.specs.Markup as markup;
-ghost use Rattle.ecma_html.specs.Styles.{left_classes, piece_class, styled};
+ghost use Rattle.ecma_html.specs.Styles.{class_name, left_classes, piece_class, styled};
 ghost use Rattle.ecma_html.specs.Unmark.{shown, unmark};
 
 use crate::class::Class;
 use ecma_classes::{Class as PieceClass, Piece};
 use std::alloc::{AllocError, Global};
 
-/// Adds what is shown as this byte: a reference where it would begin or end markup, or where a reader of HTML would change
-/// it, and U+FFFD for NUL, which HTML can't hold.
-fn push_escaped_byte(out: &mut Vec<u8>, byte: u8) -> Result<(), AllocError>
-    ensures { OnOk result (out.new.items ≡ out.old.items ++ markup.escaped_byte byte) }
+/// What is shown in the place of a byte: a reference where it would begin or end markup, or where a reader of HTML would
+/// change it, and U+FFFD for NUL, which HTML can't hold. Other bytes are shown as they are.
+fn replacement(byte: u8) -> Option<&'static [u8]>
+    ensures { MatchOption result (markup.escaped_byte byte ≡ byte ∷ []) (λ bytes. markup.escaped_byte byte ≡ bytes.now) }
 {
     match byte {
-        b'&' => out.extend_from_slice(b"&amp;"),
-        b'<' => out.extend_from_slice(b"&lt;"),
-        b'>' => out.extend_from_slice(b"&gt;"),
-        b'\r' => out.extend_from_slice(b"&#13;"),
-        0 => out.extend_from_slice(b"\xef\xbf\xbd"),
-        _ => Ok(out.push(byte)?),
+        b'&' => Some(b"&amp;"),
+        b'<' => Some(b"&lt;"),
+        b'>' => Some(b"&gt;"),
+        b'\r' => Some(b"&#13;"),
+        0 => Some(b"\xef\xbf\xbd"),
+        _ => None,
     }
 }
 
-/// Adds the bytes, each as `push_escaped_byte` does.
+/// Adds the bytes, each as `replacement` has it. What lies between two bytes that are replaced goes in at once.
 fn push_escaped(out: &mut Vec<u8>, bytes: &[u8]) -> Result<(), AllocError>
     ensures { OnOk result (out.new.items ≡ out.old.items ++ markup.escaped bytes.now) }
 {
-    for byte in bytes {
-        push_escaped_byte(out, *byte)?;
+    let mut done = 0;
+    for (place, byte) in bytes.iter().enumerate() {
+        if let Some(shown) = replacement(*byte) {
+            out.extend_from_slice(&bytes[done..place])?;
+            out.extend_from_slice(shown)?;
+            done = place + 1;
+        }
     }
-    Ok(())
+    out.extend_from_slice(&bytes[done..])
+}
+
+/// The tag that opens a span of this class.
+fn open_tag(class: Class) -> &'static [u8]
+    ensures { result.now ≡ codes "<span class=\"" ++ (class_name class ++ codes "\">") }
+{
+    match class {
+        Class::Keyword => b"<span class=\"keyword\">",
+        Class::Literal => b"<span class=\"literal\">",
+        Class::Name => b"<span class=\"name\">",
+        Class::Property => b"<span class=\"property\">",
+        Class::Text => b"<span class=\"string\">",
+        Class::Template => b"<span class=\"template\">",
+        Class::Number => b"<span class=\"number\">",
+        Class::Expression => b"<span class=\"regexp\">",
+        Class::Comment => b"<span class=\"comment\">",
+        Class::Wrong => b"<span class=\"error\">",
+    }
 }
 
 /// Adds the bytes, in a span where they have a class.
@@ -41,9 +64,7 @@ fn push_styled(out: &mut Vec<u8>, class: Option<Class>, bytes: &[u8]) -> Result<
     let Some(class) = class else {
         return push_escaped(out, bytes);
     };
-    out.extend_from_slice(b"<span class=\"")?;
-    out.extend_from_slice(class.name().as_bytes())?;
-    out.extend_from_slice(b"\">")?;
+    out.extend_from_slice(open_tag(class))?;
     push_escaped(out, bytes)?;
     out.extend_from_slice(b"</span>")
 }

@@ -1,7 +1,10 @@
--- What was added is the front of the bytes, escaped.
-use Rattle.std.proofs.Common.{◌≡◌, ◌++◌, take}
+-- What was added, and the bytes behind it that are to be added as they are, are the front of the bytes, escaped.
+use Rattle.std.proofs.Common.{◌≡◌, ◌++◌, ◌≤◌, take}
+use Rattle.std.specs.Prelude.{slice_range}
 use Rattle.ecma_html.specs.Markup.{escaped}
 use Rattle.ecma_html.proofs.markup.push_escaped.Given as goal
 
-abbrev pub invariant-loop-byte : goal.invariant-loop-byte
-invariant-loop-byte l = l.out.items ≡ l.initial.out.items ++ escaped (take l.byte-index l.bytes)
+abbrev pub invariant-loop-place : goal.invariant-loop-place
+invariant-loop-place l =
+    (l.done ≤ l.place)
+    × (l.out.items ++ slice_range l.bytes l.done l.place ≡ l.initial.out.items ++ escaped (take l.place l.bytes))
