@@ -3,3 +3,4 @@
 
 pub mod report;
 pub mod words;
+mod written;

@@ -1,11 +1,12 @@
 //! What is written of a text: lines, or JSON objects.
 
 use crate::words::Asked;
+use crate::written::{push_head, push_object};
 use ecma_place::{BytePos, Span};
 use ecma_positions::{LineStarts, Position};
 use ecma_stdio::push_escaped;
 use ecma_token::SyntaxError;
-use serde_json::{Value, json};
+use serde_json::Value;
 use std::alloc::{AllocError, Global};
 
 /// What is reported of a part of a text besides what all rows have.
@@ -75,64 +76,24 @@ impl<'a> Report<'a> {
         Ok(())
     }
 
-    /// A row as a JSON object.
-    fn object(&self, row: Row) -> Result<Value, AllocError> {
-        let Position { line, column } = self.lines.position(row.span.lo);
-        let file = self.name;
-        let kind = row.kind;
-        let lo = row.span.lo.0;
-        let hi = row.span.hi.0;
-        let text = row.text;
-        match row.more {
-            More::Nothing => json!(in self.alloc; {
-                "file": file, "kind": kind, "lo": lo, "hi": hi, "line": line, "column": column, "text": text
-            }),
-            More::LineBreak(flag) => json!(in self.alloc; {
-                "file": file, "kind": kind, "lo": lo, "hi": hi, "line": line, "column": column, "text": text,
-                "line_break_before": flag
-            }),
-            More::Beside { side, token } => {
-                let token = token.0;
-                json!(in self.alloc; {
-                    "file": file, "kind": kind, "lo": lo, "hi": hi, "line": line, "column": column, "text": text,
-                    "side": side, "token": token
-                })
-            }
+    /// Adds a row, but not the end of its line.
+    fn push_parts(&mut self, row: Row) -> Result<(), AllocError> {
+        if self.asked.json {
+            let position = self.lines.position(row.span.lo);
+            return push_object(&mut self.out, self.name, position, row);
         }
-    }
-
-    /// What comes before the text of a row in its line.
-    fn head(&self, row: Row) -> Result<String, AllocError> {
-        let kind = row.kind;
-        let lo = row.span.lo.0;
-        let hi = row.span.hi.0;
-        let place = if self.asked.lines {
-            let Position { line, column } = self.lines.position(row.span.lo);
-            format!(in self.alloc; " {line}:{column}")?
+        let position = if self.asked.lines {
+            Some(self.lines.position(row.span.lo))
         } else {
-            String::new(self.alloc)
+            None
         };
-        let place = place.as_str();
-        match row.more {
-            More::Nothing => format!(in self.alloc; "{kind}{place} {lo} {hi} "),
-            More::LineBreak(true) => format!(in self.alloc; "{kind}{place} {lo} {hi} lf "),
-            More::LineBreak(false) => format!(in self.alloc; "{kind}{place} {lo} {hi} - "),
-            More::Beside { side, token } => {
-                let token = token.0;
-                format!(in self.alloc; "{kind}{place} {lo} {hi} {side} {token} ")
-            }
-        }
+        push_head(&mut self.out, position, row)?;
+        push_escaped(&mut self.out, row.text.as_bytes())
     }
 
     /// Adds a row: a line, or a JSON object in a line.
     pub fn push_row(&mut self, row: Row) -> Result<(), AllocError> {
-        if self.asked.json {
-            let value = self.object(row)?;
-            return self.push_json(value);
-        }
-        let head = self.head(row)?;
-        self.out.extend_from_slice(head.as_bytes())?;
-        push_escaped(&mut self.out, row.text.as_bytes())?;
+        self.push_parts(row)?;
         self.out.push(b'\n')?;
         Ok(())
     }

@@ -1,6 +1,7 @@
-//! Rows of slashes by the flag, of HTML, of what is imported, and of lines and columns.
+//! Rows of slashes by the flag, of HTML, of what is imported, of lines and columns, and of what is reported.
 
 mod markup;
 mod positions;
+mod report;
 mod slashes;
 mod specifiers;

@@ -1,0 +1,2 @@
+pub mod EscapedLemmas
+pub mod ObjectLemmas

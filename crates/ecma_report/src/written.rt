@@ -1,0 +1,210 @@
+//! What is written of a row: a JSON object, as `serde_json` writes one, or what comes before the text of a row in its line.
+ghost use Rattle.std.specs.Prelude.{◌≡◌, ◌∷◌, ◌++◌, ◌<◌, decimal, OnOk};
+ghost use Rattle.std.specs.Char.{digit_char};
+ghost use Rattle.json.specs.Print.{escape, escape_byte, quoted};
+ghost use Rattle.serde_json.specs.Written.{compact_text};
+ghost use Rattle.ecma_report.specs.Rows as row_specs;
+
+use crate::report::{More, Row};
+use ecma_positions::Position;
+use itoa::Buffer;
+use std::alloc::AllocError;
+
+/// Adds a number in decimal digits.
+fn push_number(out: &mut Vec<u8>, number: usize) -> Result<(), AllocError>
+    ensures { OnOk result (out.new.items ≡ out.old.items ++ decimal number) }
+{
+    let mut buffer = Buffer::new();
+    out.extend_from_slice(buffer.format(number).as_bytes())
+}
+
+/// Whether a byte of a JSON string has to be written as an escape.
+fn needs_escape(byte: u8) -> bool
+    ensures { result ≡ row_specs.needs_escape byte }
+{
+    byte < b' ' || byte == b'"' || byte == b'\\'
+}
+
+/// The hexadecimal digit of a number below 16.
+fn hex_digit(number: u8) -> u8
+    requires { number < 16 }
+    ensures { result ≡ digit_char number }
+{
+    if number < 10 {
+        b'0' + number
+    } else {
+        b'a' - 10 + number
+    }
+}
+
+/// Adds a byte as JSON strings have it.
+#[tactic(auto, unfolding(json::specs::Print::escape_byte))]
+fn push_escape(out: &mut Vec<u8>, byte: u8) -> Result<(), AllocError>
+    ensures { OnOk result (out.new.items ≡ out.old.items ++ escape_byte byte) }
+{
+    match byte {
+        b'"' => out.extend_from_slice(b"\\\""),
+        b'\\' => out.extend_from_slice(b"\\\\"),
+        8 => out.extend_from_slice(b"\\b"),
+        12 => out.extend_from_slice(b"\\f"),
+        b'\n' => out.extend_from_slice(b"\\n"),
+        b'\r' => out.extend_from_slice(b"\\r"),
+        b'\t' => out.extend_from_slice(b"\\t"),
+        0..=31 => out.extend_from_slice(&[
+            b'\\',
+            b'u',
+            b'0',
+            b'0',
+            hex_digit(byte / 16),
+            hex_digit(byte % 16),
+        ]),
+        _ => Ok(out.push(byte)?),
+    }
+}
+
+/// Adds bytes as JSON strings have them. What lies between two escapes goes in at once.
+fn push_inside(out: &mut Vec<u8>, bytes: &[u8]) -> Result<(), AllocError>
+    ensures { OnOk result (out.new.items ≡ out.old.items ++ escape bytes.now) }
+{
+    let mut done = 0;
+    for (place, byte) in bytes.iter().enumerate() {
+        if needs_escape(*byte) {
+            out.extend_from_slice(&bytes[done..place])?;
+            push_escape(out, *byte)?;
+            done = place + 1;
+        }
+    }
+    out.extend_from_slice(&bytes[done..])
+}
+
+/// Adds a member of a JSON object that is a number, behind what comes before it.
+fn push_number_member(out: &mut Vec<u8>, before: &[u8], number: usize) -> Result<(), AllocError>
+    ensures { OnOk result (out.new.items ≡ out.old.items ++ (before.now ++ decimal number)) }
+{
+    out.extend_from_slice(before)?;
+    push_number(out, number)
+}
+
+/// Adds a member of a JSON object that is a string, behind what comes before it, the opening quote with it.
+fn push_text_member(out: &mut Vec<u8>, before: &[u8], text: &str) -> Result<(), AllocError>
+    ensures { OnOk result (out.new.items ≡ out.old.items ++ (before.now ++ quoted text.now)) }
+{
+    out.extend_from_slice(before)?;
+    out.push(b'"')?;
+    push_inside(out, text.as_bytes())?;
+    out.push(b'"')?;
+    Ok(())
+}
+
+/// Adds the member that says whether a line terminator comes before a token.
+fn push_line_break(out: &mut Vec<u8>, more: More) -> Result<(), AllocError>
+    ensures { OnOk result (out.new.items ≡ out.old.items ++ row_specs.line_break_text more) }
+{
+    match more {
+        More::LineBreak(true) => out.extend_from_slice(b",\"line_break_before\":true"),
+        More::LineBreak(false) => out.extend_from_slice(b",\"line_break_before\":false"),
+        More::Nothing | More::Beside { .. } => Ok(()),
+    }
+}
+
+/// Adds the member that says on which side of its token a comment is.
+fn push_side(out: &mut Vec<u8>, more: More) -> Result<(), AllocError>
+    ensures { OnOk result (out.new.items ≡ out.old.items ++ row_specs.side_text more) }
+{
+    match more {
+        More::Beside { side, .. } => push_text_member(out, b",\"side\":", side),
+        More::Nothing | More::LineBreak(_) => Ok(()),
+    }
+}
+
+/// Adds the member that says where the token of a comment is.
+fn push_token(out: &mut Vec<u8>, more: More) -> Result<(), AllocError>
+    ensures { OnOk result (out.new.items ≡ out.old.items ++ row_specs.token_text more) }
+{
+    match more {
+        More::Beside { token, .. } => push_number_member(out, b",\"token\":", token.0 as usize),
+        More::Nothing | More::LineBreak(_) => Ok(()),
+    }
+}
+
+/// Adds a row of a file as a JSON object. Its members stand in the order of their names.
+///
+/// # Errors
+///
+/// `AllocError` where there is no memory; a part of the object may have been added then.
+pub(crate) fn push_object(
+    out: &mut Vec<u8>,
+    file: &str,
+    position: Position,
+    row: Row,
+) -> Result<(), AllocError>
+    ensures { OnOk result (out.new.items ≡ out.old.items ++ compact_text (row_specs.row_data file.now position row.entry)) }
+{
+    push_number_member(out, b"{\"column\":", position.column)?;
+    push_text_member(out, b",\"file\":", file)?;
+    push_number_member(out, b",\"hi\":", row.span.hi.0 as usize)?;
+    push_text_member(out, b",\"kind\":", row.kind)?;
+    push_number_member(out, b",\"line\":", position.line)?;
+    push_line_break(out, row.more)?;
+    push_number_member(out, b",\"lo\":", row.span.lo.0 as usize)?;
+    push_side(out, row.more)?;
+    push_text_member(out, b",\"text\":", row.text)?;
+    push_token(out, row.more)?;
+    out.push(b'}')?;
+    Ok(())
+}
+
+/// Adds a byte, and a number behind it.
+fn push_behind(out: &mut Vec<u8>, byte: u8, number: usize) -> Result<(), AllocError>
+    ensures { OnOk result (out.new.items ≡ out.old.items ++ byte ∷ decimal number) }
+{
+    out.push(byte)?;
+    push_number(out, number)
+}
+
+/// Adds a line and a column, behind a space.
+fn push_position(out: &mut Vec<u8>, position: Option<Position>) -> Result<(), AllocError>
+    ensures { OnOk result (out.new.items ≡ out.old.items ++ row_specs.position_text position) }
+{
+    let Some(Position { line, column }) = position else {
+        return Ok(());
+    };
+    push_behind(out, b' ', line)?;
+    push_behind(out, b':', column)
+}
+
+/// Adds what is told of a row besides what all rows have, between spaces.
+fn push_more(out: &mut Vec<u8>, more: More) -> Result<(), AllocError>
+    ensures { OnOk result (out.new.items ≡ out.old.items ++ row_specs.more_text more) }
+{
+    match more {
+        More::Nothing => Ok(out.push(b' ')?),
+        More::LineBreak(true) => out.extend_from_slice(b" lf "),
+        More::LineBreak(false) => out.extend_from_slice(b" - "),
+        More::Beside { side, token } => {
+            out.push(b' ')?;
+            out.extend_from_slice(side.as_bytes())?;
+            push_behind(out, b' ', token.0 as usize)?;
+            Ok(out.push(b' ')?)
+        }
+    }
+}
+
+/// Adds what comes before the text of a row in its line, with its line and column where they are given.
+///
+/// # Errors
+///
+/// `AllocError` where there is no memory; a part of it may have been added then.
+pub(crate) fn push_head(
+    out: &mut Vec<u8>,
+    position: Option<Position>,
+    row: Row,
+) -> Result<(), AllocError>
+    ensures { OnOk result (out.new.items ≡ out.old.items ++ row_specs.head position row.entry) }
+{
+    out.extend_from_slice(row.kind.as_bytes())?;
+    push_position(out, position)?;
+    push_behind(out, b' ', row.span.lo.0 as usize)?;
+    push_behind(out, b' ', row.span.hi.0 as usize)?;
+    push_more(out, row.more)
+}

@@ -1,0 +1,261 @@
+//! Rows of a report, each held to what `serde_json` and `format!` write of it.
+use ecma_options::Options;
+use ecma_place::{BytePos, Span};
+use ecma_positions::{LineStarts, Position};
+use ecma_report::report::{More, Report, Row};
+use ecma_report::words::{Asked, Face};
+use ecma_stdio::push_escaped;
+use serde_json::json;
+use std::alloc::{AllocError, Global};
+use std::test::Fail;
+
+/// The text that is reported of, and a span of it.
+const SOURCE: &str = "let a\n= 1\n\n// b\n";
+const SPAN: Span = Span {
+    lo: BytePos(8),
+    hi: BytePos(4_294_967_295),
+};
+
+/// Names of files, and what is told besides.
+const CASES: &[(&str, More)] = &[
+    ("bundle.js", More::Nothing),
+    ("", More::LineBreak(true)),
+    ("a \"b\"\\c\\.ts", More::LineBreak(false)),
+    (
+        "d/\u{1}\té.js",
+        More::Beside {
+            side: "leading",
+            token: BytePos(0),
+        },
+    ),
+    (
+        "𝒳\n",
+        More::Beside {
+            side: "\"\\\n\u{7f}",
+            token: BytePos(4_294_967_295),
+        },
+    ),
+];
+
+/// Whether JSON is asked for, and lines.
+const MODES: &[(bool, bool)] = &[(true, false), (true, true), (false, true), (false, false)];
+
+/// A row as a JSON object, made as a tree.
+fn object(
+    alloc: Global,
+    file: &str,
+    position: Position,
+    row: Row,
+) -> Result<String, AllocError> {
+    let Position { line, column } = position;
+    let kind = row.kind;
+    let lo = row.span.lo.0;
+    let hi = row.span.hi.0;
+    let text = row.text;
+    let value = match row.more {
+        More::Nothing => json!(in alloc; {
+            "file": file, "kind": kind, "lo": lo, "hi": hi, "line": line, "column": column, "text": text
+        }),
+        More::LineBreak(flag) => json!(in alloc; {
+            "file": file, "kind": kind, "lo": lo, "hi": hi, "line": line, "column": column, "text": text,
+            "line_break_before": flag
+        }),
+        More::Beside { side, token } => {
+            let token = token.0;
+            json!(in alloc; {
+                "file": file, "kind": kind, "lo": lo, "hi": hi, "line": line, "column": column, "text": text,
+                "side": side, "token": token
+            })
+        }
+    }?;
+    value.to_string(alloc)
+}
+
+/// What comes before the text of a row in its line.
+fn head(
+    alloc: Global,
+    lines: bool,
+    position: Position,
+    row: Row,
+) -> Result<String, AllocError> {
+    let kind = row.kind;
+    let lo = row.span.lo.0;
+    let hi = row.span.hi.0;
+    let place = if lines {
+        let Position { line, column } = position;
+        format!(in alloc; " {line}:{column}")?
+    } else {
+        String::new(alloc)
+    };
+    let place = place.as_str();
+    match row.more {
+        More::Nothing => format!(in alloc; "{kind}{place} {lo} {hi} "),
+        More::LineBreak(true) => format!(in alloc; "{kind}{place} {lo} {hi} lf "),
+        More::LineBreak(false) => format!(in alloc; "{kind}{place} {lo} {hi} - "),
+        More::Beside { side, token } => {
+            let token = token.0;
+            format!(in alloc; "{kind}{place} {lo} {hi} {side} {token} ")
+        }
+    }
+}
+
+/// A row with the end of its line.
+fn row_bytes(
+    alloc: Global,
+    asked: Asked,
+    file: &str,
+    row: Row,
+) -> Result<Vec<u8>, AllocError> {
+    let position = LineStarts::of(alloc, SOURCE.as_bytes())?.position(row.span.lo);
+    let mut bytes = Vec::new(alloc);
+    if asked.json {
+        let line = object(alloc, file, position, row)?;
+        bytes.extend_from_slice(line.as_bytes())?;
+    } else {
+        let head = head(alloc, asked.lines, position, row)?;
+        bytes.extend_from_slice(head.as_bytes())?;
+        push_escaped(&mut bytes, row.text.as_bytes())?;
+    }
+    bytes.push(b'\n')?;
+    Ok(bytes)
+}
+
+fn asked(json: bool, lines: bool) -> Asked {
+    Asked {
+        face: Face::Tokens,
+        options: Options {
+            typescript: false,
+            module: false,
+            strict: false,
+            standard: false,
+        },
+        json,
+        lines,
+    }
+}
+
+/// Whether a report of two rows is these rows.
+fn is_reported(alloc: Global, asked: Asked, file: &str, row: Row) -> Result<bool, AllocError> {
+    let mut report = Report::new(alloc, asked, file, SOURCE)?;
+    report.push_row(row)?;
+    report.push_row(row)?;
+    let wanted = row_bytes(alloc, asked, file, row)?;
+    Ok(match report.out.as_slice().strip_prefix(wanted.as_slice()) {
+        Some(second) => second == wanted.as_slice(),
+        None => false,
+    })
+}
+
+/// Whether the rows of a text are reported, in all cases.
+fn are_reported(alloc: Global, asked: Asked, text: &str) -> Result<bool, AllocError> {
+    for (file, more) in CASES {
+        let row = Row {
+            kind: "\"name\"",
+            span: SPAN,
+            more: *more,
+            text,
+        };
+        if !is_reported(alloc, asked, file, row)? {
+            return Ok(false);
+        }
+    }
+    Ok(true)
+}
+
+/// So many times the same part, and what begins and ends a text.
+fn repeated(alloc: Global, part: &str, count: usize) -> Result<String, AllocError> {
+    let mut text = String::new(alloc);
+    for _ in 0..count {
+        text.push_str(part)?;
+    }
+    Ok(text)
+}
+
+#[test]
+fn rows_of_each_byte_are_as_trees_write_them(rt: HostRuntime) -> Result<(), Fail> {
+    for byte in 0..128_u8 {
+        let mut text = String::from_str(rt.alloc(), "a")?;
+        text.push(char::from(byte))?;
+        text.push_str("\u{e9}b")?;
+        for (json, lines) in MODES {
+            assert!(rt; are_reported(rt.alloc(), asked(*json, *lines), text.as_str())?, "{byte} {json} {lines}");
+        }
+    }
+    Ok(())
+}
+
+/// Parts of texts, and how often each comes.
+const TEXTS: &[(&str, usize)] = &[
+    ("", 0),
+    ("\0", 1),
+    ("\u{1f}", 3),
+    ("\"", 1),
+    ("\\", 2),
+    ("a\\", 1),
+    ("é\u{2028}𝒳\u{fffd}\u{7f}", 2),
+    ("x", 5_000),
+    ("\n", 5_000),
+    ("0123456789abcdef\"", 300),
+    ("\"\\\u{8}\u{c}\n\r\t\u{b}", 100),
+];
+
+#[test]
+fn rows_of_texts_are_as_trees_write_them(rt: HostRuntime) -> Result<(), Fail> {
+    for (part, count) in TEXTS {
+        let text = repeated(rt.alloc(), part, *count)?;
+        for (json, lines) in MODES {
+            assert!(rt; are_reported(rt.alloc(), asked(*json, *lines), text.as_str())?, "{part} {json} {lines}");
+        }
+    }
+    Ok(())
+}
+
+/// What is told besides, whether JSON is asked for, and lines, and what is written of a row.
+const ROWS: &[(More, bool, bool, &str)] = &[
+    (
+        More::LineBreak(true),
+        true,
+        false,
+        "{\"column\":3,\"file\":\"a.js\",\"hi\":4294967295,\"kind\":\"number\",\"line\":2,\"line_break_before\":true,\"lo\":8,\"text\":\"1\\n\\u0000\\\"\"}\n",
+    ),
+    (
+        More::Beside {
+            side: "leading",
+            token: BytePos(7),
+        },
+        true,
+        true,
+        "{\"column\":3,\"file\":\"a.js\",\"hi\":4294967295,\"kind\":\"number\",\"line\":2,\"lo\":8,\"side\":\"leading\",\"text\":\"1\\n\\u0000\\\"\",\"token\":7}\n",
+    ),
+    (
+        More::LineBreak(false),
+        false,
+        true,
+        "number 2:3 8 4294967295 - 1\\n\0\"\n",
+    ),
+    (
+        More::Nothing,
+        false,
+        false,
+        "number 8 4294967295 1\\n\0\"\n",
+    ),
+];
+
+fn is_written(alloc: Global, asked: Asked, more: More, wanted: &str) -> Result<bool, AllocError> {
+    let mut report = Report::new(alloc, asked, "a.js", SOURCE)?;
+    report.push_row(Row {
+        kind: "number",
+        span: SPAN,
+        more,
+        text: "1\n\0\"",
+    })?;
+    Ok(report.out.as_slice() == wanted.as_bytes())
+}
+
+#[test]
+fn rows_are_written(rt: HostRuntime) -> Result<(), Fail> {
+    for (more, json, lines, wanted) in ROWS {
+        assert!(rt; is_written(rt.alloc(), asked(*json, *lines), *more, wanted)?, "{wanted}");
+    }
+    Ok(())
+}
