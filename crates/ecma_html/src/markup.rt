@@ -14,6 +14,10 @@ use std::alloc::{AllocError, Global};
 fn replacement(byte: u8) -> Option<&'static [u8]>
     ensures { MatchOption result (markup.escaped_byte byte ≡ byte ∷ []) (λ bytes. markup.escaped_byte byte ≡ bytes.now) }
 {
+    // Most bytes lie behind all that are replaced.
+    if byte > b'>' {
+        return None;
+    }
     match byte {
         b'&' => Some(b"&amp;"),
         b'<' => Some(b"&lt;"),
@@ -61,12 +65,14 @@ fn open_tag(class: Class) -> &'static [u8]
 fn push_styled(out: &mut Vec<u8>, class: Option<Class>, bytes: &[u8]) -> Result<(), AllocError>
     ensures { OnOk result (out.new.items ≡ out.old.items ++ markup.styled_html class bytes.now) }
 {
-    let Some(class) = class else {
-        return push_escaped(out, bytes);
-    };
-    out.extend_from_slice(open_tag(class))?;
+    if let Some(class) = class {
+        out.extend_from_slice(open_tag(class))?;
+    }
     push_escaped(out, bytes)?;
-    out.extend_from_slice(b"</span>")
+    if class.is_some() {
+        out.extend_from_slice(b"</span>")?;
+    }
+    Ok(())
 }
 
 /// The class of a piece, where so many classes of tokens were taken before.
