@@ -4,7 +4,7 @@ use Rattle.std.specs.List.{prefix_len, suffix_len}
 use Rattle.std.specs.List.Sorted.{IsNonDecreasingBy}
 use Rattle.std.proofs.lemmas.Bool.Decides.{nat_tests}
 use Rattle.std.proofs.lemmas.List.{append-nil, get_or_append_left, length-append, length-take, take-append-drop, take_all, take_more}
-use Rattle.std.proofs.lemmas.List.Sums.{count_by_more_no, count_by_more_yes, suffix_len-take_no, suffix_len-take_yes}
+use Rattle.std.proofs.lemmas.List.Sums.{count_by_more_no, count_by_more_yes, prefix_len_is, suffix_len-take_no, suffix_len-take_yes}
 use Rattle.ecma_positions.specs.Positions.{is_line_feed, last_line, line_starts, line_starts_behind, position_behind}
 use Rattle.ecma_positions.specs.declared.position.Position.{Position}
 
@@ -77,6 +77,22 @@ up-to before (suc k) (byte ∷ bytes) =
     let on : before + 1 + k ≡ before + suc k = omega arith in
     up-to-fork (nat_eq byte 10) (before + suc k) (before + 1) (line_starts_behind (before + 1) bytes) (line_starts_behind (before + 1) (take k bytes)) (omega arith)
     (ap (λ n. prefix_len (λ s. nat_le s n) (line_starts_behind (before + 1) bytes)) (sym on) ∙ up-to (before + 1) k bytes)
+
+is_le : (a b : ℕ) → a ≤ b → nat_le a b ≡ true
+is_le a b le = grind (arith, nat_tests)
+
+-- a line that begins at or before the place, where the next one begins behind it
+pub counted-near : (bytes starts : List ℕ) (place near : ℕ) → starts ≡ line_starts bytes → 0 < near → near < length starts → get_or starts (near - 1) 0 ≤ place → place < get_or starts near 0
+    → near ≡ length (line_starts (take place bytes))
+counted-near bytes starts place near shows some within begun later =
+    let up : IsNonDecreasingBy (λ x. x) starts = subst (IsNonDecreasingBy (λ x. x)) (sym shows) (rising 0 bytes) in
+    let before : (k : ℕ) → k < near → nat_le (get_or starts k 0) place ≡ true = λ k l. is_le (get_or starts k 0) place (omega (arith, up k (near - 1) 0 (omega arith) (omega arith))) in
+    let behind : nat_le (get_or starts near 0) place ≡ false = grind (arith, nat_tests) in
+    let place_is : place ≡ 0 + place = omega arith in
+    sym (prefix_len_is (λ s. nat_le s place) starts near 0 (omega arith) before (λ _. behind))
+    ∙ ap (prefix_len (λ s. nat_le s place)) shows
+    ∙ ap (λ n. prefix_len (λ s. nat_le s n) (line_starts bytes)) place_is
+    ∙ up-to 0 place bytes
 
 -- The last of them
 

@@ -51,13 +51,25 @@ impl LineStarts {
         )
     }
 
-    /// The line and the column of a place of the text whose lines these are; a place behind its end counts as one of its
-    /// last line. Our own.
-    pub fn position(&self, place: BytePos) -> Position
-        ensures { (bytes : List ℕ) → self.now.starts.items ≡ line_starts bytes → result ≡ position_in bytes place }
+    /// The same number, found without a search where it is `near`.
+    fn count_near(&self, place: usize, near: usize) -> usize
+        ensures bound { result ≤ length self.now.starts.items }
+        ensures counted { (bytes : List ℕ) → self.now.starts.items ≡ line_starts bytes → result ≡ length (line_starts (take place bytes)) }
+    {
+        let starts = self.starts.as_slice();
+        if 0 < near && near < starts.len() && starts[near - 1] <= place && place < starts[near] {
+            near
+        } else {
+            self.count_at(place)
+        }
+    }
+
+    /// The position of a place, at or before which so many lines begin behind the first one.
+    fn position_behind(&self, place: BytePos, count: usize) -> Position
+        requires { count ≤ length self.now.starts.items }
+        ensures { (bytes : List ℕ) → self.now.starts.items ≡ line_starts bytes → count ≡ length (line_starts (take place.0 bytes)) → result ≡ position_in bytes place }
     {
         let place = place.0 as usize;
-        let count = self.count_at(place);
         let start = if count == 0 {
             0
         } else {
@@ -67,5 +79,21 @@ impl LineStarts {
             line: count + 1,
             column: place.saturating_sub(start) + 1,
         }
+    }
+
+    /// The line and the column of a place of the text whose lines these are; a place behind its end counts as one of its
+    /// last line. Our own.
+    pub fn position(&self, place: BytePos) -> Position
+        ensures { (bytes : List ℕ) → self.now.starts.items ≡ line_starts bytes → result ≡ position_in bytes place }
+    {
+        self.position_behind(place, self.count_at(place.0 as usize))
+    }
+
+    /// The same position, found without a search where it is in the line `line`, as one often is in that of the one before.
+    pub fn position_near(&self, place: BytePos, line: usize) -> Position
+        ensures { (bytes : List ℕ) → self.now.starts.items ≡ line_starts bytes → result ≡ position_in bytes place }
+    {
+        let count = self.count_near(place.0 as usize, line.saturating_sub(1));
+        self.position_behind(place, count)
     }
 }

@@ -30,7 +30,12 @@ fn is_at(
     (line, column): (usize, usize),
 ) -> Result<bool, AllocError> {
     let lines = LineStarts::of(alloc, source.as_bytes())?;
-    Ok(lines.position(BytePos(place)) == Position { line, column })
+    let place = BytePos(place);
+    let wanted = Position { line, column };
+    Ok(lines.position(place) == wanted
+        && lines.position_near(place, line) == wanted
+        && lines.position_near(place, line.saturating_sub(1)) == wanted
+        && lines.position_near(place, 2) == wanted)
 }
 
 #[test]
