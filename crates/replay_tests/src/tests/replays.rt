@@ -1,6 +1,6 @@
 //! Steps that are replayed: what each answers, and what they come to.
-use ecma_lexer::{Answer, Kept, Replay, Settings, Step};
-use ecma_place::BytePos;
+use ecma_lexer::{Answer, Gathered, Kept, Replay, Settings, Step, gather};
+use ecma_place::{BytePos, StringInput};
 use ecma_syntax::{EsVersion, NumberRule, Syntax};
 use listings::commands::Command::{
     self, Allow, Back, Leave, Module, Pop, Read, Reread, Save, Take, Withdraw,
@@ -85,6 +85,26 @@ const ROWS_OF_WAYS_BACK: &[Row] = &[
     ),
 ];
 
+/// What is gathered is what is replayed, but for the answers.
+const ROWS_OF_GATHERED: &[Row] = &[
+    (
+        "a / /b/g",
+        &[Read, Read, Read, Reread, Read, Withdraw, Read],
+        "kept 0..1 2..3 4..8; ended",
+    ),
+    ("a 1__2", &[Read, Save, Read, Back(0)], "kept 0..1"),
+    (
+        "1__2 b",
+        &[Save, Read, Back(0), Read, Save, Read, Back(1)],
+        "kept 0..4; recorded 0..1 A numeric separator is only allowed between two digits",
+    ),
+    (
+        "a/ //x",
+        &[Read, Read, Read],
+        "kept 0..1 1..2; trailing 2 3..6 Line [x]; ended",
+    ),
+];
+
 /// Errors are recorded until they are taken, and wait until the code is a module.
 const ROWS_OF_ERRORS: &[Row] = &[
     (
@@ -149,15 +169,45 @@ fn write_replay(out: &mut String, found: &Replay) -> Result<(), AllocError> {
     Ok(())
 }
 
-/// What the steps answer and come to, with comments collected.
-fn replayed<'a>(alloc: Global, text: &'a str, steps: &[Step]) -> Result<Replay<'a>, AllocError> {
-    let settings = Settings {
+fn write_gathered(out: &mut String, found: &Gathered) -> Result<(), AllocError> {
+    write_kept(out, &found.kept)?;
+    write_errors(out, "recorded ", found.errors.as_slice())?;
+    write_errors(out, "waiting ", found.waiting.as_slice())?;
+    write_comments(out, &found.comments)?;
+    if found.ended {
+        write_note(out, "ended")?;
+    }
+    Ok(())
+}
+
+/// A script, with comments collected.
+fn settings() -> Settings {
+    Settings {
         syntax: Syntax::default(),
         target: EsVersion::default(),
         comments: true,
         numbers: NumberRule::default(),
-    };
-    played(alloc, &settings, text, BytePos(0), steps)
+    }
+}
+
+/// What the steps answer and come to, with comments collected.
+fn replayed<'a>(alloc: Global, text: &'a str, steps: &[Step]) -> Result<Replay<'a>, AllocError> {
+    played(alloc, &settings(), text, BytePos(0), steps)
+}
+
+/// What the steps come to, with comments collected.
+fn told_without_answers(
+    alloc: Global,
+    text: &str,
+    commands: &[Command],
+) -> Result<String, AllocError> {
+    let mut out = String::new(alloc);
+    let steps = steps_of(alloc, commands)?;
+    if StringInput::fits(text, BytePos(0)) {
+        let found = gather(alloc, &settings(), text, BytePos(0), &steps)?;
+        write_gathered(&mut out, &found)?;
+    }
+    Ok(out)
 }
 
 fn write_steps(
@@ -183,6 +233,15 @@ fn told(alloc: Global, text: &str, commands: &[Command]) -> Result<String, Alloc
 fn assert_rows(rt: &impl Abort, alloc: Global, rows: &[Row]) -> Result<(), Fail> {
     for (text, commands, expected) in rows {
         let found = told(alloc, text, commands)?;
+        assert_eq!(rt; found.as_str(), *expected, "{text:?}");
+    }
+    Ok(())
+}
+
+#[test]
+fn steps_are_gathered(rt: HostRuntime) -> Result<(), Fail> {
+    for (text, commands, expected) in ROWS_OF_GATHERED {
+        let found = told_without_answers(rt.alloc(), text, commands)?;
         assert_eq!(rt; found.as_str(), *expected, "{text:?}");
     }
     Ok(())
