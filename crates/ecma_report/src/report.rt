@@ -1,4 +1,6 @@
 //! What is written of a text: lines, or JSON objects.
+ghost use Rattle.std.specs.Prelude.{◌≡◌, ℕ, List};
+ghost use Rattle.ecma_positions.specs.Positions.{line_starts, position_in};
 
 use crate::words::Asked;
 use crate::written::{push_head, push_object};
@@ -36,6 +38,8 @@ pub struct Report<'a> {
     pub name: &'a str,
     pub text: &'a str,
     lines: LineStarts,
+    /// The line in which the last row begins.
+    line: usize,
     pub out: Vec<u8>,
     pub faults: Vec<u8>,
     /// Whether the text has an error.
@@ -55,6 +59,7 @@ impl<'a> Report<'a> {
             name,
             text,
             lines: LineStarts::of(alloc, text.as_bytes())?,
+            line: 1,
             out: Vec::new(alloc),
             faults: Vec::new(alloc),
             is_faulty: false,
@@ -76,14 +81,23 @@ impl<'a> Report<'a> {
         Ok(())
     }
 
+    /// The line and the column of a place, most often that of a row in the line of the last one.
+    fn position(&mut self, place: BytePos) -> Position
+        ensures { (bytes : List ℕ) → self.old.lines.starts.items ≡ line_starts bytes → result ≡ position_in bytes place }
+    {
+        let position = self.lines.position_near(place, self.line);
+        self.line = position.line;
+        position
+    }
+
     /// Adds a row, but not the end of its line.
     fn push_parts(&mut self, row: Row) -> Result<(), AllocError> {
         if self.asked.json {
-            let position = self.lines.position(row.span.lo);
+            let position = self.position(row.span.lo);
             return push_object(&mut self.out, self.name, position, row);
         }
         let position = if self.asked.lines {
-            Some(self.lines.position(row.span.lo))
+            Some(self.position(row.span.lo))
         } else {
             None
         };
