@@ -32,10 +32,12 @@ fn is_at(
     let lines = LineStarts::of(alloc, source.as_bytes())?;
     let place = BytePos(place);
     let wanted = Position { line, column };
-    Ok(lines.position(place) == wanted
-        && lines.position_near(place, line) == wanted
-        && lines.position_near(place, line.saturating_sub(1)) == wanted
-        && lines.position_near(place, 2) == wanted)
+    Ok(
+        lines.position(place) == wanted
+            && lines.position_near(place, line) == wanted
+            && lines.position_near(place, line.saturating_sub(1)) == wanted
+            && lines.position_near(place, 2) == wanted,
+    )
 }
 
 #[test]

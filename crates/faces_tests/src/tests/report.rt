@@ -11,6 +11,7 @@ use std::test::Fail;
 
 /// The text that is reported of, and a span of it.
 const SOURCE: &str = "let a\n= 1\n\n// b\n";
+
 const SPAN: Span = Span {
     lo: BytePos(8),
     hi: BytePos(4_294_967_295),
@@ -41,12 +42,7 @@ const CASES: &[(&str, More)] = &[
 const MODES: &[(bool, bool)] = &[(true, false), (true, true), (false, true), (false, false)];
 
 /// A row as a JSON object, made as a tree.
-fn object(
-    alloc: Global,
-    file: &str,
-    position: Position,
-    row: Row,
-) -> Result<String, AllocError> {
+fn object(alloc: Global, file: &str, position: Position, row: Row) -> Result<String, AllocError> {
     let Position { line, column } = position;
     let kind = row.kind;
     let lo = row.span.lo.0;
@@ -72,12 +68,7 @@ fn object(
 }
 
 /// What comes before the text of a row in its line.
-fn head(
-    alloc: Global,
-    lines: bool,
-    position: Position,
-    row: Row,
-) -> Result<String, AllocError> {
+fn head(alloc: Global, lines: bool, position: Position, row: Row) -> Result<String, AllocError> {
     let kind = row.kind;
     let lo = row.span.lo.0;
     let hi = row.span.hi.0;
@@ -100,12 +91,7 @@ fn head(
 }
 
 /// A row with the end of its line.
-fn row_bytes(
-    alloc: Global,
-    asked: Asked,
-    file: &str,
-    row: Row,
-) -> Result<Vec<u8>, AllocError> {
+fn row_bytes(alloc: Global, asked: Asked, file: &str, row: Row) -> Result<Vec<u8>, AllocError> {
     let position = LineStarts::of(alloc, SOURCE.as_bytes())?.position(row.span.lo);
     let mut bytes = Vec::new(alloc);
     if asked.json {
@@ -140,10 +126,12 @@ fn is_reported(alloc: Global, asked: Asked, file: &str, row: Row) -> Result<bool
     report.push_row(row)?;
     report.push_row(row)?;
     let wanted = row_bytes(alloc, asked, file, row)?;
-    Ok(match report.out.as_slice().strip_prefix(wanted.as_slice()) {
-        Some(second) => second == wanted.as_slice(),
-        None => false,
-    })
+    Ok(
+        match report.out.as_slice().strip_prefix(wanted.as_slice()) {
+            Some(second) => second == wanted.as_slice(),
+            None => false,
+        },
+    )
 }
 
 /// Whether the rows of a text are reported, in all cases.
@@ -178,7 +166,10 @@ fn rows_of_each_byte_are_as_trees_write_them(rt: HostRuntime) -> Result<(), Fail
         text.push(char::from(byte))?;
         text.push_str("\u{e9}b")?;
         for (json, lines) in MODES {
-            assert!(rt; are_reported(rt.alloc(), asked(*json, *lines), text.as_str())?, "{byte} {json} {lines}");
+            assert!(rt;
+                are_reported(rt.alloc(), asked(*json, *lines), text.as_str())?,
+                "{byte} {json} {lines}"
+            );
         }
     }
     Ok(())
@@ -204,7 +195,10 @@ fn rows_of_texts_are_as_trees_write_them(rt: HostRuntime) -> Result<(), Fail> {
     for (part, count) in TEXTS {
         let text = repeated(rt.alloc(), part, *count)?;
         for (json, lines) in MODES {
-            assert!(rt; are_reported(rt.alloc(), asked(*json, *lines), text.as_str())?, "{part} {json} {lines}");
+            assert!(rt;
+                are_reported(rt.alloc(), asked(*json, *lines), text.as_str())?,
+                "{part} {json} {lines}"
+            );
         }
     }
     Ok(())
@@ -255,7 +249,10 @@ fn is_written(alloc: Global, asked: Asked, more: More, wanted: &str) -> Result<b
 #[test]
 fn rows_are_written(rt: HostRuntime) -> Result<(), Fail> {
     for (more, json, lines, wanted) in ROWS {
-        assert!(rt; is_written(rt.alloc(), asked(*json, *lines), *more, wanted)?, "{wanted}");
+        assert!(rt;
+            is_written(rt.alloc(), asked(*json, *lines), *more, wanted)?,
+            "{wanted}"
+        );
     }
     Ok(())
 }
