@@ -106,6 +106,11 @@ impl<'a> Report<'a> {
     }
 
     /// Adds a row: a line, or a JSON object in a line.
+    ///
+    /// # Errors
+    ///
+    /// `AllocError` where there is no memory; a part of the row may have been added then, so that a report that fails is not
+    /// to be shown.
     pub fn push_row(&mut self, row: Row) -> Result<(), AllocError> {
         self.push_parts(row)?;
         self.out.push(b'\n')?;
