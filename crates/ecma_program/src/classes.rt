@@ -1,5 +1,5 @@
 //! What is written of the pieces that cover a text: a line each.
-ghost use Rattle.std.specs.Prelude.{◌≡◌, ◌++◌, ◌^◌, ◌<◌, Some, length, string_bytes, IfOk, MatchResult, OnOk};
+ghost use Rattle.std.specs.Prelude.{◌≡◌, ◌++◌, ◌^◌, ◌<◌, Some, length, MatchResult, OnOk};
 ghost use Rattle.ecma_program.specs.ClassLines as rows;
 ghost use Rattle.ecma_lines.specs.Rereads.{Lacks};
 
@@ -9,7 +9,7 @@ use ecma_lines::comments::take_comments;
 use ecma_lines::rereads::open;
 use ecma_options::Options;
 use ecma_place::BytePos;
-use ecma_stdio::Fault;
+use ecma_stdio::{Fault, push_pair};
 use std::alloc::{AllocError, Global};
 
 fn class_name(class: Class) -> &'static str
@@ -22,23 +22,22 @@ fn class_name(class: Class) -> &'static str
     }
 }
 
-/// The line of a piece: where it begins and ends, and its class.
-fn line(alloc: Global, piece: Piece) -> Result<String, AllocError>
-    ensures { IfOk result (λ text. string_bytes text ≡ rows.piece_line piece) }
+/// Adds the line of a piece: where it begins and ends, and its class.
+fn push_piece(out: &mut Vec<u8>, piece: Piece) -> Result<(), AllocError>
+    ensures { OnOk result (out.new.items ≡ out.old.items ++ rows.piece_line piece) }
 {
-    let lo = piece.span.lo.0;
-    let hi = piece.span.hi.0;
-    let class = class_name(piece.class);
-    format!(in alloc; "{lo} {hi} {class}\n")
+    push_pair(out, piece.span.lo.0, piece.span.hi.0)?;
+    out.extend_from_slice(class_name(piece.class).as_bytes())?;
+    out.push(b'\n')?;
+    Ok(())
 }
 
 /// Adds the lines of pieces, in order.
-fn push_pieces(alloc: Global, out: &mut Vec<u8>, pieces: &[Piece]) -> Result<(), AllocError>
+fn push_pieces(out: &mut Vec<u8>, pieces: &[Piece]) -> Result<(), AllocError>
     ensures { OnOk result (out.new.items ≡ out.old.items ++ rows.piece_lines pieces.now) }
 {
     for piece in pieces {
-        let line = line(alloc, *piece)?;
-        out.extend_from_slice(line.as_bytes())?;
+        push_piece(out, *piece)?;
     }
     Ok(())
 }
@@ -74,6 +73,6 @@ pub fn classes_text(
 {
     let pieces = pieces(alloc, options, rereads, text)?;
     let mut out = Vec::new(alloc);
-    push_pieces(alloc, &mut out, &pieces)?;
+    push_pieces(&mut out, &pieces)?;
     Ok(out)
 }
