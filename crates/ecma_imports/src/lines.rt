@@ -6,7 +6,7 @@ ghost use Rattle.ecma_imports.specs.Lines.{LiesWithin, imports_of, imports_of_st
 
 use crate::imported::{Form, Specifier, specifiers};
 use ecma_place::BytePos;
-use ecma_replay::replay;
+use ecma_replay::gather;
 use ecma_slashes::steps_by_flag;
 use ecma_state::{Settings, Step};
 use ecma_syntax::Context;
@@ -84,8 +84,8 @@ pub fn imports_of_steps(
     requires { length source.now < 2 ^ 32 }
     ensures { IfOk result (λ v. v.items ≡ imports_of_steps settings.now source.now steps.now) }
 {
-    let played = replay(alloc, settings, source, BytePos(0), steps)?;
-    let found = specifiers(alloc, played.kept.as_slice())?;
+    let gathered = gather(alloc, settings, source, BytePos(0), steps)?;
+    let found = specifiers(alloc, gathered.kept.as_slice())?;
     specifier_lines(alloc, source.as_bytes(), &found)
 }
 
