@@ -105,16 +105,25 @@ impl<'a> Report<'a> {
         push_escaped(&mut self.out, row.text.as_bytes())
     }
 
+    /// Adds a row with the end of its line.
+    fn push_whole(&mut self, row: Row) -> Result<(), AllocError> {
+        self.push_parts(row)?;
+        self.out.push(b'\n')?;
+        Ok(())
+    }
+
     /// Adds a row: a line, or a JSON object in a line.
     ///
     /// # Errors
     ///
-    /// `AllocError` where there is no memory; a part of the row may have been added then, so that a report that fails is not
-    /// to be shown.
+    /// `AllocError` where there is no memory. Nothing is added then.
     pub fn push_row(&mut self, row: Row) -> Result<(), AllocError> {
-        self.push_parts(row)?;
-        self.out.push(b'\n')?;
-        Ok(())
+        let before = self.out.len();
+        let pushed = self.push_whole(row);
+        if pushed.is_err() {
+            self.out.truncate(before);
+        }
+        pushed
     }
 
     /// Adds an error to the faults, with the name of the file, its line and its column.

@@ -3,7 +3,7 @@ ghost use Rattle.std.specs.Prelude.{◌+◌, ◌<◌, ◌^◌, length};
 
 use ecma_canonical::{Canon, canonical};
 use ecma_place::StringInput;
-use ecma_replay::{Replay, replay};
+use ecma_replay::{Gathered, Replay, gather, replay};
 use ecma_state::Step;
 use refused_reads::rows::{DEEP, START, TEXTS, contexts, module, settings};
 use refused_reads::told::{tell_comments, tell_errors};
@@ -28,6 +28,24 @@ fn played<'a>(
     }
 }
 
+fn gathered<'a>(
+    rt: &impl Print,
+    alloc: Global,
+    text: &'a str,
+    steps: &[Step],
+) -> io::Result<Gathered<'a>>
+    requires { 0 + length text.now < 2 ^ 32 }
+{
+    let settings = settings();
+    match gather(alloc, &settings, text, START, steps) {
+        Ok(gathered) => Ok(gathered),
+        Err(_) => {
+            println!(rt; "refused gather")?;
+            Ok(gather(alloc, &settings, text, START, steps)?)
+        }
+    }
+}
+
 fn canon(rt: &impl Print, alloc: Global, text: &str, steps: &[Step]) -> io::Result<Canon>
     requires { 0 + length text.now < 2 ^ 32 }
 {
@@ -39,6 +57,18 @@ fn canon(rt: &impl Print, alloc: Global, text: &str, steps: &[Step]) -> io::Resu
             Ok(canonical(alloc, &settings, text, START, steps)?)
         }
     }
+}
+
+/// Tells what is gathered of a text, which is what is replayed but for the answers.
+fn gather_text(rt: &impl Print, alloc: Global, text: &str, steps: &[Step]) -> io::Result<()>
+    requires { 0 + length text.now < 2 ^ 32 }
+{
+    let found = gathered(rt, alloc, text, steps)?;
+    let kept = found.kept.len();
+    println!(rt; "gathered, kept {kept}, ended {}", found.ended)?;
+    tell_errors(rt, "recorded", found.errors.as_slice())?;
+    tell_errors(rt, "waiting", found.waiting.as_slice())?;
+    tell_comments(rt, &found.comments)
 }
 
 fn play_text(rt: &impl Print, alloc: Global, text: &str, steps: &[Step]) -> io::Result<()> {
@@ -53,6 +83,7 @@ fn play_text(rt: &impl Print, alloc: Global, text: &str, steps: &[Step]) -> io::
     tell_errors(rt, "recorded", found.errors.as_slice())?;
     tell_errors(rt, "waiting", found.waiting.as_slice())?;
     tell_comments(rt, &found.comments)?;
+    gather_text(rt, alloc, text, steps)?;
     match canon(rt, alloc, text, steps)? {
         Canon::Text(text) => println!(rt; "canonical {:?}", text.as_str()),
         Canon::NotClean => println!(rt; "not clean"),
