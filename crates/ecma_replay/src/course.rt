@@ -72,6 +72,8 @@ impl<'a> Course<'a> {
     }
 
     /// Takes a step.
+    // In each caller by itself, so that an answer that nobody looks at need not be made.
+    #[inline(always)]
     pub fn respond(&mut self, step: &Step) -> Result<Answer<'a>, AllocError>
         ensures { (begin : Session) (xs : List Step) → Stands begin xs self.old → IfOk result (λ answer. Responds begin xs step.now answer self.new) }
     {

@@ -142,6 +142,7 @@ impl<'a> Player<'a> {
     }
 
     /// Reads, and keeps the token that is answered.
+    #[inline(always)]
     pub fn read(&mut self, kept: &mut KeptTokens) -> Result<Answer<'a>, AllocError>
         ensures acts { (s : Session) → IsAt kept.old s self.old → IfOk result (λ answer. Acts kept.new (act s Step.Read) answer self.new) }
         ensures grows { OnOk result (Grows kept.old kept.new) }
