@@ -1,2 +1,1 @@
-pub mod EscapedLemmas
 pub mod MarkupLemmas

@@ -90,9 +90,15 @@ fn head(alloc: Global, lines: bool, position: Position, row: Row) -> Result<Stri
     }
 }
 
-/// A row with the end of its line.
-fn row_bytes(alloc: Global, asked: Asked, file: &str, row: Row) -> Result<Vec<u8>, AllocError> {
-    let position = LineStarts::of(alloc, SOURCE.as_bytes())?.position(row.span.lo);
+/// A row of a text with the end of its line.
+fn row_bytes(
+    alloc: Global,
+    asked: Asked,
+    file: &str,
+    source: &str,
+    row: Row,
+) -> Result<Vec<u8>, AllocError> {
+    let position = LineStarts::of(alloc, source.as_bytes())?.position(row.span.lo);
     let mut bytes = Vec::new(alloc);
     if asked.json {
         let line = object(alloc, file, position, row)?;
@@ -125,7 +131,7 @@ fn is_reported(alloc: Global, asked: Asked, file: &str, row: Row) -> Result<bool
     let mut report = Report::new(alloc, asked, file, SOURCE)?;
     report.push_row(row)?;
     report.push_row(row)?;
-    let wanted = row_bytes(alloc, asked, file, row)?;
+    let wanted = row_bytes(alloc, asked, file, SOURCE, row)?;
     Ok(
         match report.out.as_slice().strip_prefix(wanted.as_slice()) {
             Some(second) => second == wanted.as_slice(),
@@ -252,6 +258,71 @@ fn rows_are_written(rt: HostRuntime) -> Result<(), Fail> {
         assert!(rt;
             is_written(rt.alloc(), asked(*json, *lines), *more, wanted)?,
             "{wanted}"
+        );
+    }
+    Ok(())
+}
+
+/// A text of seven lines, which begin at 0, 1, 4, 5, 9, 16 and 18. It ends at 19, without a line feed.
+const LINES: &str = "\nab\n\ncé\n𝒳d\r\ne\nf";
+
+/// Where rows of one report begin, in the order in which they are added.
+const ORDERS: &[(&str, &[u32])] = &[
+    (
+        "rising",
+        &[0, 1, 2, 3, 4, 5, 7, 8, 9, 13, 15, 16, 17, 18, 19],
+    ),
+    (
+        "falling",
+        &[19, 18, 17, 16, 15, 13, 9, 8, 7, 5, 4, 3, 2, 1, 0],
+    ),
+    ("same line", &[9, 9, 14, 13, 9, 15]),
+    ("first line", &[0, 0, 5, 0, 18, 0]),
+    ("last line", &[18, 19, 18, 0, 19, 4, 18]),
+    ("behind the end", &[20, 5, 4_294_967_295, 16]),
+    ("next line", &[3, 4, 5, 8, 9, 15, 16, 17, 18]),
+    ("line before", &[18, 17, 16, 15, 9, 8, 5, 4, 3]),
+    ("lines apart", &[1, 16, 4, 13, 2, 9, 5, 17, 3, 18, 7, 0, 15]),
+];
+
+/// Whether rows that begin at these places, added to one report, have the line and the column of each.
+fn are_placed(alloc: Global, asked: Asked, places: &[u32]) -> Result<bool, AllocError> {
+    let mut report = Report::new(alloc, asked, "a.js", LINES)?;
+    let mut wanted = Vec::new(alloc);
+    for place in places {
+        let place = BytePos(*place);
+        let row = Row {
+            kind: "name",
+            span: Span {
+                lo: place,
+                hi: place,
+            },
+            more: More::Nothing,
+            text: "a",
+        };
+        report.push_row(row)?;
+        wanted.extend_from_slice(&row_bytes(alloc, asked, "a.js", LINES, row)?)?;
+    }
+    Ok(report.out.as_slice() == wanted.as_slice())
+}
+
+#[test]
+fn rows_out_of_order_have_their_lines(rt: HostRuntime) -> Result<(), Fail> {
+    for (order, places) in ORDERS {
+        assert!(rt;
+            are_placed(rt.alloc(), asked(false, true), places)?,
+            "{order}"
+        );
+    }
+    Ok(())
+}
+
+#[test]
+fn objects_out_of_order_have_their_lines(rt: HostRuntime) -> Result<(), Fail> {
+    for (order, places) in ORDERS {
+        assert!(rt;
+            are_placed(rt.alloc(), asked(true, false), places)?,
+            "{order}"
         );
     }
     Ok(())

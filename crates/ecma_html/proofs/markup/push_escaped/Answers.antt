@@ -1,6 +1,6 @@
 use Rattle.std.proofs.Common.{arith}
+use Rattle.ecma_stdio.proofs.Runs.{passed-on, run-added}
 use Rattle.ecma_html.specs.Markup as markup
-use Rattle.ecma_html.proofs.EscapedLemmas.{passed-on, run-added}
 use Rattle.ecma_html.proofs.markup.push_escaped.Goals as goal
 use Rattle.ecma_html.proofs.markup.push_escaped.Goals.{in-Some+in_ok-extend_from_slice+in_ok-extend_from_slice-2, in_default}
 
