@@ -2,9 +2,9 @@
 use Rattle.std.proofs.Common.{◌≡◌, ◌∙◌, ℕ, suc, ◌+◌, ◌≤◌, Bool, true, false, List, length, length-append, arith, append_assoc, eqb-true, eq-eqb, [], ◌∷◌, ◌++◌, reverse, refl, sym, subst, ap, Result, Ok, Err}
 use Rattle.std.specs.Prelude.{◌==◌, if◌then◌else◌, OnOk}
 use Rattle.std.proofs.lemmas.List.{length-reverse, reverse-append}
-use Rattle.ecma_replay.specs.Playing.{AllAt, Grows, IsAt, PlayerValue, kept_at, without}
+use Rattle.ecma_replay.specs.Playing.{AllAt, BranchValue, Grows, IsAt, kept_at, without}
 use Rattle.ecma_replay.specs.declared.answer.Answer.{Answer}
-use Rattle.ecma_replay.specs.declared.player.Entry.{Entry}
+use Rattle.ecma_replay.specs.declared.branch.Entry.{Entry}
 use Rattle.ecma_state.specs.Run.{act_all}
 use Rattle.ecma_state.specs.Session.{Session}
 use Rattle.ecma_state.specs.declared.kept.Kept.{Kept}
@@ -31,14 +31,14 @@ kept-more n (e ∷ more) es within = kept-one-more n e (more ++ es) (longer more
 pub kept_newest : (n : ℕ) (e : Entry) (es : List Entry) → n ≡ suc (length es) → kept_at n (e ∷ es) ≡ e.token ∷ without e.again (kept_at e.before es)
 kept_newest n e es newest = rw (eq-eqb n (suc (length es)) newest) refl
 
-pub is_at_grow : (old new : List Entry) → Grows old new → (s : Session) (p : PlayerValue) → IsAt old s p → IsAt new s p
+pub is_at_grow : (old new : List Entry) → Grows old new → (s : Session) (p : BranchValue) → IsAt old s p → IsAt new s p
 is_at_grow old new grows s p at = subst (λ es. IsAt es s p) (sym grows.1) record {
   state = at.state;
   kept = kept-more p.kept grows.0 old at.within ∙ at.kept;
   within = longer grows.0 old p.kept at.within;
 }
 
-pub all_grow : (old new : List Entry) → Grows old new → (begin : Session) (steps : List (List Step)) (ps : List PlayerValue) → AllAt old begin steps ps → AllAt new begin steps ps
+pub all_grow : (old new : List Entry) → Grows old new → (begin : Session) (steps : List (List Step)) (ps : List BranchValue) → AllAt old begin steps ps → AllAt new begin steps ps
 all_grow old new grows begin [] [] all = tt
 all_grow old new grows begin [] (p ∷ ps) all = absurd all
 all_grow old new grows begin (xs ∷ xss) [] all = absurd all

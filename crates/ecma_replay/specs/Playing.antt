@@ -5,7 +5,7 @@ use Rattle.ecma_state.specs.Run.{Acted, act_all, answer_behind, answers_behind}
 use Rattle.ecma_state.specs.Session.{LexerValue, Session, kept_back, kept_of, lexer_state, state_of}
 use Rattle.ecma_replay.specs.Replay.{answer_view}
 use Rattle.ecma_replay.specs.declared.answer.Answer.{Answer}
-use Rattle.ecma_replay.specs.declared.player.Entry.{Entry}
+use Rattle.ecma_replay.specs.declared.branch.Entry.{Entry}
 use Rattle.ecma_state.specs.declared.kept.Kept.{Kept}
 use Rattle.ecma_state.specs.declared.step.Step.{Step}
 
@@ -14,7 +14,7 @@ abbrev pub without : Bool → List Kept → List Kept
 without true kept = drop 1 kept
 without false kept = kept
 
--- the tokens of a number, the newest first: those of the entry with this number, where all entries come newest first
+-- the tokens on the way to that of a number, the newest first, where all entries come newest first
 abbrev pub kept_at : ℕ → List Entry → List Kept
 kept_at n [] = []
 kept_at n (e ∷ es) = if n == suc (length es) then e.token ∷ without e.again (kept_at e.before es) else kept_at n es
@@ -23,38 +23,38 @@ kept_at n (e ∷ es) = if n == suc (length es) then e.token ∷ without e.again 
 abbrev pub Grows : List Entry → List Entry → Type 0
 Grows old new = (more : List Entry) × (new ≡ more ++ old)
 
--- a lexer, and the number of the tokens that are kept of what it answered
-pub record PlayerValue : Type 0 where
+-- a lexer, and the number of the newest token that is kept on its way
+pub record BranchValue : Type 0 where
   pub lexer : LexerValue
   pub kept : ℕ
 
 -- it has come to a session, by these entries
-pub record IsAt (entries : List Entry) (s : Session) (p : PlayerValue) : Type 0 where
-  pub state : lexer_state p.lexer ≡ state_of s
-  pub kept : kept_at p.kept entries ≡ map kept_of (kept_back s.past)
-  pub within : p.kept ≤ length entries
+pub record IsAt (entries : List Entry) (s : Session) (b : BranchValue) : Type 0 where
+  pub state : lexer_state b.lexer ≡ state_of s
+  pub kept : kept_at b.kept entries ≡ map kept_of (kept_back s.past)
+  pub within : b.kept ≤ length entries
 
 -- a step answered and led to what it does in the run
-pub record Acts (entries : List Entry) (acted : Acted) (answer : Answer) (p : PlayerValue) : Type 0 where
+pub record Acts (entries : List Entry) (acted : Acted) (answer : Answer) (b : BranchValue) : Type 0 where
   pub answered : answer_view answer ≡ acted.answer
-  pub after : IsAt entries acted.after p
+  pub after : IsAt entries acted.after b
 
 -- as many have come to the sessions behind as many lists of counting steps
-abbrev pub AllAt : List Entry → Session → List (List Step) → List PlayerValue → Type 0
+abbrev pub AllAt : List Entry → Session → List (List Step) → List BranchValue → Type 0
 AllAt entries begin [] [] = ⊤
-AllAt entries begin [] (p ∷ ps) = ⊥
+AllAt entries begin [] (b ∷ bs) = ⊥
 AllAt entries begin (steps ∷ more) [] = ⊥
-AllAt entries begin (steps ∷ more) (p ∷ ps) = IsAt entries (act_all begin steps) p × AllAt entries begin more ps
+AllAt entries begin (steps ∷ more) (b ∷ bs) = IsAt entries (act_all begin steps) b × AllAt entries begin more bs
 
 -- what a list of steps has come to: the lexer that goes on, the entries of tokens, and the lexers that were saved
 pub record CourseValue : Type 0 where
-  pub player : PlayerValue
+  pub branch : BranchValue
   pub kept : List Entry
-  pub saves : List PlayerValue
+  pub saves : List BranchValue
 
 -- it has come to where these steps lead
 pub record Stands (begin : Session) (steps : List Step) (c : CourseValue) : Type 0 where
-  pub player : IsAt c.kept (act_all begin (count_all none_yet steps).steps) c.player
+  pub branch : IsAt c.kept (act_all begin (count_all none_yet steps).steps) c.branch
   pub saves : AllAt c.kept begin (count_all none_yet steps).saves c.saves
 
 -- one more step answered what it answers in the run, and led to where it does

@@ -7,8 +7,8 @@ ghost use Rattle.ecma_replay.specs.Replay.{Gathers};
 ghost use Rattle.ecma_state.specs.declared.step.Step.{Step};
 
 use crate::answer::Answer;
+use crate::branch::{Branch, KeptTree};
 use crate::gathered::Gathered;
-use crate::player::{KeptTokens, Player};
 use ecma_place::StringInput;
 use ecma_state::settings::Settings;
 use ecma_state::step::Step;
@@ -19,9 +19,9 @@ use std::marker::Model;
 /// What a list of steps has come to, but for its answers.
 #[derive(Drop)]
 pub struct Course<'a> {
-    player: Player<'a>,
-    kept: KeptTokens,
-    saves: Vec<Player<'a>>,
+    branch: Branch<'a>,
+    kept: KeptTree,
+    saves: Vec<Branch<'a>>,
 }
 
 impl<'a> Model for Course<'a> {
@@ -34,7 +34,7 @@ impl<'a> Model for Course<'a> {
 
     ghost coded = { Prim.hlevel (codes, (e.the_row static_lft).coded) };
 
-    ghost view = { λ c. record { player = c.player; kept = c.kept; saves = c.saves.items } };
+    ghost view = { λ c. record { branch = c.branch; kept = c.kept; saves = c.saves.items } };
 }
 
 impl<'a> Course<'a> {
@@ -44,8 +44,8 @@ impl<'a> Course<'a> {
     {
         let lexer = Lexer::with_settings(alloc, settings, input);
         Course {
-            player: Player::new(lexer),
-            kept: KeptTokens::new(alloc),
+            branch: Branch::new(lexer),
+            kept: KeptTree::new(alloc),
             saves: Vec::new(alloc),
         }
     }
@@ -53,7 +53,7 @@ impl<'a> Course<'a> {
     fn save(&mut self) -> Result<Answer<'a>, AllocError>
         ensures { (begin : Session) (xs : List Step) → Stands begin xs self.old → IfOk result (λ answer. Responds begin xs Step.Save answer self.new) }
     {
-        let saved = self.player.copy()?;
+        let saved = self.branch.copy()?;
         self.saves.push(saved)?;
         Ok(Answer::Done)
     }
@@ -64,7 +64,7 @@ impl<'a> Course<'a> {
         match self.saves.get(n) {
             Some(saved) => {
                 let saved = saved.copy()?;
-                self.player.go_back(saved);
+                self.branch.go_back(saved);
                 Ok(Answer::Done)
             }
             None => Ok(Answer::NoSave),
@@ -78,16 +78,16 @@ impl<'a> Course<'a> {
         ensures { (begin : Session) (xs : List Step) → Stands begin xs self.old → IfOk result (λ answer. Responds begin xs step.now answer self.new) }
     {
         match step {
-            Step::Read => self.player.read(&mut self.kept),
-            Step::SetCtx(context) => self.player.set_ctx(*context),
-            Step::SetExprAllowed(allowed) => Ok(self.player.set_expr_allowed(*allowed)),
-            Step::SetContexts(contexts) => self.player.set_contexts(contexts),
-            Step::PopContext => Ok(self.player.pop_context()),
-            Step::Reread => Ok(self.player.reread()),
-            Step::Withdraw => Ok(self.player.withdraw()),
+            Step::Read => self.branch.read(&mut self.kept),
+            Step::SetCtx(context) => self.branch.set_ctx(*context),
+            Step::SetExprAllowed(allowed) => Ok(self.branch.set_expr_allowed(*allowed)),
+            Step::SetContexts(contexts) => self.branch.set_contexts(contexts),
+            Step::PopContext => Ok(self.branch.pop_context()),
+            Step::Reread => Ok(self.branch.reread()),
+            Step::Withdraw => Ok(self.branch.withdraw()),
             Step::Save => self.save(),
             Step::Back(n) => self.back(*n),
-            Step::TakeErrors => Ok(self.player.take_errors()),
+            Step::TakeErrors => Ok(self.branch.take_errors()),
         }
     }
 
@@ -104,12 +104,12 @@ impl<'a> Course<'a> {
         ensures { (begin : Session) (xs : List Step) → Stands begin xs self.entry → IfOk result (λ r. Gathers begin xs r) }
     {
         let Course {
-            player,
+            branch,
             kept,
             saves: _,
         } = self;
-        let kept = kept.into_vec(alloc, player.kept)?;
-        let (errors, comments, ended) = player.lexer.into_parts();
+        let kept = kept.into_vec(alloc, branch.kept)?;
+        let (errors, comments, ended) = branch.lexer.into_parts();
         Ok(Gathered {
             kept,
             errors: errors.recorded,

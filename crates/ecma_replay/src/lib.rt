@@ -2,9 +2,9 @@
 #![tactic(auto)]
 
 pub mod answer;
+mod branch;
 mod course;
 pub mod gathered;
-mod player;
 pub mod replayed;
 pub mod runner;
 

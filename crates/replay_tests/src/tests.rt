@@ -1,3 +1,4 @@
-//! Tests of replays: what the steps answer, and the pieces that they cut a text into.
+//! Tests of replays: what the steps answer, that it is what a plain replay gives, and the pieces that they cut a text into.
+mod agreement;
 mod pieces;
 mod replays;

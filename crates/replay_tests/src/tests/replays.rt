@@ -139,7 +139,7 @@ fn write_answer(out: &mut String, answer: &Answer) -> Result<(), AllocError> {
     }
 }
 
-fn write_answers(out: &mut String, answers: &[Answer]) -> Result<(), AllocError> {
+pub fn write_answers(out: &mut String, answers: &[Answer]) -> Result<(), AllocError> {
     for answer in answers {
         write_answer(out, answer)?;
     }
@@ -169,7 +169,7 @@ fn write_replay(out: &mut String, found: &Replay) -> Result<(), AllocError> {
     Ok(())
 }
 
-fn write_gathered(out: &mut String, found: &Gathered) -> Result<(), AllocError> {
+pub fn write_gathered(out: &mut String, found: &Gathered) -> Result<(), AllocError> {
     write_kept(out, &found.kept)?;
     write_errors(out, "recorded ", found.errors.as_slice())?;
     write_errors(out, "waiting ", found.waiting.as_slice())?;
@@ -181,7 +181,7 @@ fn write_gathered(out: &mut String, found: &Gathered) -> Result<(), AllocError> 
 }
 
 /// A script, with comments collected.
-fn settings() -> Settings {
+pub fn settings() -> Settings {
     Settings {
         syntax: Syntax::default(),
         target: EsVersion::default(),

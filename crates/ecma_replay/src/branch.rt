@@ -1,9 +1,9 @@
-//! A lexer that takes steps, and keeps the tokens that it answered.
+//! A lexer that takes steps, and the tree of the tokens that were answered and kept.
 ghost use Rattle.std.specs.Prelude.{◌≡◌, ◌≤◌, ◌++◌, ◌∷◌, [], List, length, reverse, if◌then◌else◌, IfOk, OnOk};
 ghost use Rattle.ecma_state.specs.Session.{Session, lexer_state, state_of};
 ghost use Rattle.ecma_state.specs.Run.{act};
 ghost use Rattle.ecma_replay.specs.Playing.{Acts, Grows, IsAt, kept_at, without};
-ghost use Rattle.ecma_replay.specs.declared.player.Entry.{Entry};
+ghost use Rattle.ecma_replay.specs.declared.branch.Entry.{Entry};
 ghost use Rattle.ecma_state.specs.declared.step.Step.{Step};
 
 use crate::answer::Answer;
@@ -21,40 +21,40 @@ pub struct Entry {
     pub token: Kept,
     /// Whether it stands in the place of the newest before it, since that was read again.
     pub again: bool,
-    /// The number of what was kept before it.
+    /// The number of the one before it on its way, 0 where it is the first.
     pub before: usize,
 }
 
 /// All tokens that were kept, those too that were gone back on, of which contracts see the newest first.
 ///
-/// What was kept at a time has a number: how many tokens had been kept by then. So going back is taking an older number, and
-/// nothing is copied for it.
+/// Each has the number of the one before it on its way: how many had been kept by then. So going back is taking an older
+/// number, and nothing is copied for it.
 #[derive(Drop)]
-pub struct KeptTokens {
+pub struct KeptTree {
     /// The newest is last.
     entries: Vec<Entry>,
 }
 
-impl Model for KeptTokens {
+impl Model for KeptTree {
     ghost use Rattle.std.specs.Prelude.{List, reverse};
-    ghost use Rattle.ecma_replay.specs.declared.player.Entry.{Entry};
+    ghost use Rattle.ecma_replay.specs.declared.branch.Entry.{Entry};
 
     ghost Value = { List Entry };
 
     ghost view = { λ k. reverse k.entries.items };
 }
 
-impl KeptTokens {
+impl KeptTree {
     /// No tokens, which takes no memory.
-    pub fn new(alloc: Global) -> KeptTokens
+    pub fn new(alloc: Global) -> KeptTree
         ensures { result ≡ [] }
     {
-        KeptTokens {
+        KeptTree {
             entries: Vec::new(alloc),
         }
     }
 
-    /// Keeps a token, and answers the number of what is kept then.
+    /// Keeps a token, and answers its number.
     fn keep(&mut self, entry: Entry) -> Result<usize, AllocError>
         ensures kept { IfOk result (λ number. kept_at number self.new ≡ entry.token ∷ without entry.again (kept_at entry.before self.old)) }
         ensures within { IfOk result (λ number. number ≤ length self.new) }
@@ -64,11 +64,11 @@ impl KeptTokens {
         Ok(self.entries.len())
     }
 
-    /// The tokens of a number, in the order in which they were kept.
+    /// The tokens on the way to that of a number, in the order in which they were kept.
     pub fn into_vec(self, alloc: Global, number: usize) -> Result<Vec<Kept>, AllocError>
         ensures { IfOk result (λ kept. reverse kept.items ≡ kept_at number self) }
     {
-        let KeptTokens { mut entries } = self;
+        let KeptTree { mut entries } = self;
         let mut kept = Vec::new(alloc);
         let mut at = number;
         let mut again = false;
@@ -94,56 +94,56 @@ fn push_unless(kept: &mut Vec<Kept>, passed: bool, token: Kept) -> Result<(), Al
     Ok(())
 }
 
-/// A lexer, and the number of the tokens that are kept of what it answered.
+/// A lexer, and the number of the newest token that is kept on its way.
 #[derive(Drop)]
-pub struct Player<'a> {
+pub struct Branch<'a> {
     pub lexer: Lexer<'a>,
     pub kept: usize,
 }
 
-impl<'a> Model for Player<'a> {
+impl<'a> Model for Branch<'a> {
     ghost use Rattle.std.specs.Coded.{codes};
     ghost use denote.Signature.{static_lft};
     ghost use Rattle.ecma_token.specs.contracts.error.Error as e;
-    ghost use Rattle.ecma_replay.specs.Playing.{PlayerValue};
+    ghost use Rattle.ecma_replay.specs.Playing.{BranchValue};
 
-    ghost Value = { PlayerValue };
+    ghost Value = { BranchValue };
 
     ghost coded = { Prim.hlevel (codes, (e.the_row static_lft).coded) };
 
     ghost view = { λ p. record { lexer = p.lexer; kept = p.kept } };
 }
 
-impl<'a> Player<'a> {
+impl<'a> Branch<'a> {
     /// A lexer that has taken no step yet, which takes no memory.
-    pub fn new(lexer: Lexer<'a>) -> Player<'a>
+    pub fn new(lexer: Lexer<'a>) -> Branch<'a>
         ensures { (s : Session) → lexer_state lexer.entry ≡ state_of s → s.past ≡ [] → IsAt [] s result }
     {
-        Player { lexer, kept: 0 }
+        Branch { lexer, kept: 0 }
     }
 
     /// The same lexer with the same tokens.
-    pub fn copy(&self) -> Result<Player<'a>, AllocError>
+    pub fn copy(&self) -> Result<Branch<'a>, AllocError>
         ensures { (kept : List Entry) (s : Session) → IsAt kept s self.now → IfOk result (λ copy. IsAt kept s copy) }
     {
-        Ok(Player {
+        Ok(Branch {
             lexer: self.lexer.copy()?,
             kept: self.kept,
         })
     }
 
     /// Goes back to where a copy is.
-    pub fn go_back(&mut self, copy: Player<'a>)
+    pub fn go_back(&mut self, copy: Branch<'a>)
         ensures { self.new ≡ copy.entry }
     {
-        let Player { lexer, kept } = copy;
+        let Branch { lexer, kept } = copy;
         self.lexer.go_back(lexer);
         self.kept = kept;
     }
 
     /// Reads, and keeps the token that is answered.
     #[inline(always)]
-    pub fn read(&mut self, kept: &mut KeptTokens) -> Result<Answer<'a>, AllocError>
+    pub fn read(&mut self, kept: &mut KeptTree) -> Result<Answer<'a>, AllocError>
         ensures acts { (s : Session) → IsAt kept.old s self.old → IfOk result (λ answer. Acts kept.new (act s Step.Read) answer self.new) }
         ensures grows { OnOk result (Grows kept.old kept.new) }
     {

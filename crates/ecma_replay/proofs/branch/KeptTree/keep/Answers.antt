@@ -1,7 +1,7 @@
 use Rattle.std.proofs.Common.{reverse, subst}
 use Rattle.ecma_replay.specs.Playing.{Grows}
 use Rattle.ecma_replay.proofs.KeptLemmas.{grows_one}
-use Rattle.ecma_replay.proofs.player.KeptTokens.keep.Goals as goal
+use Rattle.ecma_replay.proofs.branch.KeptTree.keep.Goals as goal
 
 pub returns-clause-grows : goal.returns-clause-grows
 returns-clause-grows c =

@@ -1,0 +1,178 @@
+//! Lists of steps that numbers make, played as callers play them and by copies alone: both come to the same.
+use crate::tests::replays::{settings, write_answers, write_gathered};
+use ecma_lexer::{Gathered, Replay, Step, TokenContext, gather, replay};
+use ecma_place::{BytePos, StringInput};
+use ecma_samples::Random;
+use ecma_syntax::Context;
+use listings::listing::contexts_of;
+use replay_model::replay_by_copies;
+use std::alloc::{AllocError, Global};
+use std::process::Abort;
+use std::test::Fail;
+
+/// How many lists are played.
+const LISTS: u64 = 800;
+
+/// How many steps the longest have.
+const STEPS: usize = 64;
+
+/// Ways back are to saves below this number, of which a short list doesn't make as many.
+const SAVES: usize = 4;
+
+/// Where each text starts.
+pub const START: BytePos = BytePos(3);
+
+/// With comments, errors that are recorded or wait, templates, slashes of either kind, and texts that are owned.
+pub const TEXTS: &[&str] = &[
+    "a / /b/g /*c*/ 1__2 //d\ne /f/ 3",
+    "`a${b /*c*/}\\u{64}${`e`}` / f /g /*h*/",
+    "/x/g\\u0069 /y/ (/z\n) 0x1_ 'q\\x4'",
+    "<!--x\n{ if (a) /b/.c }\n-->d\n1_2 08",
+    "f() /*a*/ //b\n{}/c/\n'd\n||||||| e\nf",
+    "a 012 \\u0062reak {/**/} \\ \0",
+    "/a/ /b/ /c/ /d/",
+    "a/b/c/d/e",
+    "((({[`${",
+    "",
+];
+
+fn context_of(number: usize) -> Context {
+    match number {
+        0 => Context::default(),
+        1 => Context {
+            strict: true,
+            ..Context::default()
+        },
+        2 => Context {
+            ignore_error: true,
+            ..Context::default()
+        },
+        _ => Context {
+            module: true,
+            ..Context::default()
+        },
+    }
+}
+
+fn contexts_by(number: usize) -> &'static [TokenContext] {
+    match number {
+        0 => &[],
+        1 => &[TokenContext::BraceStmt, TokenContext::Tpl],
+        _ => &[TokenContext::BraceStmt, TokenContext::ParenExpr],
+    }
+}
+
+/// A step, which is a read about as often as not.
+fn step_by(alloc: Global, random: &mut Random) -> Result<Step, AllocError> {
+    Ok(match random.below(32) {
+        0 => Step::SetCtx(context_of(random.below(4))),
+        1 => Step::SetExprAllowed(random.below(2) == 0),
+        2 => Step::SetContexts(contexts_of(alloc, contexts_by(random.below(3)))?),
+        3 => Step::PopContext,
+        4 => Step::Withdraw,
+        5 => Step::TakeErrors,
+        6 | 7 | 8 => Step::Reread,
+        9 | 10 | 11 => Step::Save,
+        12 | 13 | 14 | 15 => Step::Back(random.below(SAVES)),
+        _ => Step::Read,
+    })
+}
+
+fn steps_by(alloc: Global, random: &mut Random) -> Result<Vec<Step>, AllocError> {
+    let mut steps = Vec::new(alloc);
+    for _ in 0..random.below(STEPS) {
+        steps.push(step_by(alloc, random)?)?;
+    }
+    Ok(steps)
+}
+
+fn answers_told(alloc: Global, found: &Replay) -> Result<String, AllocError> {
+    let mut out = String::new(alloc);
+    write_answers(&mut out, &found.answers)?;
+    Ok(out)
+}
+
+fn without_answers<'a>(found: Replay<'a>) -> Gathered<'a> {
+    Gathered {
+        kept: found.kept,
+        errors: found.errors,
+        waiting: found.waiting,
+        comments: found.comments,
+        ended: found.ended,
+    }
+}
+
+pub fn told(alloc: Global, found: &Gathered) -> Result<String, AllocError> {
+    let mut out = String::new(alloc);
+    write_gathered(&mut out, found)?;
+    Ok(out)
+}
+
+fn assert_same_answers(
+    rt: &impl Abort,
+    alloc: Global,
+    seed: u64,
+    found: &Replay,
+    model: &Replay,
+) -> Result<(), Fail> {
+    let told = answers_told(alloc, found)?;
+    let wanted = answers_told(alloc, model)?;
+    let as_many = found.answers.len() == model.answers.len();
+    assert!(rt;
+        as_many && told.as_str() == wanted.as_str(),
+        "list {seed}: {told}, by copies {wanted}"
+    );
+    Ok(())
+}
+
+fn assert_same(
+    rt: &impl Abort,
+    alloc: Global,
+    seed: u64,
+    found: &Gathered,
+    model: &Gathered,
+) -> Result<(), Fail> {
+    let shown = told(alloc, found)?;
+    let wanted = told(alloc, model)?;
+    let kept = found.kept.as_slice() == model.kept.as_slice();
+    assert!(rt;
+        kept && shown.as_str() == wanted.as_str(),
+        "list {seed}: {shown}, by copies {wanted}"
+    );
+    Ok(())
+}
+
+/// Plays a list of steps over a text in each way.
+fn assert_agreement(
+    rt: &impl Abort,
+    alloc: Global,
+    seed: u64,
+    text: &str,
+    steps: &[Step],
+) -> Result<(), Fail> {
+    if !StringInput::fits(text, START) {
+        return Err(Fail::from(AllocError));
+    }
+    let found = replay(alloc, &settings(), text, START, steps)?;
+    let model = replay_by_copies(alloc, &settings(), text, START, steps)?;
+    assert_same_answers(rt, alloc, seed, &found, &model)?;
+    let model = without_answers(model);
+    assert_same(rt, alloc, seed, &without_answers(found), &model)?;
+    let gathered = gather(alloc, &settings(), text, START, steps)?;
+    assert_same(rt, alloc, seed, &gathered, &model)
+}
+
+fn assert_list(rt: &impl Abort, alloc: Global, seed: u64) -> Result<(), Fail> {
+    let mut random = Random::new(seed);
+    let text = random.pick(TEXTS);
+    let steps = steps_by(alloc, &mut random)?;
+    assert_agreement(rt, alloc, seed, text, &steps)
+}
+
+#[test]
+fn replays_agree_with_copies(rt: HostRuntime) -> Result<(), Fail> {
+    for seed in 0..LISTS {
+        assert_list(&rt, rt.alloc(), seed)?;
+    }
+    Ok(())
+}
