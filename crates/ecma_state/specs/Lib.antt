@@ -9,6 +9,7 @@ pub mod Mode
 pub mod Reading
 pub mod Run
 pub mod Session
+pub mod SharedComments
 pub mod State
 pub mod TokenAt
 pub mod Transition

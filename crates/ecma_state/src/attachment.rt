@@ -113,6 +113,9 @@ impl<'a> CommentsBuffer<'a> {
         ensures none { self.new.pending_leading ≡ [] }
         ensures free { of_gap.entry.items ++ of_token.entry.items ≡ [] → IsOk result }
     {
+        if of_gap.is_empty() && of_token.is_empty() {
+            return Ok(());
+        }
         let attached = self.attach_both(around, of_gap, of_token);
         if attached.is_err() {
             let _ = self.take_pending_leading();

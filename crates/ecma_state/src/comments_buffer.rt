@@ -2,6 +2,7 @@
 ghost use Rattle.std.specs.Prelude.{◌≡◌, ◌++◌, ◌∷◌, [], map, IsTrue, IsOk, IfOk, OnOk, OnErr};
 
 use crate::hand_over::give_from_last;
+use crate::shared_comments::{SharedComments, add_copies};
 use ecma_place::{BytePos, Comment, Comments};
 use std::alloc::{AllocError, Global};
 use std::marker::Model;
@@ -50,17 +51,15 @@ fn copies<'a>(
 ) -> Result<Vec<BufferedComment<'a>>, AllocError>
     ensures { IfOk result (λ copies. copies.items ≡ comments.now) }
 {
-    let mut copies = Vec::new(alloc);
-    'comments: for comment in comments {
-        copies.push(comment.copy(alloc)?)?;
-    }
+    let mut copies = Vec::with_capacity(alloc, comments.len())?;
+    add_copies(&mut copies, comments)?;
     Ok(copies)
 }
 
 /// Comments in order: those that have their token, and those that wait for the next one.
 #[derive(Drop)]
 pub struct CommentsBuffer<'a> {
-    comments: Vec<BufferedComment<'a>>,
+    comments: SharedComments<'a>,
     pending_leading: Vec<BufferedComment<'a>>,
 }
 
@@ -69,7 +68,7 @@ impl<'a> Model for CommentsBuffer<'a> {
 
     ghost Value = { CommentsValue };
 
-    ghost view = { λ b. record { comments = b.comments.items; pending_leading = b.pending_leading.items } };
+    ghost view = { λ b. record { comments = b.comments; pending_leading = b.pending_leading.items } };
 }
 
 impl<'a> CommentsBuffer<'a> {
@@ -78,7 +77,7 @@ impl<'a> CommentsBuffer<'a> {
         ensures { result ≡ record { comments = []; pending_leading = [] } }
     {
         CommentsBuffer {
-            comments: Vec::new(alloc),
+            comments: SharedComments::new(alloc),
             pending_leading: Vec::new(alloc),
         }
     }
@@ -92,8 +91,7 @@ impl<'a> CommentsBuffer<'a> {
         ensures ok { OnOk result (self.new ≡ record self.old { comments = self.old.comments ++ comment.entry ∷ [] }) }
         ensures err { OnErr result (self.new ≡ self.old) }
     {
-        self.comments.push(comment)?;
-        Ok(())
+        self.comments.push(comment)
     }
 
     /// Adds a comment that waits for the next token.
@@ -114,8 +112,7 @@ impl<'a> CommentsBuffer<'a> {
         ensures taken { result.items ≡ self.old.comments }
         ensures left { self.new ≡ record self.old { comments = [] } }
     {
-        let none = Vec::new(*self.comments.allocator());
-        mem::replace(&mut self.comments, none)
+        self.comments.take()
     }
 
     /// Takes the comments that wait for the next token, in the order in which they were added, which takes no memory.
@@ -135,10 +132,12 @@ impl<'a> CommentsBuffer<'a> {
     pub fn copy(&self) -> Result<CommentsBuffer<'a>, AllocError>
         ensures { IfOk result (λ b. b ≡ self.now) }
     {
-        let alloc = *self.comments.allocator();
         Ok(CommentsBuffer {
-            comments: copies(alloc, self.comments.as_slice())?,
-            pending_leading: copies(alloc, self.pending_leading.as_slice())?,
+            comments: self.comments.copy()?,
+            pending_leading: copies(
+                *self.pending_leading.allocator(),
+                self.pending_leading.as_slice(),
+            )?,
         })
     }
 
@@ -175,9 +174,11 @@ impl<'a> CommentsBuffer<'a> {
         ensures err { OnErr result (StopsEarly (C.added to.old) (C.added to.new) self.old self.new) }
     {
         // A list gives up its last element with no other moved, so it stands turned meanwhile.
-        self.comments.reverse();
-        let given = give_from_last(&mut self.comments, to);
-        self.comments.reverse();
+        let mut comments = self.comments.take();
+        comments.reverse();
+        let given = give_from_last(&mut comments, to);
+        comments.reverse();
+        self.comments.put(comments);
         given
     }
 }

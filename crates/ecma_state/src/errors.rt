@@ -168,6 +168,9 @@ impl<'a> ErrorLists<'a> {
         ensures err { OnErr result (self.new ≡ self.old) }
         ensures free { map fault_view of_gap.entry.items ++ map fault_view of_token.entry.items ≡ [] → IsOk result }
     {
+        if of_gap.is_empty() && of_token.is_empty() {
+            return Ok(());
+        }
         let recorded = self.recorded.len();
         let waiting = self.waiting.len();
         let taken = self.take_both(context, of_gap, of_token);

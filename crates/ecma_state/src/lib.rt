@@ -10,6 +10,7 @@ pub mod kept;
 pub mod lookahead;
 pub mod mode;
 pub mod settings;
+mod shared_comments;
 pub mod state;
 pub mod step;
 pub mod token_context;
