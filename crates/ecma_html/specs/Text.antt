@@ -6,10 +6,16 @@ use Rattle.ecma_slashes.specs.ByFlag.{text_steps}
 use Rattle.ecma_classes.specs.Classes.{begin, classes_of}
 use Rattle.ecma_state.specs.Run.{session}
 use Rattle.ecma_state.specs.Session.{Session, kept_tokens}
+use Rattle.ecma_state.specs.declared.comments_buffer.BufferedComment.{BufferedComment}
+use Rattle.ecma_state.specs.declared.kept.Kept.{Kept}
 use Rattle.ecma_state.specs.declared.settings.Settings.{Settings}
 use Rattle.ecma_state.specs.declared.step.Step.{Step}
 use Rattle.ecma_html.specs.Markup.{html_of}
 use Rattle.ecma_html.specs.Styles.{styled, token_classes}
+
+-- of these tokens and comments of a text
+abbrev pub html_kept : List ℕ → List Kept → List BufferedComment → List ℕ
+html_kept bytes kept comments = html_of bytes (styled (token_classes kept) (classes_of 0 (length bytes) kept comments))
 
 -- of what a run keeps and collects of a text
 abbrev pub html_from : List ℕ → Session → List ℕ

@@ -1,17 +1,34 @@
 //! A text as HTML.
 ghost use Rattle.std.specs.Prelude.{◌≡◌, ◌<◌, ◌^◌, length, IfOk};
-ghost use Rattle.ecma_html.specs.Text.{html_of_steps, html_text_of};
+ghost use Rattle.std.specs.Str.{chars};
+ghost use Rattle.ecma_classes.specs.Classes.{begin};
+ghost use Rattle.ecma_pieces.specs.Covered.{MayBeCovered};
+ghost use Rattle.ecma_html.specs.Text.{html_kept, html_of_steps, html_text_of};
 ghost use Rattle.ecma_html.specs.Unmark.{shown, unmark};
 
 use crate::class::token_classes;
 use crate::markup::html;
 use ecma_classes::classes;
 use ecma_place::BytePos;
-use ecma_replay::gather;
-use ecma_slashes::steps_by_flag;
+use ecma_replay::{Gathered, gather};
 use ecma_state::{Settings, Step};
 use ecma_syntax::Context;
+use ecma_texts::gather_by_flag;
 use std::alloc::{AllocError, Global};
+
+/// A text as HTML, by what was gathered of it. The text starts at the place 0.
+fn html_of_gathered(alloc: Global, source: &str, gathered: &Gathered) -> Result<Vec<u8>, AllocError>
+    requires fits { length source.now < 2 ^ 32 }
+    requires covered { MayBeCovered (begin 0 (chars source.now)) gathered.now.kept.items gathered.now.comments.items }
+    ensures same { IfOk result (λ v. v.items ≡ html_kept source.now gathered.now.kept.items gathered.now.comments.items) }
+    ensures back { IfOk result (λ v. unmark v.items ≡ shown source.now) }
+{
+    let kept = gathered.kept.as_slice();
+    let comments = gathered.comments.as_slice();
+    let pieces = classes(alloc, source, BytePos(0), kept, comments)?;
+    let styles = token_classes(alloc, kept)?;
+    html(alloc, source, &styles, &pieces)
+}
 
 /// A text as HTML ([`html`]), by what a list of steps keeps of it and collects: tokens and comments that the steps did not come
 /// to have no class, nor have comments where the settings collect none. The text starts at the place 0. Our own.
@@ -30,13 +47,8 @@ pub fn html_of_steps(
     // Whatever the text is, it is what is left without the markup.
     ensures back { IfOk result (λ v. unmark v.items ≡ shown source.now) }
 {
-    let start = BytePos(0);
-    let gathered = gather(alloc, settings, source, start, steps)?;
-    let kept = gathered.kept.as_slice();
-    let comments = gathered.comments.as_slice();
-    let pieces = classes(alloc, source, start, kept, comments)?;
-    let styles = token_classes(alloc, kept)?;
-    html(alloc, source, &styles, &pieces)
+    let gathered = gather(alloc, settings, source, BytePos(0), steps)?;
+    html_of_gathered(alloc, source, &gathered)
 }
 
 /// A text as HTML ([`html_of_steps`]), read to its end in a context, its slashes by the flag.
@@ -54,6 +66,6 @@ pub fn html_text(
     ensures same { IfOk result (λ v. v.items ≡ html_text_of settings.now context source.now) }
     ensures back { IfOk result (λ v. unmark v.items ≡ shown source.now) }
 {
-    let steps = steps_by_flag(alloc, settings, context, source, BytePos(0))?;
-    html_of_steps(alloc, settings, source, &steps)
+    let gathered = gather_by_flag(alloc, settings, context, source, BytePos(0))?;
+    html_of_gathered(alloc, source, &gathered)
 }

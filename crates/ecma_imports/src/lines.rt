@@ -1,15 +1,19 @@
 //! What is written of the specifiers of a text.
-ghost use Rattle.std.specs.Prelude.{◌≡◌, ◌≤◌, ◌<◌, ◌^◌, ◌++◌, length, string_bytes, IfOk, OnOk};
+ghost use Rattle.std.specs.Prelude.{◌≡◌, ◌≤◌, ◌<◌, ◌^◌, ◌++◌, length, IfOk, OnOk};
 ghost use Rattle.std.specs.List.{All};
+ghost use Rattle.std.specs.Str.{chars};
+ghost use Rattle.ecma_classes.specs.Classes.{StandsIn, begin, spans_of_kept};
+ghost use Rattle.ecma_imports.specs.Stages.{specifiers_of};
 ghost use Rattle.ecma_imports.specs.Lines as rows;
 ghost use Rattle.ecma_imports.specs.Lines.{LiesWithin, imports_of, imports_of_steps};
 
 use crate::imported::{Form, Specifier, specifiers};
 use ecma_place::BytePos;
 use ecma_replay::gather;
-use ecma_slashes::steps_by_flag;
-use ecma_state::{Settings, Step};
+use ecma_state::{Kept, Settings, Step};
+use ecma_stdio::push_pair;
 use ecma_syntax::Context;
+use ecma_texts::gather_by_flag;
 use std::alloc::{AllocError, Global};
 
 fn form_name(form: Form) -> &'static str
@@ -21,29 +25,22 @@ fn form_name(form: Form) -> &'static str
     }
 }
 
-/// How it is imported, and where it begins and ends, each with a space behind it.
-fn head(alloc: Global, specifier: Specifier) -> Result<String, AllocError>
-    ensures { IfOk result (λ text. string_bytes text ≡ rows.head specifier) }
+/// Adds how it is imported, and where it begins and ends, each with a space behind it.
+fn push_head(out: &mut Vec<u8>, specifier: Specifier) -> Result<(), AllocError>
+    ensures { OnOk result (out.new.items ≡ out.old.items ++ rows.head specifier) }
 {
-    let form = form_name(specifier.form);
-    let lo = specifier.span.lo.0;
-    let hi = specifier.span.hi.0;
-    format!(in alloc; "{form} {lo} {hi} ")
+    out.extend_from_slice(form_name(specifier.form).as_bytes())?;
+    out.push(b' ')?;
+    push_pair(out, specifier.span.lo.0, specifier.span.hi.0)
 }
 
 /// Adds the line of a specifier of the text with these bytes.
-fn push_line(
-    alloc: Global,
-    out: &mut Vec<u8>,
-    bytes: &[u8],
-    specifier: Specifier,
-) -> Result<(), AllocError>
+fn push_line(out: &mut Vec<u8>, bytes: &[u8], specifier: Specifier) -> Result<(), AllocError>
     requires in_order { specifier.span.lo.0 ≤ specifier.span.hi.0 }
     requires within { specifier.span.hi.0 ≤ length bytes.now }
     ensures { OnOk result (out.new.items ≡ out.old.items ++ rows.line bytes.now specifier) }
 {
-    let head = head(alloc, specifier)?;
-    out.extend_from_slice(head.as_bytes())?;
+    push_head(out, specifier)?;
     out.extend_from_slice(&bytes[specifier.span.lo.0 as usize..specifier.span.hi.0 as usize])?;
     out.push(b'\n')?;
     Ok(())
@@ -65,9 +62,18 @@ pub fn specifier_lines(
 {
     let mut out = Vec::new(alloc);
     for specifier in specifiers {
-        push_line(alloc, &mut out, bytes, *specifier)?;
+        push_line(&mut out, bytes, *specifier)?;
     }
     Ok(out)
+}
+
+/// The lines of what a text imports, by its tokens. The text starts at the place 0.
+fn imports_of_kept(alloc: Global, source: &str, kept: &[Kept]) -> Result<Vec<u8>, AllocError>
+    requires { All (StandsIn (begin 0 (chars source.now))) (spans_of_kept kept.now) }
+    ensures { IfOk result (λ v. v.items ≡ rows.lines source.now (specifiers_of kept.now)) }
+{
+    let found = specifiers(alloc, kept)?;
+    specifier_lines(alloc, source.as_bytes(), &found)
 }
 
 /// The lines of what a text imports, by the tokens that a list of steps keeps of it. The text starts at the place 0. Our own.
@@ -85,8 +91,7 @@ pub fn imports_of_steps(
     ensures { IfOk result (λ v. v.items ≡ imports_of_steps settings.now source.now steps.now) }
 {
     let gathered = gather(alloc, settings, source, BytePos(0), steps)?;
-    let found = specifiers(alloc, gathered.kept.as_slice())?;
-    specifier_lines(alloc, source.as_bytes(), &found)
+    imports_of_kept(alloc, source, gathered.kept.as_slice())
 }
 
 /// The lines of what a text imports ([`imports_of_steps`]), read to its end in a context, its slashes by the flag.
@@ -103,6 +108,6 @@ pub fn imports_text(
     requires { length source.now < 2 ^ 32 }
     ensures { IfOk result (λ v. v.items ≡ imports_of settings.now context source.now) }
 {
-    let steps = steps_by_flag(alloc, settings, context, source, BytePos(0))?;
-    imports_of_steps(alloc, settings, source, &steps)
+    let gathered = gather_by_flag(alloc, settings, context, source, BytePos(0))?;
+    imports_of_kept(alloc, source, gathered.kept.as_slice())
 }

@@ -14,6 +14,7 @@ use Rattle.ecma_state.specs.declared.step.Step.TheVariants.{Read}
 use Rattle.ecma_slashes.specs.Rereads.{SlashRule, StepsOn, behind_by, found_by, is_reread, last_read, meets_expression, read_steps, rereads, steps_by, steps_to_end_by}
 use Rattle.ecma_slashes.proofs.RunLemmas.{SoFar, so-far-end, so-far-next, so-far-start}
 use Rattle.ecma_slashes.proofs.TokenLemmas.{met-slash}
+use Rattle.ecma_texts.proofs.KeepingLemmas.{kept-by, kept_with}
 use Rattle.ecma_rows.specs.Asked.{read_out}
 use Rattle.ecma_rows.specs.Rows.{token_errors, token_row, token_rows}
 use Rattle.ecma_rows.specs.Tally.{IsTallied, ReadsRow, TellsOn, errors_found, errors_in, one_if, rows_of}
@@ -21,45 +22,6 @@ use Rattle.ecma_rows.specs.Told.{written}
 use Rattle.ecma_rows.specs.declared.tally.ReadRow.{ReadRow}
 use Rattle.ecma_rows.specs.declared.tally.Tally.{Tally}
 use Rattle.ecma_rows.specs.declared.tokens.TokenRow.{TokenRow}
-
--- What is kept of one token
-
-abbrev kept_with : Option SpannedView → List SpannedView → List SpannedView
-kept_with None ts = ts
-kept_with (Some t) ts = t ∷ ts
-
--- a read that reads nothing again keeps what it finds
-keeps-first : (again flag : Bool) (found : Option SpannedView) (past : Past) → again ≡ false → kept_back (given_in again flag found ∷ past) ≡ kept_with found (kept_back past)
-keeps-first again flag None past e = refl
-keeps-first true flag (Some t) past e = cc
-keeps-first false flag (Some t) past e = refl
-
-plain-none : (o : Option BytePos) → o ≡ None → is_some o ≡ false
-plain-none o e = ap is_some e
-
--- behind a slash, that one stood there is forgotten
-keeps-slash : (again flag : Bool) (found : Option SpannedView) (past : Past) (p : BytePos) → again ≡ false → last_slash (seen_of (given_in again flag found ∷ past)) ≡ Some p
-    → drop 1 (kept_back (given_in again flag found ∷ past)) ≡ kept_back past
-keeps-slash again flag None past p e slash = cc
-keeps-slash true flag (Some t) past p e slash = cc
-keeps-slash false flag (Some t) past p e slash = refl
-
-pub kept-by : (rule : SlashRule) (s : Session) → s.reread ≡ None → kept_back (behind_by rule s).past ≡ kept_with (found_by rule s) (kept_back s.past)
-kept-by rule s plain = go (meets_expression rule s) refl
-  where
-    once : Session
-    once = act_on s Read
-
-    twice : (o : Option BytePos) → last_slash (seen_of once.past) ≡ o → is_some o ≡ true
-        → kept_back (act_on (reread_from once o).after Read).past ≡ kept_with (reading_of (state_of (reread_from once o).after)).found (kept_back s.past)
-    twice None e h = cc
-    twice (Some p) e h =
-        let before = keeps-slash (is_some s.reread) (reading_of (state_of s)).end_flag (reading_of (state_of s)).found s.past p (plain-none s.reread plain) e in
-        ap (kept_with (reading_of (state_of (record once { reread = Some p }))).found) before
-
-    go : (b : Bool) → meets_expression rule s ≡ b → kept_back (act_all s (read_steps b)).past ≡ kept_with (reading_of (state_of (last_read b s))).found (kept_back s.past)
-    go false e = keeps-first (is_some s.reread) (reading_of (state_of s)).end_flag (reading_of (state_of s)).found s.past (plain-none s.reread plain)
-    go true e = twice (last_slash (seen_of once.past)) refl (met-slash rule s e)
 
 -- Rows
 

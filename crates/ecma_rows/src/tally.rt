@@ -39,18 +39,32 @@ struct ReadRow<'a> {
     again: bool,
 }
 
-/// The error of a token that is one.
-fn error_in<'a>(token: Option<TokenAndSpan<'a>>) -> Option<Error<'a>>
-    ensures { errors_in result ≡ errors_found (option_map spanned_view token.entry) }
+/// The error of a token that is one, which is taken out of the slot.
+fn error_in<'a>(slot: &mut Option<TokenAndSpan<'a>>) -> Option<Error<'a>>
+    ensures { errors_in result ≡ errors_found (option_map spanned_view slot.old) }
 {
-    match token?.token {
+    // Most tokens are none, and stay where they are.
+    match slot {
+        Some(
+            TokenAndSpan {
+                token: Token::Error(_),
+                ..
+            },
+        ) => {}
+        _ => return None,
+    }
+    match slot.take()?.token {
         Token::Error(error) => Some(error),
         _ => None,
     }
 }
 
-/// Reads the next token.
-fn read_row<'a>(lexer: &mut Lexer<'a>, slashes: Slashes) -> Result<ReadRow<'a>, AllocError>
+/// Reads the next token into the slot.
+fn read_row<'a>(
+    lexer: &mut Lexer<'a>,
+    slot: &mut Option<TokenAndSpan<'a>>,
+    slashes: Slashes,
+) -> Result<ReadRow<'a>, AllocError>
     requires no_reread { lexer.old.reread ≡ None }
     requires in_order { is_in_order (rule_of slashes) ≡ true }
     ensures steps { (s : Session) → state_of s ≡ lexer_state lexer.old → IfOk result (λ read.
@@ -58,9 +72,8 @@ fn read_row<'a>(lexer: &mut Lexer<'a>, slashes: Slashes) -> Result<ReadRow<'a>, 
     ensures fewer { IfOk result (λ read. is_some read.row ≡ true → most_tokens (lexer_state lexer.new) < most_tokens (lexer_state lexer.old)) }
     ensures no_reread { OnOk result (lexer.new.reread ≡ None) }
 {
-    let mut slot = None;
-    let again = read_telling(lexer, &mut slot, slashes)?;
-    let row = match &slot {
+    let again = read_telling(lexer, slot, slashes)?;
+    let row = match slot {
         Some(token) => Some(token_row(token)),
         None => None,
     };
@@ -96,7 +109,12 @@ impl<'a> Tally<'a> {
     }
 
     /// Reads the next token, counts it and writes its row, and says whether there was one.
-    fn read_next(&mut self, slashes: Slashes, out: &mut [TokenRow]) -> Result<bool, AllocError>
+    fn read_next(
+        &mut self,
+        slot: &mut Option<TokenAndSpan<'a>>,
+        slashes: Slashes,
+        out: &mut [TokenRow],
+    ) -> Result<bool, AllocError>
         requires no_reread { self.old.lexer.reread ≡ None }
         requires in_order { is_in_order (rule_of slashes) ≡ true }
         requires few { self.old.tokens < 2 ^ 60 }
@@ -108,7 +126,7 @@ impl<'a> Tally<'a> {
         ensures few { OnOk result (self.new.tokens ≤ self.old.tokens + 1) }
         ensures rare { OnOk result (self.new.rereads ≤ self.old.rereads + 1) }
     {
-        let read = read_row(&mut self.lexer, slashes)?;
+        let read = read_row(&mut self.lexer, slot, slashes)?;
         let more = self.take_in(read, out)?;
         Ok(more)
     }
@@ -134,6 +152,8 @@ pub(crate) fn tally_all<'a>(
         rereads: 0,
         errors: Vec::new(alloc),
     };
-    'tokens: while tally.read_next(slashes, out)? {}
+    // One slot for all, so that none is made and let go of a token.
+    let mut slot = None;
+    'tokens: while tally.read_next(&mut slot, slashes, out)? {}
     Ok(tally)
 }

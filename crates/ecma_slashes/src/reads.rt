@@ -104,8 +104,12 @@ struct Passed {
     again: bool,
 }
 
-/// Passes the next token.
-fn pass_token(lexer: &mut Lexer, slashes: Slashes) -> Result<Passed, AllocError>
+/// Passes the next token, which takes the place of what is in the slot.
+fn pass_token<'a>(
+    lexer: &mut Lexer<'a>,
+    slot: &mut Option<TokenAndSpan<'a>>,
+    slashes: Slashes,
+) -> Result<Passed, AllocError>
     requires no_reread { lexer.old.reread ≡ None }
     requires in_order { is_in_order (rule_of slashes) ≡ true }
     ensures steps { (s : Session) → state_of s ≡ lexer_state lexer.old → IfOk result (λ passed.
@@ -113,8 +117,7 @@ fn pass_token(lexer: &mut Lexer, slashes: Slashes) -> Result<Passed, AllocError>
     ensures fewer { IfOk result (λ passed. passed.more ≡ true → most_tokens (lexer_state lexer.new) < most_tokens (lexer_state lexer.old)) }
     ensures no_reread { OnOk result (lexer.new.reread ≡ None) }
 {
-    let mut slot = None;
-    let again = read_telling(lexer, &mut slot, slashes)?;
+    let again = read_telling(lexer, slot, slashes)?;
     Ok(Passed {
         more: slot.is_some(),
         again,
@@ -122,7 +125,12 @@ fn pass_token(lexer: &mut Lexer, slashes: Slashes) -> Result<Passed, AllocError>
 }
 
 /// Reads the next token, adds the steps by which it was read, and says whether there was one.
-fn add_steps(steps: &mut Vec<Step>, lexer: &mut Lexer, slashes: Slashes) -> Result<bool, AllocError>
+fn add_steps<'a>(
+    steps: &mut Vec<Step>,
+    lexer: &mut Lexer<'a>,
+    slot: &mut Option<TokenAndSpan<'a>>,
+    slashes: Slashes,
+) -> Result<bool, AllocError>
     requires no_reread { lexer.old.reread ≡ None }
     requires in_order { is_in_order (rule_of slashes) ≡ true }
     ensures steps { (s : Session) → state_of s ≡ lexer_state lexer.old → IfOk result (λ more.
@@ -130,7 +138,7 @@ fn add_steps(steps: &mut Vec<Step>, lexer: &mut Lexer, slashes: Slashes) -> Resu
     ensures fewer { IfOk result (λ more. more ≡ true → most_tokens (lexer_state lexer.new) < most_tokens (lexer_state lexer.old)) }
     ensures no_reread { OnOk result (lexer.new.reread ≡ None) }
 {
-    let passed = pass_token(lexer, slashes)?;
+    let passed = pass_token(lexer, slot, slashes)?;
     steps.push(Step::Read)?;
     if passed.again {
         steps.push(Step::Reread)?;
@@ -158,7 +166,9 @@ pub fn add_steps_by(
     ensures steps { (s : Session) → state_of s ≡ lexer_state lexer.old → OnOk result (steps.new.items ≡ steps.old.items ++ steps_to_end_by (rule_of slashes.entry) s) }
     ensures after { (s : Session) → state_of s ≡ lexer_state lexer.old → OnOk result (lexer_state lexer.new ≡ state_of (act_all s (steps_to_end_by (rule_of slashes.entry) s))) }
 {
-    'tokens: while add_steps(steps, lexer, slashes)? {}
+    // One slot for all, so that none is made and let go of a token.
+    let mut slot = None;
+    'tokens: while add_steps(steps, lexer, &mut slot, slashes)? {}
     Ok(())
 }
 

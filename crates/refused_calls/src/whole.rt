@@ -4,7 +4,7 @@ ghost use Rattle.std.specs.Prelude.{◌+◌, ◌<◌, ◌^◌, length};
 use ecma_canonical::{Canon, canonical};
 use ecma_place::StringInput;
 use ecma_replay::{Gathered, Replay, gather, replay};
-use ecma_state::Step;
+use ecma_state::{Kept, Step};
 use refused_reads::rows::{DEEP, START, TEXTS, contexts, module, settings};
 use refused_reads::told::{tell_comments, tell_errors};
 use std::alloc::Global;
@@ -59,16 +59,29 @@ fn canon(rt: &impl Print, alloc: Global, text: &str, steps: &[Step]) -> io::Resu
     }
 }
 
-/// Tells what is gathered of a text, which is what is replayed but for the answers.
-fn gather_text(rt: &impl Print, alloc: Global, text: &str, steps: &[Step]) -> io::Result<()>
+/// Gathers what was replayed, and says so where it comes to other tokens, or to another end, or to other numbers of recorded
+/// errors, of those that wait and of comments.
+fn gather_text(
+    rt: &impl Print,
+    alloc: Global,
+    text: &str,
+    steps: &[Step],
+    kept: &[Kept],
+    ended: bool,
+    numbers: [usize; 3],
+) -> io::Result<()>
     requires { 0 + length text.now < 2 ^ 32 }
 {
     let found = gathered(rt, alloc, text, steps)?;
-    let kept = found.kept.len();
-    println!(rt; "gathered, kept {kept}, ended {}", found.ended)?;
-    tell_errors(rt, "recorded", found.errors.as_slice())?;
-    tell_errors(rt, "waiting", found.waiting.as_slice())?;
-    tell_comments(rt, &found.comments)
+    let same_tokens = found.kept.as_slice() == kept && found.ended == ended;
+    let recorded = found.errors.len();
+    let waiting = found.waiting.len();
+    let comments = found.comments.len();
+    let same_numbers = recorded == numbers[0] && waiting == numbers[1] && comments == numbers[2];
+    if !(same_tokens && same_numbers) {
+        println!(rt; "gathered otherwise")?;
+    }
+    Ok(())
 }
 
 fn play_text(rt: &impl Print, alloc: Global, text: &str, steps: &[Step]) -> io::Result<()> {
@@ -83,7 +96,20 @@ fn play_text(rt: &impl Print, alloc: Global, text: &str, steps: &[Step]) -> io::
     tell_errors(rt, "recorded", found.errors.as_slice())?;
     tell_errors(rt, "waiting", found.waiting.as_slice())?;
     tell_comments(rt, &found.comments)?;
-    gather_text(rt, alloc, text, steps)?;
+    let numbers = [
+        found.errors.len(),
+        found.waiting.len(),
+        found.comments.len(),
+    ];
+    gather_text(
+        rt,
+        alloc,
+        text,
+        steps,
+        found.kept.as_slice(),
+        found.ended,
+        numbers,
+    )?;
     match canon(rt, alloc, text, steps)? {
         Canon::Text(text) => println!(rt; "canonical {:?}", text.as_str()),
         Canon::NotClean => println!(rt; "not clean"),
