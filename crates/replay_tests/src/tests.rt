@@ -1,4 +1,5 @@
-//! Tests of replays: what the steps answer, that it is what a plain replay gives, and the pieces that they cut a text into.
+//! Tests of replays: what the steps answer, that it is what a plain replay gives and what one reading of a text comes to, and the pieces that they cut a text into.
 mod agreement;
 mod pieces;
 mod replays;
+mod texts;

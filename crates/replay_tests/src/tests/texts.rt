@@ -1,0 +1,82 @@
+//! Texts that are read to their end once: what is gathered is what their steps come to.
+ghost use Rattle.std.specs.Prelude.{◌≡◌, true};
+ghost use Rattle.ecma_slashes.specs.Rereads.{is_in_order, rule_of};
+
+use crate::tests::agreement::{START, TEXTS, told};
+use crate::tests::replays::settings;
+use ecma_lexer::{Slashes, ascend, gather, steps_by};
+use ecma_place::{BytePos, StringInput};
+use ecma_syntax::Context;
+use ecma_texts::gather_by;
+use std::alloc::{AllocError, Global};
+use std::process::Abort;
+use std::test::Fail;
+
+/// Where slashes of the texts stand, and where none does.
+const PLACES: &[&[BytePos]] = &[
+    &[],
+    &[BytePos(3)],
+    &[BytePos(5), BytePos(7)],
+    &[BytePos(4), BytePos(6), BytePos(8), BytePos(10)],
+];
+
+/// The slashes at these places, or by the flag where there is none.
+fn slashes_at(places: &[BytePos]) -> Slashes
+    ensures { is_in_order (rule_of result) ≡ true }
+{
+    if !places.is_empty() && ascend(places) {
+        Slashes::At(places)
+    } else {
+        Slashes::ByFlag
+    }
+}
+
+/// Reads a text once, and by its steps.
+fn assert_text(
+    rt: &impl Abort,
+    alloc: Global,
+    context: Context,
+    text: &str,
+    places: &[BytePos],
+) -> Result<(), Fail> {
+    if !StringInput::fits(text, START) {
+        return Err(Fail::from(AllocError));
+    }
+    let slashes = slashes_at(places);
+    let steps = steps_by(alloc, &settings(), context, text, START, slashes)?;
+    let listed = gather(alloc, &settings(), text, START, &steps)?;
+    let read = gather_by(alloc, &settings(), context, text, START, slashes)?;
+    let shown = told(alloc, &read)?;
+    let wanted = told(alloc, &listed)?;
+    let kept = read.kept.as_slice() == listed.kept.as_slice();
+    assert!(rt;
+        kept && read.ended && shown.as_str() == wanted.as_str(),
+        "{text}: {shown}, by steps {wanted}"
+    );
+    Ok(())
+}
+
+fn assert_texts(
+    rt: &impl Abort,
+    alloc: Global,
+    context: Context,
+    places: &[BytePos],
+) -> Result<(), Fail> {
+    for text in TEXTS {
+        assert_text(rt, alloc, context, text, places)?;
+    }
+    Ok(())
+}
+
+#[test]
+fn texts_read_once_come_to_their_steps(rt: HostRuntime) -> Result<(), Fail> {
+    let module = Context {
+        module: true,
+        ..Context::default()
+    };
+    for places in PLACES {
+        assert_texts(&rt, rt.alloc(), Context::default(), places)?;
+        assert_texts(&rt, rt.alloc(), module, places)?;
+    }
+    Ok(())
+}
