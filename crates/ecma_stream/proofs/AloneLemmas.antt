@@ -8,6 +8,7 @@ use Rattle.ecma_place.specs.Text.{Text}
 use Rattle.ecma_place.proofs.CursorLemmas.{first_byte}
 use Rattle.ecma_place.proofs.RunLemmas.{first-cons}
 use Rattle.ecma_syntax.specs.declared.operator.AssignOp.TheVariants as assign
+use Rattle.ecma_syntax.specs.declared.operator.BinOpToken.TheVariants as bin
 use Rattle.ecma_token.specs.declared.token.Radix.TheVariants.{Decimal}
 use Rattle.ecma_scan.specs.Bars.{opens_bars}
 use Rattle.ecma_scan.specs.Fronts.{next_is, next_passes}
@@ -22,7 +23,7 @@ use Rattle.ecma_state.specs.Mode.{is_template}
 use Rattle.ecma_state.specs.TokenAt.{lookahead, lookahead_from}
 use Rattle.ecma_state.specs.declared.mode.Mode.{Mode}
 use Rattle.ecma_state.specs.declared.lookahead.Lookahead.TheVariants as opens
-use Rattle.ecma_stream.specs.Plain.{IsAlone, begins_word}
+use Rattle.ecma_stream.specs.Plain.{IsAlone, OperatesAlone, begins_word}
 
 -- nothing else is opened where no other reader's question is answered so
 other-opens : (mode : Mode) (flag : Bool) (text : Text) → is_template mode.top ≡ false → opens_number text ≡ false → opens_string text ≡ false → opens_word text ≡ false
@@ -165,7 +166,7 @@ pub not-true : (b : Bool) → not b ≡ true → b ≡ false
 not-true true h = cc
 not-true false h = refl
 
-other-byte : (b k : ℕ) → (b ≡ k → ⊥) → (b == k) ≡ false
+pub other-byte : (b k : ℕ) → (b ≡ k → ⊥) → (b == k) ≡ false
 other-byte b k other = go (b == k) refl
   where
     go : (is : Bool) → (b == k) ≡ is → is ≡ false
@@ -189,6 +190,88 @@ equals-alone text b e at no-equals no-arrow =
     let whole : text ≡ 61 ∷ drop 1 text = first-cons text 61 e in
     let second : slice_get (encode_utf8_all (drop 1 text)) 0 ≡ Some b = sym (at ∙ ap (λ t. slice_get (encode_utf8_all t) 1) whole) in
     subst (IsAlone (kinds.AssignOp assign.Assign)) (sym whole) (equals (drop 1 text) b second (other-byte b 61 no-equals) no-arrow)
+
+-- operators of one character
+
+pub plus : OperatesAlone 43 (kinds.BinOp bin.Add)
+unfolding is_ident_start
+plus cs e f = record { opens = λ mode flag t. other-opens mode flag (43 ∷ cs) t refl refl refl refl; found = both _ (first cs e f) (first cs e f) }
+  where
+    first : (cs : Text) → next_is 43 cs ≡ false → next_is 61 cs ≡ false → first_of punctuators (43 ∷ cs) ≡ Some (spells (43 ∷ []) (kind_token (kinds.BinOp bin.Add)))
+    first [] e f = refl
+    first (c ∷ cs) e f = rw (e, f) refl
+
+pub minus : OperatesAlone 45 (kinds.BinOp bin.Sub)
+unfolding is_ident_start
+minus cs e f = record { opens = λ mode flag t. other-opens mode flag (45 ∷ cs) t refl refl refl refl; found = both _ (first cs e f) (first cs e f) }
+  where
+    first : (cs : Text) → next_is 45 cs ≡ false → next_is 61 cs ≡ false → first_of punctuators (45 ∷ cs) ≡ Some (spells (45 ∷ []) (kind_token (kinds.BinOp bin.Sub)))
+    first [] e f = refl
+    first (c ∷ cs) e f = rw (e, f) refl
+
+pub star : OperatesAlone 42 (kinds.BinOp bin.Mul)
+unfolding is_ident_start
+star cs e f = record { opens = λ mode flag t. other-opens mode flag (42 ∷ cs) t refl refl refl refl; found = both _ (first cs e f) (first cs e f) }
+  where
+    first : (cs : Text) → next_is 42 cs ≡ false → next_is 61 cs ≡ false → first_of punctuators (42 ∷ cs) ≡ Some (spells (42 ∷ []) (kind_token (kinds.BinOp bin.Mul)))
+    first [] e f = refl
+    first (c ∷ cs) e f = rw (e, f) refl
+
+pub slash : OperatesAlone 47 (kinds.BinOp bin.Div)
+unfolding is_ident_start
+slash cs e f = record { opens = λ mode flag t. other-opens mode flag (47 ∷ cs) t refl refl refl refl; found = both _ (first cs e f) (first cs e f) }
+  where
+    first : (cs : Text) → next_is 47 cs ≡ false → next_is 61 cs ≡ false → first_of punctuators (47 ∷ cs) ≡ Some (spells (47 ∷ []) (kind_token (kinds.BinOp bin.Div)))
+    first [] e f = refl
+    first (c ∷ cs) e f = rw f refl
+
+pub percent : OperatesAlone 37 (kinds.BinOp bin.Mod)
+unfolding is_ident_start
+percent cs e f = record { opens = λ mode flag t. other-opens mode flag (37 ∷ cs) t refl refl refl refl; found = both _ (first cs e f) (first cs e f) }
+  where
+    first : (cs : Text) → next_is 37 cs ≡ false → next_is 61 cs ≡ false → first_of punctuators (37 ∷ cs) ≡ Some (spells (37 ∷ []) (kind_token (kinds.BinOp bin.Mod)))
+    first [] e f = refl
+    first (c ∷ cs) e f = rw f refl
+
+pub less : OperatesAlone 60 (kinds.BinOp bin.Lt)
+unfolding is_ident_start
+less cs e f = record { opens = λ mode flag t. other-opens mode flag (60 ∷ cs) t refl refl refl refl; found = both _ refl (first cs e f) }
+  where
+    first : (cs : Text) → next_is 60 cs ≡ false → next_is 61 cs ≡ false → first_of punctuators (60 ∷ cs) ≡ Some (spells (60 ∷ []) (kind_token (kinds.BinOp bin.Lt)))
+    first [] e f = refl
+    first (c ∷ cs) e f = rw (e, f) refl
+
+pub greater : OperatesAlone 62 (kinds.BinOp bin.Gt)
+unfolding is_ident_start
+greater cs e f = record { opens = λ mode flag t. other-opens mode flag (62 ∷ cs) t refl refl refl refl; found = both _ refl (first cs e f) }
+  where
+    first : (cs : Text) → next_is 62 cs ≡ false → next_is 61 cs ≡ false → first_of punctuators (62 ∷ cs) ≡ Some (spells (62 ∷ []) (kind_token (kinds.BinOp bin.Gt)))
+    first [] e f = refl
+    first (c ∷ cs) e f = rw (e, f) refl
+
+pub ampersand : OperatesAlone 38 (kinds.BinOp bin.BitAnd)
+unfolding is_ident_start
+ampersand cs e f = record { opens = λ mode flag t. other-opens mode flag (38 ∷ cs) t refl refl refl refl; found = both _ (first cs e f) (first cs e f) }
+  where
+    first : (cs : Text) → next_is 38 cs ≡ false → next_is 61 cs ≡ false → first_of punctuators (38 ∷ cs) ≡ Some (spells (38 ∷ []) (kind_token (kinds.BinOp bin.BitAnd)))
+    first [] e f = refl
+    first (c ∷ cs) e f = rw (e, f) refl
+
+pub bang : OperatesAlone 33 kinds.Bang
+unfolding is_ident_start
+bang cs e f = record { opens = λ mode flag t. other-opens mode flag (33 ∷ cs) t refl refl refl refl; found = both _ (first cs e f) (first cs e f) }
+  where
+    first : (cs : Text) → next_is 33 cs ≡ false → next_is 61 cs ≡ false → first_of punctuators (33 ∷ cs) ≡ Some (spells (33 ∷ []) (kind_token kinds.Bang))
+    first [] e f = refl
+    first (c ∷ cs) e f = rw f refl
+
+pub question : OperatesAlone 63 kinds.QuestionMark
+unfolding is_ident_start
+question cs e f = record { opens = λ mode flag t. other-opens mode flag (63 ∷ cs) t refl refl refl refl; found = both _ (first cs e f) (first cs e f) }
+  where
+    first : (cs : Text) → next_is 63 cs ≡ false → next_is 61 cs ≡ false → first_of punctuators (63 ∷ cs) ≡ Some (spells (63 ∷ []) (kind_token kinds.QuestionMark))
+    first [] e f = refl
+    first (c ∷ cs) e f = rw e refl
 
 -- Words
 

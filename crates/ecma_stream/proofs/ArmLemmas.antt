@@ -1,8 +1,9 @@
 -- Reads that look at what stands behind white space: the cursor before it, and what an arm gives.
-use Rattle.std.proofs.Common.{◌≡◌, ◌∙◌, ℕ, ◌+◌, ◌-◌, ◌≤◌, Bool, true, false, ◌∷◌, Some, None, length, length-drop, drop, slice_get, sym, subst, ap, arith}
+use Rattle.std.proofs.Common.{◌≡◌, ◌∙◌, ℕ, ◌+◌, ◌-◌, ◌≤◌, Bool, true, false, [], ◌∷◌, Some, None, zero, suc, length, length-drop, drop, drop-drop, refl, slice_get, sym, subst, ap, arith}
 use Rattle.std.proofs.lemmas.Option.{none-some}
 use Rattle.std.specs.Prelude.{Option, IfSome}
 use Rattle.ecma_place.specs.Cursor.{Cursor, HasPlace, passed, place, rest}
+use Rattle.ecma_place.specs.Text.{Text}
 use Rattle.ecma_place.specs.declared.place.BytePos.{BytePos}
 use Rattle.ecma_place.proofs.MoveLemmas.{place-passed-le}
 use Rattle.ecma_place.proofs.RunLemmas.{first-cons}
@@ -13,7 +14,7 @@ use Rattle.ecma_scan.specs.BlankGaps.{IsBlankGap}
 use Rattle.ecma_scan.specs.declared.blank_gap.BlankGap.{BlankGap}
 use Rattle.ecma_dispatch.specs.Besides.{bare, state_taking}
 use Rattle.ecma_state.specs.Mode.{gap_mode, is_template}
-use Rattle.ecma_state.specs.Reading.{reading}
+use Rattle.ecma_state.specs.Reading.{Reading, reading}
 use Rattle.ecma_state.specs.Run.{at_place, mode_of, reading_from, reading_of, state_behind}
 use Rattle.ecma_state.specs.Session.{LexerValue, LexerState, kept_of, lexer_state}
 use Rattle.ecma_stream.specs.Plain.{IsBehindGap, IsPlain, PassesWord, StandsPlain, back_at, begins_word, plain_reading}
@@ -39,6 +40,33 @@ at-back old now p n c moved e first =
         let there : length (rest (passed n old)) ≡ length old.text - (old.at + n) = length-drop (old.at + n) old.text in
         let same : length (rest now) ≡ length (rest (passed n old)) = ap (λ c. length (rest c)) moved in
         omega (arith, some, there, same)
+
+-- the same where something stands at it
+pub at-text : (old now : Cursor) (p : BytePos) (n c : ℕ) → now ≡ passed n old → p.0 ≡ place old → slice_get (rest old) 0 ≡ Some c → at_place p now ≡ old
+at-text old now p n c moved e first =
+    ap (at_place p) moved ∙ ap (λ (i : ℕ). let at : Cursor = record { start = old.start; text = old.text; at = i } in at) (at-index old p old.at within e)
+  where
+    some : length (rest old) ≡ 1 + length (drop 1 (rest old))
+    some = ap length (first-cons (rest old) c first) ∙ (let one : length (c ∷ drop 1 (rest old)) ≡ 1 + length (drop 1 (rest old)) = omega arith in one)
+
+    within : old.at ≤ length old.text
+    within =
+        let there : length (rest old) ≡ length old.text - old.at = length-drop old.at old.text in
+        omega (arith, some, there)
+
+-- nothing stands behind the end
+pub none-behind : (old now : Cursor) (n c : ℕ) → now ≡ passed n old → rest old ≡ [] → slice_get (rest now) 0 ≡ Some c → ⊥
+none-behind old now n c moved end first =
+    go n
+    (ap (λ (t : Text). slice_get (drop n t) 0) (sym end) ∙ ap (λ (t : Text). slice_get t 0) (drop-drop n old.at old.text) ∙ ap (λ (i : Cursor). slice_get (rest i) 0) (sym moved)
+    ∙ first)
+  where
+    empty : Text
+    empty = []
+
+    go : (n : ℕ) → slice_get (drop n empty) 0 ≡ Some c → ⊥
+    go zero e = cc
+    go (suc n) e = cc
 
 -- it is the same from further on
 pub at-moved : (here now : Cursor) (p : BytePos) (n : ℕ) → now ≡ passed n here → at_place p now ≡ at_place p here
@@ -93,13 +121,17 @@ from-plain : (before : BytePos) (l : LexerValue) (t : SpannedView) → l.reread 
     → reading_of (lexer_state (back_at before l)) ≡ plain_reading t l.input
 from-plain before l t none found = ap (λ o. reading_from o (lexer_state (back_at before l))) none ∙ found
 
--- it is an answer
+-- it is an answer, whatever the flag of the gap is
+pub answer-found : (before : BytePos) (l : LexerValue) (t : SpannedView) (r : Reading) → r.found ≡ Some t → r.input ≡ l.input → l.reread ≡ None → HasPlace l.input before.0
+    → l.state.opened.0 ≤ before.0 → reading (mode_of (lexer_state l)) (at_place before l.input) ≡ r → IsAnswer l (Some (kept_of t))
+answer-found before l t r is at none has opened found =
+    let reads : reading_of (lexer_state (back_at before l)) ≡ r = ap (λ o. reading_from o (lexer_state (back_at before l))) none ∙ found in
+    let there = place-there l.input before has in
+    is-answer (back_at before l) l.input (Some t) (omega (arith, there, opened)) (λ p e. absurd (none-some p (sym none ∙ e))) (sym is ∙ ap (λ r. r.found) (sym reads)) (sym at ∙ ap (λ r. r.input) (sym reads))
+
 pub given-answer : (before : BytePos) (l : LexerValue) (t : SpannedView) → l.reread ≡ None → HasPlace l.input before.0 → l.state.opened.0 ≤ before.0
     → reading (mode_of (lexer_state l)) (at_place before l.input) ≡ plain_reading t l.input → IsAnswer l (Some (kept_of t))
-given-answer before l t none has opened found =
-    let reads = from-plain before l t none found in
-    let there = place-there l.input before has in
-    is-answer (back_at before l) l.input (Some t) (omega (arith, there, opened)) (λ p e. absurd (none-some p (sym none ∙ e))) (ap (λ r. r.found) (sym reads)) (ap (λ r. r.input) (sym reads))
+given-answer before l t none has opened found = answer-found before l t (plain_reading t l.input) refl refl none has opened found
 
 -- what was given is what that read finds
 pub given-found : (before : BytePos) (l : LexerValue) (t : SpannedView) → l.reread ≡ None → reading (mode_of (lexer_state l)) (at_place before l.input) ≡ plain_reading t l.input
@@ -162,9 +194,9 @@ arm-behind a l mode before now gap shows is none by e stands =
           (subst (λ (m : Mode). StandsPlain m a.input now gap) own stands);
     }
 
--- the first character behind it is the one that the gap tells
-pub gap-first : (o : Option BlankGap) (gap : BlankGap) (before : BytePos) (l : LexerValue) (c : ℕ) → o ≡ Some gap → IfSome o (IsBehindGap before l) → gap.next ≡ c
-    → slice_get (rest l.input) 0 ≡ Some c
-gap-first o gap before l c is holds next =
-    let behind : IsBehindGap before l gap = subst (λ (o : Option BlankGap). IfSome o (IsBehindGap before l)) is holds in
-    behind.stands.next ∙ ap Some next
+-- in a template, where something stands at the cursor
+
+pub text-back : (a : Inside) (l : LexerValue) (before : BytePos) (now : Cursor) (n c : ℕ) → lexer_view a ≡ l → before.0 ≡ place a.input → now ≡ passed n a.input → slice_get (rest a.input) 0 ≡ Some c
+    → back_at before (lexer_view (record a { input = now })) ≡ l
+text-back a l before now n c shows e moved first =
+    ap (λ (i : Cursor). let k : LexerValue = record (lexer_view a) { input = i } in k) (at-text a.input now before n c moved e first) ∙ shows

@@ -1,17 +1,19 @@
 -- Reads of tokens of which nothing is to be told besides.
-use Rattle.std.proofs.Common.{◌≡◌, ℕ, ◌+◌, Bool, true, false, ◌||◌, ◌&&◌, [], Option, Some, None, Result, Ok, Err, length, is_some, slice_get, refl, sym, ap, ◌∙◌}
+use Rattle.std.proofs.Common.{◌≡◌, ℕ, ◌+◌, Bool, true, false, ◌||◌, ◌&&◌, ◌==◌, List, [], ◌∷◌, Option, Some, None, Result, Ok, Err, length, is_some, slice_get, refl, sym, ap, arith, ◌∙◌}
 use Rattle.std.specs.Prelude.{option_map, IfOk, IfSome}
 use Rattle.ecma_place.specs.Text.{Text, byte_len}
-use Rattle.ecma_place.specs.Cursor.{Cursor, rest, place, passed}
+use Rattle.ecma_place.specs.Cursor.{Cursor, ascii_of, rest, place, passed}
 use Rattle.ecma_place.specs.declared.place.BytePos.{BytePos}
+use Rattle.ecma_place.specs.declared.comment.Comment.{Comment}
 use Rattle.ecma_place.specs.declared.place.Span.{Span}
 use Rattle.ecma_place.proofs.MoveLemmas.{span-passed}
 use Rattle.ecma_syntax.specs.declared.word.Word.{Word}
 use Rattle.ecma_token.specs.View.{SpannedView, plain_token, token_view}
 use Rattle.ecma_token.specs.declared.token.Token as token
-use Rattle.ecma_scan.specs.BlankGaps.{IsBlankGap, IsTold}
+use Rattle.ecma_gap.proofs.BlankGapLemmas.{ascii-is}
+use Rattle.ecma_scan.specs.BlankGaps.{IsBlankGap, IsTold, told_of}
 use Rattle.ecma_scan.specs.declared.blank_gap.BlankGap.{BlankGap}
-use Rattle.ecma_scan.specs.Comments.{comments_at}
+use Rattle.ecma_scan.specs.Comments.{collected, comments_at}
 use Rattle.ecma_scan.specs.Found.{found_at, scanned, span_of, token_behind}
 use Rattle.ecma_scan.specs.Gaps.{gap_faults_at, has_line_break}
 use Rattle.ecma_scan.specs.Punctuators.{Punctuator, punctuator_in, spelling_in, token_in}
@@ -20,9 +22,10 @@ use Rattle.ecma_scan.specs.GapViews.{GapView}
 use Rattle.ecma_scan.specs.Shebangs.{opens_shebang}
 use Rattle.ecma_scan.specs.Numbers.{number}
 use Rattle.ecma_scan.specs.Strings.{string_literal}
+use Rattle.ecma_scan.specs.Templates.{template_found, template_text}
 use Rattle.ecma_scan.specs.Words.{word}
-use Rattle.ecma_state.specs.Mode.{gap_mode, is_template, keeps_space, passes_space, type_mode}
-use Rattle.ecma_stream.specs.Plain.{IsPlain, StandsPlain, plain_reading, plain_view}
+use Rattle.ecma_state.specs.Mode.{gap_mode, is_template, is_tpl_element, keeps_space, passes_space, type_mode}
+use Rattle.ecma_stream.specs.Plain.{IsPlain, StandsPlain, plain_reading, plain_view, text_reading, text_view}
 use Rattle.ecma_state.specs.Reading.{Reading, gap_in, is_free, is_free_behind, is_free_code, reading, reading_if, reading_token, token_reading}
 use Rattle.ecma_state.specs.Run.{mode_of, reading_from, reading_of}
 use Rattle.ecma_state.specs.Session.{LexerValue, lexer_state}
@@ -36,6 +39,7 @@ use Rattle.ecma_state.specs.declared.token_context.TokenContext.{TokenContext}
 use Rattle.ecma_state.specs.declared.token_context.TokenContext.TheVariants as context
 use Rattle.ecma_dispatch.proofs.ReadingLemmas.{free-reading, free-token, reading-some}
 use Rattle.ecma_dispatch.proofs.TokenLemmas.{view}
+use Rattle.ecma_stream.proofs.AloneLemmas.{other-byte}
 
 -- Tokens
 
@@ -153,6 +157,17 @@ stands-plain mode old now gap given passes told =
     let parts = passes-parts mode.top passes in
     record { given = given; in_code = parts.0; next = told.0; blank = told.1 (gap_mode mode) refl parts.0 parts.1 refl }
 
+-- no element may begin with the character, which is ASCII, behind a gap with no line terminator
+pub space-told : (text : Text) (b : ℕ) → Some b ≡ ascii_of (slice_get text 0) → (b ≡ 47 → ⊥) → (b ≡ 60 → ⊥)
+    → (let gap : BlankGap = record { line_break = false; next = b } in Some gap) ≡ told_of false text
+space-told [] b e slash less = cc
+space-told (c ∷ cs) b e slash less =
+    let same : Some c ≡ Some b = ascii-is (Some c) b (sym e) in
+    let is : c ≡ b = cc in
+    let no_slash : (c == 47) ≡ false = other-byte c 47 (λ h. slash (sym is ∙ h)) in
+    let no_less : (c == 60) ≡ false = other-byte c 60 (λ h. less (sym is ∙ h)) in
+    rw (no_slash, no_less) (ap (option_map (λ (x : ℕ). let gap : BlankGap = record { line_break = false; next = x } in gap)) e)
+
 -- a read behind it takes no memory where its token takes none
 pub free-plain : (mode : Mode) (old now : Cursor) (gap : BlankGap) → StandsPlain mode old now gap → is_free mode old ≡ true → is_free_at mode gap.line_break (rest now) ≡ true
 free-plain mode old now gap stands h =
@@ -191,6 +206,64 @@ plain-read mode input here now c t none first gap is =
         ap (λ b. let g : GapView = record { line_break = b; comments = comments_at (place input) (gap_mode mode) (rest input); faults = gap_faults_at (place input) (gap_mode mode) (rest input) } in g) gap.line_break
         ∙ ap (λ cs. let g : GapView = record { line_break = flag; comments = cs; faults = gap_faults_at (place input) (gap_mode mode) (rest input) } in g) gap.comments
         ∙ ap (λ fs. let g : GapView = record { line_break = flag; comments = []; faults = fs } in g) gap.faults
+
+-- in a template no gap stands before its text
+pub blank-text : (mode : Mode) (input : Cursor) → mode.first ≡ false → is_template mode.top ≡ true → IsBlankGap (gap_mode mode) input input false
+blank-text mode input first template =
+    record {
+      line_break = rw (first, template) refl;
+      comments = rw template (collected-none mode.settings.comments);
+      faults = rw template refl;
+      moved = rw template (ap (λ (n : ℕ). let moved : Cursor = record { start = input.start; text = input.text; at = n } in moved) same);
+    }
+  where
+    same : input.at ≡ input.at + 0
+    same = omega arith
+
+    none : List (Comment × Bool)
+    none = []
+
+    collected-none : (collect : Bool) → collected collect none ≡ none
+    collected-none true = refl
+    collected-none false = refl
+
+-- what a read finds in a template
+pub text-read : (mode : Mode) (input now : Cursor) (c : ℕ) (t : SpannedView) → mode.shebang_allowed ≡ false → mode.first ≡ false → is_template mode.top ≡ true
+    → slice_get (rest input) 0 ≡ Some c → template_found mode.opened.0 (place input) (template_text (is_tpl_element mode.previous) (rest input)) ≡ text_view t
+    → now ≡ passed (length (template_text (is_tpl_element mode.previous) (rest input)).spelling) input → reading mode input ≡ text_reading t now
+text-read mode input now c t none new template first found moved =
+    ap (λ b. reading_if (b && opens_shebang (rest input)) mode input) none
+    ∙ reading-some mode input input c gap.moved first
+    ∙ ap (λ g. reading_token mode g input (rest input)) told
+    ∙ ap (λ x. token_reading blank (placed x mode (place input) (read_opened x mode (rest input))) (comments_in x mode (place input) (rest input)) (passed (length (read_opened x mode (rest input)).spelling) input)) opened
+    ∙ ap (λ f. token_reading blank f [] (passed (length (template_text (is_tpl_element mode.previous) (rest input)).spelling) input)) found
+    ∙ ap (λ i. token_reading blank (text_view t) [] i) (sym moved)
+  where
+    gap : IsBlankGap (gap_mode mode) input input false
+    gap = blank-text mode input new template
+
+    opened : lookahead mode false (rest input) ≡ opens.Template
+    opened = rw template refl
+
+    blank : GapView
+    blank = record { line_break = false; comments = []; faults = [] }
+
+    told : gap_in mode (place input) (rest input) ≡ blank
+    told =
+        ap (λ b. let g : GapView = record { line_break = b; comments = comments_at (place input) (gap_mode mode) (rest input); faults = gap_faults_at (place input) (gap_mode mode) (rest input) } in g) gap.line_break
+        ∙ ap (λ cs. let g : GapView = record { line_break = false; comments = cs; faults = gap_faults_at (place input) (gap_mode mode) (rest input) } in g) gap.comments
+        ∙ ap (λ fs. let g : GapView = record { line_break = false; comments = []; faults = fs } in g) gap.faults
+
+-- such a read takes no memory where the text takes none
+pub free-text : (mode : Mode) (input : Cursor) (c : ℕ) → mode.shebang_allowed ≡ false → mode.first ≡ false → is_template mode.top ≡ true → slice_get (rest input) 0 ≡ Some c
+    → is_free mode input ≡ true → is_free_token opens.Template (rest input) (template_text (is_tpl_element mode.previous) (rest input)) ≡ true
+free-text mode input c none new template first h =
+    let code : is_free_code mode input ≡ true = ap (λ b. (b && opens_shebang (rest input)) || is_free_code mode input) (sym none) ∙ h in
+    let free = free-reading mode input code in
+    let gap = blank-text mode input new template in
+    let there : is_free_behind mode (has_line_break (gap_mode mode) (rest input)) (rest input) ≡ true = ap (λ c. is_free_behind mode (has_line_break (gap_mode mode) (rest input)) (rest c)) gap.moved ∙ free.token in
+    let at : is_free_at mode false (rest input) ≡ true = free-token mode false (rest input) c first (ap (λ b. is_free_behind mode b (rest input)) (sym gap.line_break) ∙ there) in
+    free-opened mode false (rest input) opens.Template (rw template refl) at
 
 pub none-is : {A : Type 0} (o : Option A) → is_some o ≡ false → o ≡ None
 none-is None e = refl

@@ -1,5 +1,5 @@
 -- Reads of tokens of which nothing is to be told besides.
-use Rattle.std.specs.Prelude.{◌≡◌, ◌≤◌, ℕ, Bool, true, false, ◌||◌, ◌==◌, Option, Some, None, [], length, option_map, slice_get, take, encode_utf8_all, Ok}
+use Rattle.std.specs.Prelude.{◌≡◌, ◌≤◌, ℕ, Bool, true, false, ◌||◌, ◌==◌, Option, Some, None, [], ◌∷◌, length, option_map, slice_get, take, encode_utf8_all, Ok}
 use Rattle.std.specs.Char.{is_ascii_alphabetic}
 use Rattle.std.specs.List.{prefix_len, take_while}
 use Rattle.ecma_place.specs.Character.{is_ident_part}
@@ -12,6 +12,7 @@ use Rattle.ecma_syntax.specs.Word.{word_kind, word_of}
 use Rattle.ecma_syntax.specs.declared.context.Context.{Context}
 use Rattle.ecma_syntax.specs.declared.word.WordKind.{WordKind}
 use Rattle.ecma_scan.specs.Found.{FoundView, scanned}
+use Rattle.ecma_scan.specs.Fronts.{next_is}
 use Rattle.ecma_scan.specs.Words.{word}
 use Rattle.ecma_scan.specs.BlankGaps.{IsBlankGap}
 use Rattle.ecma_scan.specs.Punctuators.{punctuator_in, spells}
@@ -33,6 +34,14 @@ use Rattle.ecma_stream.specs.declared.plain.Plain.{Plain}
 -- a read that finds this token, and nothing besides
 abbrev pub plain_reading : SpannedView → Cursor → Reading
 plain_reading t behind = record { found = Some t; end_flag = t.had_line_break; faults = []; comments = []; input = behind }
+
+-- the same in a template, where the flag before the token doesn't stand, and text holds line terminators
+abbrev pub text_reading : SpannedView → Cursor → Reading
+text_reading t behind = record { found = Some t; end_flag = false; faults = []; comments = []; input = behind }
+
+-- such a text
+abbrev pub text_view : SpannedView → FoundView TokenView
+text_view t = record { value = Ok t.token; faults = []; extent = t.span; line_break = t.had_line_break }
 
 -- a token without a fault that holds no line terminator
 abbrev pub plain_view : SpannedView → FoundView TokenView
@@ -62,6 +71,10 @@ pub record PassesWord (old now : Cursor) (kind : WordKind) : Type 0 where
 pub record IsAlone (kind : PunctuatorKind) (text : Text) : Type 0 where
   pub opens : (mode : Mode) (flag : Bool) → is_template mode.top ≡ false → lookahead mode flag text ≡ opens.Other
   pub found : (type_mode : Bool) → punctuator_in type_mode text ≡ Some (spells (take 1 text) (kind_token kind))
+
+-- behind this character, which an operator is written with, neither the same nor `=` stands: then it stands alone
+abbrev pub OperatesAlone : ℕ → PunctuatorKind → Type 0
+OperatesAlone c kind = (cs : Text) → next_is c cs ≡ false → next_is 61 cs ≡ false → IsAlone kind (c ∷ cs)
 
 abbrev pub assignment : PunctuatorKind
 assignment = kinds.AssignOp assign.Assign

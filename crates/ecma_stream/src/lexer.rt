@@ -14,13 +14,15 @@ ghost use Rattle.ecma_state.specs.Contexts.{innermost};
 ghost use Rattle.ecma_state.specs.Errors.{errors_view};
 
 mod arms;
+mod fork;
+mod lone;
+mod template;
 
 use crate::hand_over::HandsOver;
-use crate::plain::{begins_word, is_lone_dot, is_lone_equals};
 use crate::tokens::Tokens;
 use ecma_dispatch::read::{Besides, Reading, read_again, read_from};
 use ecma_place::{BytePos, StringInput};
-use ecma_scan::{BlankGap, PunctuatorKind};
+use ecma_scan::BlankGap;
 use ecma_state::comments_buffer::{BufferedComment, CommentsBuffer};
 use ecma_state::error_list::ErrorList;
 use ecma_state::errors::ErrorLists;
@@ -29,7 +31,7 @@ use ecma_state::mode::Mode;
 use ecma_state::settings::Settings;
 use ecma_state::state::State;
 use ecma_state::token_contexts::TokenContexts;
-use ecma_syntax::{AssignOp, Context, EsVersion, NumberRule, Syntax};
+use ecma_syntax::{Context, EsVersion, NumberRule, Syntax};
 use ecma_token::{Error, TokenAndSpan};
 use std::alloc::{AllocError, Global};
 use std::marker::Model;
@@ -400,26 +402,6 @@ impl<'a> Lexer<'a> {
         Ok(())
     }
 
-    /// Reads on from behind the white space with which a read from `before` begins.
-    #[inline(never)]
-    fn other_into(
-        &mut self,
-        slot: &mut Option<TokenAndSpan<'a>>,
-        before: BytePos,
-        gap: BlankGap,
-    ) -> Result<(), AllocError>
-        requires behind { IsBehindGap before self.old gap }
-        ensures done { OnOk result (Gives (back_at before self.old) self.new slot.old slot.new true) }
-        ensures refused { OnErr result (IsRefused self.old self.new slot.old slot.new) }
-        ensures free { length self.old.state.contexts < 128 → is_free_read (lexer_state (back_at before self.old)) ≡ true → IsOk result }
-    {
-        if self.give_other(slot, before, gap)? {
-            Ok(())
-        } else {
-            self.besides_into(slot)
-        }
-    }
-
     /// Reads without asking whether memory was refused before.
     #[inline(always)]
     fn next_answer(&mut self) -> Result<Option<TokenAndSpan<'a>>, AllocError>
@@ -433,51 +415,6 @@ impl<'a> Lexer<'a> {
         let mut answer = None;
         self.next_into(&mut answer)?;
         Ok(answer)
-    }
-
-    /// Reads into the slot without asking whether memory was refused before: one fork on the first character behind the gap.
-    // With all arms in it this is past the size at which a hint to inline is followed, so it is a call, and says so.
-    #[inline(never)]
-    fn next_into(&mut self, slot: &mut Option<TokenAndSpan<'a>>) -> Result<(), AllocError>
-        ensures done { OnOk result (Gives self.old self.new slot.old slot.new true) }
-        ensures refused { OnErr result (IsRefused self.old self.new slot.old slot.new) }
-        ensures free { length self.old.state.contexts < 128 → is_free_read (lexer_state self.old) ≡ true → IsOk result }
-        ensures ended { self.old.reread ≡ None → rest self.old.input ≡ [] → IsOk result }
-    {
-        if self.reads_again() {
-            return self.again_into(slot);
-        }
-        let before = self.input.cur_pos();
-        let Some(gap) = self.pass_gap(before)? else {
-            return self.besides_into(slot);
-        };
-        if begins_word(gap.next) {
-            return if self.give_word(slot, before, gap)? {
-                Ok(())
-            } else {
-                self.besides_into(slot)
-            };
-        }
-        // In each arm the kind is a constant, up to and with the change of the state.
-        match gap.next {
-            b'(' => self.give_alone(slot, before, gap, PunctuatorKind::LParen),
-            b')' => self.give_alone(slot, before, gap, PunctuatorKind::RParen),
-            b'{' => self.give_alone(slot, before, gap, PunctuatorKind::LBrace),
-            b'}' => self.give_alone(slot, before, gap, PunctuatorKind::RBrace),
-            b'[' => self.give_alone(slot, before, gap, PunctuatorKind::LBracket),
-            b']' => self.give_alone(slot, before, gap, PunctuatorKind::RBracket),
-            b';' => self.give_alone(slot, before, gap, PunctuatorKind::Semi),
-            b',' => self.give_alone(slot, before, gap, PunctuatorKind::Comma),
-            b':' => self.give_alone(slot, before, gap, PunctuatorKind::Colon),
-            b'.' if is_lone_dot(&self.input) => {
-                self.give_alone(slot, before, gap, PunctuatorKind::Dot)
-            }
-            b'=' if is_lone_equals(&self.input) => {
-                let assign = PunctuatorKind::AssignOp(AssignOp::Assign);
-                self.give_alone(slot, before, gap, assign)
-            }
-            _ => self.other_into(slot, before, gap),
-        }
     }
 
     /// Reads into a slot that is kept: what [`Lexer::read`] answers takes the place of what is in it. Where tokens are

@@ -5,6 +5,7 @@ pub mod comment_list;
 mod hand_over;
 pub mod lexer;
 mod plain;
+mod slot;
 pub mod tokens;
 
 pub use comment_list::CommentList;

@@ -1,13 +1,17 @@
 //! Reads of tokens with nothing else to report: most reads, without lists. Our own, for speed.
-ghost use Rattle.std.specs.Prelude.{◌≡◌, ◌≤◌, true, false, Some, length, slice_get, IfOk, IfSome, IsOk, OnErr, OnOk};
+ghost use Rattle.std.specs.Prelude.{◌≡◌, ◌<◌, ◌≤◌, Bool, true, false, Some, drop, length, slice_get, IfNone, IfOk, IfSome, IsOk, OnErr, OnOk};
 ghost use Rattle.ecma_place.specs.Cursor.{Cursor, HasPlace, rest, place, passed};
+ghost use Rattle.ecma_syntax.specs.declared.settings.NumberRule.{NumberRule};
+ghost use Rattle.ecma_syntax.specs.declared.settings.NumberRule.TheVariants.{Crate};
 ghost use Rattle.ecma_token.specs.View.{spanned_view, token_view};
+ghost use Rattle.ecma_scan.specs.Fronts.{next_is};
 ghost use Rattle.ecma_scan.specs.Found.{found_at, found_view, token_behind};
 ghost use Rattle.ecma_scan.specs.Numbers.{number, opens_number};
 ghost use Rattle.ecma_scan.specs.Strings.{opens_string, string_literal};
-ghost use Rattle.ecma_stream.specs.Plain.{IsAhead, IsAlone, IsKept, IsPlain, PassesWord, StandsPlain, assignment, begins_word, plain_view};
+ghost use Rattle.ecma_scan.specs.Templates.{template_found, template_text};
+ghost use Rattle.ecma_stream.specs.Plain.{IsAhead, IsAlone, IsKept, IsPlain, OperatesAlone, PassesWord, StandsPlain, assignment, begins_word, plain_view, text_view};
 ghost use Rattle.ecma_scan.specs.declared.punctuator_kind.PunctuatorKind.{PunctuatorKind};
-ghost use Rattle.ecma_state.specs.Mode.{is_template};
+ghost use Rattle.ecma_state.specs.Mode.{is_template, is_tpl_element};
 ghost use Rattle.ecma_state.specs.TokenAt.{is_free_token, lookahead, ts1085};
 ghost use Rattle.ecma_state.specs.declared.lookahead.Lookahead.TheVariants as opens;
 ghost use Rattle.ecma_state.specs.declared.mode.Mode.{Mode};
@@ -16,11 +20,11 @@ ghost use Rattle.ecma_state.specs.declared.lookahead.Lookahead.{Lookahead};
 use ecma_place::{BytePos, Span, StringInput};
 use ecma_scan::{
     BlankGap, Found, PunctuatorKind, eat_plain_number, eat_plain_string, eat_punctuator,
-    scan_blank_gap, scan_number, scan_string,
+    scan_blank_gap, scan_number, scan_string, scan_template,
 };
 use ecma_state::kept::Kept;
 use ecma_state::mode::Mode;
-use ecma_syntax::{Word, WordKind};
+use ecma_syntax::{BinOpToken, Word, WordKind};
 use ecma_token::{Token, TokenAndSpan, TokenKind};
 use std::alloc::{AllocError, Global};
 
@@ -95,6 +99,54 @@ pub fn is_lone_equals(input: &StringInput) -> bool
     match input.byte_ahead(1) {
         Some(b) => b != b'=' && b != b'>',
         None => false,
+    }
+}
+
+/// The operator that begins with the character and is written with it alone, if there is one.
+#[inline(always)]
+fn operator_of(c: u8) -> Option<PunctuatorKind>
+    ensures ascii { IfSome result (λ _. c < 128) }
+    ensures alone { IfSome result (OperatesAlone c) }
+{
+    match c {
+        b'+' => Some(PunctuatorKind::BinOp(BinOpToken::Add)),
+        b'-' => Some(PunctuatorKind::BinOp(BinOpToken::Sub)),
+        b'*' => Some(PunctuatorKind::BinOp(BinOpToken::Mul)),
+        b'/' => Some(PunctuatorKind::BinOp(BinOpToken::Div)),
+        b'%' => Some(PunctuatorKind::BinOp(BinOpToken::Mod)),
+        b'<' => Some(PunctuatorKind::BinOp(BinOpToken::Lt)),
+        b'>' => Some(PunctuatorKind::BinOp(BinOpToken::Gt)),
+        b'&' => Some(PunctuatorKind::BinOp(BinOpToken::BitAnd)),
+        b'!' => Some(PunctuatorKind::Bang),
+        b'?' => Some(PunctuatorKind::QuestionMark),
+        _ => None,
+    }
+}
+
+/// Whether neither the character at the cursor nor `=` stands behind it.
+#[inline(always)]
+fn goes_on_otherwise(input: &StringInput, c: u8) -> bool
+    requires ascii { c < 128 }
+    requires first { slice_get (rest input.now) 0 ≡ Some c }
+    ensures { result ≡ true → (next_is c (drop 1 (rest input.now)) ≡ false) × (next_is 61 (drop 1 (rest input.now)) ≡ false) }
+{
+    match input.byte_ahead(1) {
+        Some(b) => b != c && b != b'=',
+        None => false,
+    }
+}
+
+/// The operator at the cursor, before which this character is, where it is that character alone.
+#[inline(always)]
+pub fn lone_operator(input: &StringInput, c: u8) -> Option<PunctuatorKind>
+    requires { slice_get (rest input.now) 0 ≡ Some c }
+    ensures { IfSome result (λ kind. IsAlone kind (rest input.now)) }
+{
+    let kind = operator_of(c)?;
+    if goes_on_otherwise(input, c) {
+        Some(kind)
+    } else {
+        None
     }
 }
 
@@ -184,6 +236,27 @@ pub fn plain_punctuator<'a>(
     }))
 }
 
+/// The number at the cursor, behind a gap with this flag, where it is written with few decimal digits alone.
+#[inline(always)]
+pub fn eaten_number<'a>(input: &mut StringInput<'a>, flag: bool) -> Option<Plain<'a>>
+    requires { opens_number (rest input.old) ≡ true }
+    ensures token { IfSome result (λ plain. (legacy : Bool) (rule : NumberRule) →
+        found_at token_behind (place input.old) (number legacy rule (rest input.old)) ≡ plain_view (spanned_view plain.token)) }
+    ensures flag { IfSome result (λ plain. plain.token.had_line_break ≡ flag) }
+    ensures kept { IfSome result IsKept }
+    ensures moved { IfSome result (λ _. (legacy : Bool) (rule : NumberRule) → input.new ≡ passed (length (number legacy rule (rest input.old)).spelling) input.old) }
+    ensures ahead { IfSome result (λ _. input.new ≡ passed (length (number false Crate (rest input.old)).spelling) input.old) }
+    ensures same { IfNone result (input.new ≡ input.old) }
+{
+    let start = input.cur_pos();
+    let token = eat_plain_number(input)?;
+    Some(with_kept(TokenAndSpan {
+        token,
+        had_line_break: flag,
+        span: Span::new(start, input.cur_pos()),
+    }))
+}
+
 /// The number at the cursor, behind a gap with this flag, where nothing is wrong with it.
 #[inline(always)]
 pub fn plain_number<'a>(
@@ -199,17 +272,27 @@ pub fn plain_number<'a>(
     ensures same { OnErr result (input.new ≡ input.old) }
     ensures free { is_free_token Lookahead.Number (rest input.old) (number (ts1085 mode.now) mode.now.settings.numbers (rest input.old)) ≡ true → IsOk result }
 {
-    let start = input.cur_pos();
-    if let Some(token) = eat_plain_number(input) {
-        let span = Span::new(start, input.cur_pos());
-        return Ok(Some(TokenAndSpan {
-            token,
-            had_line_break: flag,
-            span,
-        }));
-    }
     let found = scan_number(alloc, input, mode.ts1085(), mode.settings.numbers)?;
     Ok(plain_found(found, flag))
+}
+
+/// The string at the cursor, behind a gap with this flag, where it is written with no escape.
+#[inline(always)]
+pub fn eaten_string<'a>(input: &mut StringInput<'a>, flag: bool) -> Option<Plain<'a>>
+    requires { opens_string (rest input.old) ≡ true }
+    ensures token { IfSome result (λ plain. found_at token_behind (place input.old) (string_literal (rest input.old)) ≡ plain_view (spanned_view plain.token)) }
+    ensures flag { IfSome result (λ plain. plain.token.had_line_break ≡ flag) }
+    ensures kept { IfSome result IsKept }
+    ensures moved { IfSome result (λ _. input.new ≡ passed (length (string_literal (rest input.old)).spelling) input.old) }
+    ensures same { IfNone result (input.new ≡ input.old) }
+{
+    let start = input.cur_pos();
+    let token = eat_plain_string(input)?;
+    Some(with_kept(TokenAndSpan {
+        token,
+        had_line_break: flag,
+        span: Span::new(start, input.cur_pos()),
+    }))
 }
 
 /// The string at the cursor, behind a gap with this flag, where nothing is wrong with it and it holds no line
@@ -227,17 +310,43 @@ pub fn plain_string<'a>(
     ensures same { OnErr result (input.new ≡ input.old) }
     ensures free { is_free_token Lookahead.String (rest input.old) (string_literal (rest input.old)) ≡ true → IsOk result }
 {
-    let start = input.cur_pos();
-    if let Some(token) = eat_plain_string(input) {
-        let span = Span::new(start, input.cur_pos());
-        return Ok(Some(TokenAndSpan {
-            token,
-            had_line_break: flag,
-            span,
-        }));
-    }
     let found = scan_string(alloc, input)?;
     Ok(plain_found(found, flag))
+}
+
+/// What is at the cursor in a template, its text or the sign behind that, where nothing is wrong with it.
+#[inline(always)]
+pub fn plain_text<'a>(
+    alloc: Global,
+    input: &mut StringInput<'a>,
+    mode: &Mode,
+) -> Result<Option<Plain<'a>>, AllocError>
+    requires more { 0 < length (rest input.old) }
+    requires opened { mode.now.opened.0 ≤ place input.old }
+    ensures token { IfOk result (λ found. IfSome found (λ plain.
+        template_found mode.now.opened.0 (place input.old) (template_text (is_tpl_element mode.now.previous) (rest input.old)) ≡ text_view (spanned_view plain.token))) }
+    ensures kept { IfOk result (λ found. IfSome found IsKept) }
+    ensures moved { OnOk result (input.new ≡ passed (length (template_text (is_tpl_element mode.now.previous) (rest input.old)).spelling) input.old) }
+    ensures same { OnErr result (input.new ≡ input.old) }
+    ensures free { is_free_token Lookahead.Template (rest input.old) (template_text (is_tpl_element mode.now.previous) (rest input.old)) ≡ true → IsOk result }
+{
+    let Found {
+        value,
+        faults,
+        extent,
+        line_break,
+    } = scan_template(alloc, input, mode.opened, mode.is_after_template())?;
+    if !faults.is_empty() {
+        return Ok(None);
+    }
+    match value {
+        Ok(token) => Ok(Some(with_kept(TokenAndSpan {
+            token,
+            had_line_break: line_break,
+            span: extent,
+        }))),
+        Err(_) => Ok(None),
+    }
 }
 
 /// The gap at the cursor with which a read begins, where there is nothing to report of it but the flag.
@@ -249,4 +358,23 @@ pub fn plain_gap(input: &mut StringInput, mode: &Mode) -> Option<BlankGap>
         return None;
     }
     scan_blank_gap(input, mode.first, mode.settings.comments)
+}
+
+/// The gap at the cursor with which a read begins behind a token, where it is nothing or one space, and no comment may begin
+/// behind it: most gaps.
+#[inline(always)]
+pub fn plain_space(input: &mut StringInput, mode: &Mode) -> Option<BlankGap>
+    ensures { IfSome result (λ gap. StandsPlain mode.now input.old input.new gap) }
+{
+    if mode.shebang_allowed || mode.first || !mode.passes_space() {
+        return None;
+    }
+    let _ = input.eat_byte(b' ');
+    match input.cur_as_ascii() {
+        Some(next) if next > b' ' && next != b'/' && next != b'<' => Some(BlankGap {
+            line_break: false,
+            next,
+        }),
+        _ => None,
+    }
 }

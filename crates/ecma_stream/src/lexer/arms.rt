@@ -12,12 +12,12 @@ ghost use Rattle.ecma_state.specs.Run.{at_place, is_free_read, mode_of};
 
 use super::Lexer;
 use crate::plain::{
-    Plain, plain_alone, plain_gap, plain_number, plain_punctuator, plain_string, with_kept,
-    word_behind,
+    Plain, eaten_number, eaten_string, plain_alone, plain_gap, plain_number, plain_punctuator,
+    plain_string, with_kept, word_behind,
 };
+use crate::slot::put;
 use ecma_place::BytePos;
 use ecma_scan::{BlankGap, PunctuatorKind, eat_plain_kind};
-use ecma_state::lookahead::Lookahead;
 use ecma_syntax::{IdentKind, WordKind};
 use ecma_token::TokenAndSpan;
 use std::alloc::AllocError;
@@ -63,13 +63,13 @@ impl<'a> Lexer<'a> {
         ensures free { length self.old.state.contexts < 128 → IsOk result }
     {
         self.take_plain(plain.kept)?;
-        *slot = Some(plain.token);
+        put(slot, plain.token);
         Ok(())
     }
 
     /// Puts the cursor back, since nothing was given.
     #[inline(always)]
-    fn go_before(&mut self, before: BytePos)
+    pub(super) fn go_before(&mut self, before: BytePos)
         requires place { HasPlace self.old.input before.0 }
         requires opened { self.old.state.opened.0 ≤ before.0 }
         ensures { self.new ≡ back_at before self.old }
@@ -79,7 +79,7 @@ impl<'a> Lexer<'a> {
 
     /// Gives the word at the cursor, where it is written with no escape, and says whether it did.
     #[inline(always)]
-    pub(super) fn give_word(
+    fn give_word(
         &mut self,
         slot: &mut Option<TokenAndSpan<'a>>,
         before: BytePos,
@@ -106,6 +106,27 @@ impl<'a> Lexer<'a> {
             self.give(slot, before, plain)?;
         }
         Ok(true)
+    }
+
+    /// Reads the word at the cursor.
+    #[inline(never)]
+    pub(super) fn word_into(
+        &mut self,
+        slot: &mut Option<TokenAndSpan<'a>>,
+        before: BytePos,
+        gap: BlankGap,
+    ) -> Result<(), AllocError>
+        requires behind { IsBehindGap before self.old gap }
+        requires begins { begins_word gap.next ≡ true }
+        ensures done { OnOk result (Gives (back_at before self.old) self.new slot.old slot.new true) }
+        ensures refused { OnErr result (IsRefused self.old self.new slot.old slot.new) }
+        ensures free { length self.old.state.contexts < 128 → is_free_read (lexer_state (back_at before self.old)) ≡ true → IsOk result }
+    {
+        if self.give_word(slot, before, gap)? {
+            Ok(())
+        } else {
+            self.besides_into(slot)
+        }
     }
 
     /// Gives the punctuator at the cursor, which is the character there alone.
@@ -156,7 +177,7 @@ impl<'a> Lexer<'a> {
 
     /// Gives the string at the cursor, where nothing is wrong with it and it holds no line terminator, and says whether it
     /// did.
-    #[inline(never)]
+    #[inline(always)]
     fn give_string(
         &mut self,
         slot: &mut Option<TokenAndSpan<'a>>,
@@ -181,8 +202,50 @@ impl<'a> Lexer<'a> {
         }
     }
 
-    /// Gives the number at the cursor, where nothing is wrong with it, and says whether it did.
+    /// Reads the string at the cursor, where it is more than `eaten_string` passes.
+    // A call of its own, so that the room for what is scanned is kept there alone.
     #[inline(never)]
+    fn scanned_string_into(
+        &mut self,
+        slot: &mut Option<TokenAndSpan<'a>>,
+        before: BytePos,
+        gap: BlankGap,
+    ) -> Result<(), AllocError>
+        requires behind { IsBehindGap before self.old gap }
+        requires opens { lookahead (mode_of (lexer_state self.old)) gap.line_break (rest self.old.input) ≡ opens.String }
+        ensures done { OnOk result (Gives (back_at before self.old) self.new slot.old slot.new true) }
+        ensures refused { OnErr result (IsRefused self.old self.new slot.old slot.new) }
+        ensures free { length self.old.state.contexts < 128 → is_free_read (lexer_state (back_at before self.old)) ≡ true → IsOk result }
+    {
+        if self.give_string(slot, before, gap)? {
+            Ok(())
+        } else {
+            self.besides_into(slot)
+        }
+    }
+
+    /// Reads the string at the cursor.
+    #[inline(never)]
+    pub(super) fn string_into(
+        &mut self,
+        slot: &mut Option<TokenAndSpan<'a>>,
+        before: BytePos,
+        gap: BlankGap,
+    ) -> Result<(), AllocError>
+        requires behind { IsBehindGap before self.old gap }
+        requires opens { lookahead (mode_of (lexer_state self.old)) gap.line_break (rest self.old.input) ≡ opens.String }
+        ensures done { OnOk result (Gives (back_at before self.old) self.new slot.old slot.new true) }
+        ensures refused { OnErr result (IsRefused self.old self.new slot.old slot.new) }
+        ensures free { length self.old.state.contexts < 128 → is_free_read (lexer_state (back_at before self.old)) ≡ true → IsOk result }
+    {
+        match eaten_string(&mut self.input, gap.line_break) {
+            Some(plain) => self.give(slot, before, plain),
+            None => self.scanned_string_into(slot, before, gap),
+        }
+    }
+
+    /// Gives the number at the cursor, where nothing is wrong with it, and says whether it did.
+    #[inline(always)]
     fn give_number(
         &mut self,
         slot: &mut Option<TokenAndSpan<'a>>,
@@ -208,29 +271,83 @@ impl<'a> Lexer<'a> {
         }
     }
 
-    /// Gives the punctuator, string or number at the cursor, where there is nothing else to report of it, and says whether it
-    /// did; else the cursor is put back.
-    #[inline(always)]
-    pub(super) fn give_other(
+    /// Reads the number at the cursor, where it is more than `eaten_number` passes.
+    // A call of its own, so that the room for what is scanned is kept there alone.
+    #[inline(never)]
+    fn scanned_number_into(
         &mut self,
         slot: &mut Option<TokenAndSpan<'a>>,
         before: BytePos,
         gap: BlankGap,
-    ) -> Result<bool, AllocError>
+    ) -> Result<(), AllocError>
         requires behind { IsBehindGap before self.old gap }
-        ensures done { IfOk result (λ done. Gives (back_at before self.old) self.new slot.old slot.new done) }
+        requires opens { lookahead (mode_of (lexer_state self.old)) gap.line_break (rest self.old.input) ≡ opens.Number }
+        ensures done { OnOk result (Gives (back_at before self.old) self.new slot.old slot.new true) }
         ensures refused { OnErr result (IsRefused self.old self.new slot.old slot.new) }
         ensures free { length self.old.state.contexts < 128 → is_free_read (lexer_state (back_at before self.old)) ≡ true → IsOk result }
     {
-        let mode = self.mode();
-        match Lookahead::at(&self.input, &mode, gap.line_break, gap.next as char) {
-            Lookahead::Other => self.give_punctuator(slot, before, gap),
-            Lookahead::String => self.give_string(slot, before, gap),
-            Lookahead::Number => self.give_number(slot, before, gap),
-            Lookahead::Word | Lookahead::Template | Lookahead::Bars => {
-                self.go_before(before);
-                Ok(false)
-            }
+        if self.give_number(slot, before, gap)? {
+            Ok(())
+        } else {
+            self.besides_into(slot)
         }
+    }
+
+    /// Reads the number at the cursor.
+    #[inline(never)]
+    pub(super) fn number_into(
+        &mut self,
+        slot: &mut Option<TokenAndSpan<'a>>,
+        before: BytePos,
+        gap: BlankGap,
+    ) -> Result<(), AllocError>
+        requires behind { IsBehindGap before self.old gap }
+        requires opens { lookahead (mode_of (lexer_state self.old)) gap.line_break (rest self.old.input) ≡ opens.Number }
+        ensures done { OnOk result (Gives (back_at before self.old) self.new slot.old slot.new true) }
+        ensures refused { OnErr result (IsRefused self.old self.new slot.old slot.new) }
+        ensures free { length self.old.state.contexts < 128 → is_free_read (lexer_state (back_at before self.old)) ≡ true → IsOk result }
+    {
+        match eaten_number(&mut self.input, gap.line_break) {
+            Some(plain) => self.give(slot, before, plain),
+            None => self.scanned_number_into(slot, before, gap),
+        }
+    }
+
+    /// Reads the punctuator at the cursor, or what no token begins with.
+    #[inline(always)]
+    pub(super) fn punctuator_into(
+        &mut self,
+        slot: &mut Option<TokenAndSpan<'a>>,
+        before: BytePos,
+        gap: BlankGap,
+    ) -> Result<(), AllocError>
+        requires behind { IsBehindGap before self.old gap }
+        requires opens { lookahead (mode_of (lexer_state self.old)) gap.line_break (rest self.old.input) ≡ opens.Other }
+        ensures done { OnOk result (Gives (back_at before self.old) self.new slot.old slot.new true) }
+        ensures refused { OnErr result (IsRefused self.old self.new slot.old slot.new) }
+        ensures free { length self.old.state.contexts < 128 → is_free_read (lexer_state (back_at before self.old)) ≡ true → IsOk result }
+    {
+        if self.give_punctuator(slot, before, gap)? {
+            Ok(())
+        } else {
+            self.besides_into(slot)
+        }
+    }
+
+    /// Goes back, and reads with all that is found beside the token.
+    #[inline(always)]
+    pub(super) fn rest_into(
+        &mut self,
+        slot: &mut Option<TokenAndSpan<'a>>,
+        before: BytePos,
+        gap: BlankGap,
+    ) -> Result<(), AllocError>
+        requires behind { IsBehindGap before self.old gap }
+        ensures done { OnOk result (Gives (back_at before self.old) self.new slot.old slot.new true) }
+        ensures refused { OnErr result (IsRefused self.old self.new slot.old slot.new) }
+        ensures free { length self.old.state.contexts < 128 → is_free_read (lexer_state (back_at before self.old)) ≡ true → IsOk result }
+    {
+        self.go_before(before);
+        self.besides_into(slot)
     }
 }

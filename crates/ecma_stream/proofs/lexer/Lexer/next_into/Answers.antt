@@ -1,49 +1,41 @@
+use Rattle.std.proofs.Common.{◌≡◌, ◌<◌, true, length, ap, subst, sym, ◌∙◌}
+use Rattle.std.specs.Prelude.{IsOk, OnOk}
 use Rattle.ecma_place.specs.Cursor.{rest}
-use Rattle.ecma_stream.proofs.AloneLemmas.{colon-alone, comma-alone, left-brace-alone, left-bracket-alone, left-paren-alone, right-brace-alone, right-bracket-alone, right-paren-alone, semi-alone}
-use Rattle.ecma_stream.proofs.ArmLemmas.{gap-first}
+use Rattle.ecma_state.specs.Run.{is_free_read}
+use Rattle.ecma_state.specs.Session.{LexerValue, lexer_state}
+use Rattle.ecma_stream.specs.Plain.{Gives}
+use Rattle.ecma_stream.proofs.ArmLemmas.{arm-back, arm-behind, moved-lexer, none-behind}
+use Rattle.ecma_stream.proofs.PlainLemmas.{none-is}
 use Rattle.ecma_stream.proofs.lexer.Lexer.next_into.Goals as goal
 
-pub give_alone-requires-clause-alone : goal.give_alone-requires-clause-alone
-give_alone-requires-clause-alone c =
-    left-paren-alone (rest c.pass_gap.new.self.input)
-    (gap-first c.in_ok-gap.field-0 c.in-Some.gap c.cur_pos-before.result c.pass_gap.new.self 40 c.in-Some.is c.in_ok-gap.ensures.behind c.in-40.is)
+pub invariant_of-self : goal.invariant_of-self
+invariant_of-self c = moved-lexer c.self.inside c.plain_space.new.input _ c.self.invariant c.in-Some.ensures.blank.moved
 
-pub give_alone-requires-in-41-clause-alone : goal.give_alone-requires-in-41-clause-alone
-give_alone-requires-in-41-clause-alone c =
-    right-paren-alone (rest c.pass_gap.new.self.input)
-    (gap-first c.in_ok-gap.field-0 c.in-Some.gap c.cur_pos-before.result c.pass_gap.new.self 41 c.in-Some.is c.in_ok-gap.ensures.behind c.in-41.is)
+pub invariant_of-self-in-None : goal.invariant_of-self-in-None
+invariant_of-self-in-None c = rw c.in_ok-stood.ensures.cases c.self.invariant
 
-pub give_alone-requires-in-123-clause-alone : goal.give_alone-requires-in-123-clause-alone
-give_alone-requires-in-123-clause-alone c =
-    left-brace-alone (rest c.pass_gap.new.self.input)
-    (gap-first c.in_ok-gap.field-0 c.in-Some.gap c.cur_pos-before.result c.pass_gap.new.self 123 c.in-Some.is c.in_ok-gap.ensures.behind c.in-123.is)
+pub fork-requires : goal.fork-requires
+fork-requires c =
+    let none = none-is c.args.self.now.reread (sym c.reads_again.ensures ∙ c.if-reads_again.false) in
+    record {
+      behind =
+          arm-behind c.self.inside c.args.self.now c.mode-mode.result c.cur_pos-before.result c.plain_space.new.input c.in-Some.gap c.self.view_is c.self.invariant none c.mode-mode.ensures
+          c.cur_pos-before.ensures c.in-Some.ensures;
+    }
 
-pub give_alone-requires-in-125-clause-alone : goal.give_alone-requires-in-125-clause-alone
-give_alone-requires-in-125-clause-alone c =
-    right-brace-alone (rest c.pass_gap.new.self.input)
-    (gap-first c.in_ok-gap.field-0 c.in-Some.gap c.cur_pos-before.result c.pass_gap.new.self 125 c.in-Some.is c.in_ok-gap.ensures.behind c.in-125.is)
+pub returns-in-Some-clause-done : goal.returns-in-Some-clause-done
+returns-in-Some-clause-done c =
+    let stands = c.in-Some.ensures in
+    let back = arm-back c.self.inside c.args.self.now c.cur_pos-before.result c.plain_space.new.input _ c.in-Some.gap.next c.self.view_is c.cur_pos-before.ensures stands.blank.moved stands.next in
+    subst (λ (k : LexerValue). OnOk c.fork.result (Gives k c.fork.new.self c.args.slot.now c.fork.new.slot true)) back c.fork.ensures.done
 
-pub give_alone-requires-in-91-clause-alone : goal.give_alone-requires-in-91-clause-alone
-give_alone-requires-in-91-clause-alone c =
-    left-bracket-alone (rest c.pass_gap.new.self.input)
-    (gap-first c.in_ok-gap.field-0 c.in-Some.gap c.cur_pos-before.result c.pass_gap.new.self 91 c.in-Some.is c.in_ok-gap.ensures.behind c.in-91.is)
+pub returns-in-Some-clause-free : goal.returns-in-Some-clause-free
+returns-in-Some-clause-free c =
+    let stands = c.in-Some.ensures in
+    let back = arm-back c.self.inside c.args.self.now c.cur_pos-before.result c.plain_space.new.input _ c.in-Some.gap.next c.self.view_is c.cur_pos-before.ensures stands.blank.moved stands.next in
+    subst (λ (k : LexerValue). length k.state.contexts < 128 → is_free_read (lexer_state k) ≡ true → IsOk c.fork.result) back c.fork.ensures.free
 
-pub give_alone-requires-in-93-clause-alone : goal.give_alone-requires-in-93-clause-alone
-give_alone-requires-in-93-clause-alone c =
-    right-bracket-alone (rest c.pass_gap.new.self.input)
-    (gap-first c.in_ok-gap.field-0 c.in-Some.gap c.cur_pos-before.result c.pass_gap.new.self 93 c.in-Some.is c.in_ok-gap.ensures.behind c.in-93.is)
-
-pub give_alone-requires-in-59-clause-alone : goal.give_alone-requires-in-59-clause-alone
-give_alone-requires-in-59-clause-alone c =
-    semi-alone (rest c.pass_gap.new.self.input)
-    (gap-first c.in_ok-gap.field-0 c.in-Some.gap c.cur_pos-before.result c.pass_gap.new.self 59 c.in-Some.is c.in_ok-gap.ensures.behind c.in-59.is)
-
-pub give_alone-requires-in-44-clause-alone : goal.give_alone-requires-in-44-clause-alone
-give_alone-requires-in-44-clause-alone c =
-    comma-alone (rest c.pass_gap.new.self.input)
-    (gap-first c.in_ok-gap.field-0 c.in-Some.gap c.cur_pos-before.result c.pass_gap.new.self 44 c.in-Some.is c.in_ok-gap.ensures.behind c.in-44.is)
-
-pub give_alone-requires-in-58-clause-alone : goal.give_alone-requires-in-58-clause-alone
-give_alone-requires-in-58-clause-alone c =
-    colon-alone (rest c.pass_gap.new.self.input)
-    (gap-first c.in_ok-gap.field-0 c.in-Some.gap c.cur_pos-before.result c.pass_gap.new.self 58 c.in-Some.is c.in_ok-gap.ensures.behind c.in-58.is)
+pub returns-in-Some-clause-ended : goal.returns-in-Some-clause-ended
+returns-in-Some-clause-ended c = λ none end.
+    let stands = c.in-Some.ensures in
+    absurd (none-behind c.self.inside.input c.plain_space.new.input _ _ stands.blank.moved (ap (λ k. rest k.input) c.self.view_is ∙ end) stands.next)

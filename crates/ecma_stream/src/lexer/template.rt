@@ -1,0 +1,79 @@
+//! The arm of a read in a template: its text, and the sign behind that.
+ghost use Rattle.std.specs.Prelude.{◌≡◌, ◌<◌, ◌≤◌, true, false, None, length, IsOk, OnOk, OnErr, []};
+ghost use Rattle.ecma_place.specs.Cursor.{HasPlace, rest};
+ghost use Rattle.ecma_state.specs.Mode.{is_template};
+ghost use Rattle.ecma_state.specs.Reading.{reading};
+ghost use Rattle.ecma_state.specs.Run.{at_place, is_free_read, mode_of};
+ghost use Rattle.ecma_state.specs.Session.{lexer_state};
+ghost use Rattle.ecma_stream.specs.Plain.{back_at, Gives, IsKept, IsRefused, text_reading};
+ghost use Rattle.ecma_token.specs.View.{spanned_view};
+
+use super::Lexer;
+use crate::plain::{Plain, plain_text};
+use crate::slot::put;
+use ecma_place::BytePos;
+use ecma_state::mode::Mode;
+use ecma_token::TokenAndSpan;
+use std::alloc::AllocError;
+
+/// Whether what is at the cursor is read as in a template, behind a token.
+#[inline(always)]
+fn reads_text(mode: &Mode) -> bool
+    ensures { result ≡ true → (mode.now.shebang_allowed ≡ false) × (mode.now.first ≡ false) × (is_template mode.now.top ≡ true) }
+{
+    !mode.shebang_allowed && !mode.first && mode.is_in_template()
+}
+
+impl<'a> Lexer<'a> {
+    /// Takes in and puts into the slot what is just before the cursor, and what a read from `before` finds in a template.
+    #[inline(always)]
+    fn give_text(
+        &mut self,
+        slot: &mut Option<TokenAndSpan<'a>>,
+        before: BytePos,
+        plain: Plain<'a>,
+    ) -> Result<(), AllocError>
+        requires none { self.old.reread ≡ None }
+        requires place { HasPlace self.old.input before.0 }
+        requires opened { self.old.state.opened.0 ≤ before.0 }
+        requires found { reading (mode_of (lexer_state self.old)) (at_place before self.old.input) ≡ text_reading (spanned_view plain.token) self.old.input }
+        requires kept { IsKept plain }
+        ensures done { OnOk result (Gives (back_at before self.old) self.new slot.old slot.new true) }
+        ensures refused { OnErr result (IsRefused self.old self.new slot.old slot.new) }
+        ensures free { length self.old.state.contexts < 128 → IsOk result }
+    {
+        self.take_plain(plain.kept)?;
+        put(slot, plain.token);
+        Ok(())
+    }
+
+    /// Reads what is at the cursor where no white space is passed first: in a template, or where no slash is read again and
+    /// more is to be reported than a token.
+    #[inline(never)]
+    pub(super) fn text_into(
+        &mut self,
+        slot: &mut Option<TokenAndSpan<'a>>,
+    ) -> Result<(), AllocError>
+        requires none { self.old.reread ≡ None }
+        ensures done { OnOk result (Gives self.old self.new slot.old slot.new true) }
+        ensures refused { OnErr result (IsRefused self.old self.new slot.old slot.new) }
+        ensures free { length self.old.state.contexts < 128 → is_free_read (lexer_state self.old) ≡ true → IsOk result }
+        ensures ended { rest self.old.input ≡ [] → IsOk result }
+    {
+        let mode = self.mode();
+        if !reads_text(&mode) {
+            return self.besides_into(slot);
+        }
+        let Some(_) = self.input.cur() else {
+            return self.besides_into(slot);
+        };
+        let before = self.input.cur_pos();
+        match plain_text(self.alloc, &mut self.input, &mode)? {
+            Some(plain) => self.give_text(slot, before, plain),
+            None => {
+                self.go_before(before);
+                self.besides_into(slot)
+            }
+        }
+    }
+}

@@ -1,0 +1,48 @@
+//! The slot that a token is put into. Our own, for speed.
+ghost use Rattle.std.specs.Prelude.{◌≡◌, true, false, Some, IfSome};
+ghost use Rattle.ecma_token.specs.View.{token_owns_nothing};
+
+use ecma_syntax::{IdentLike, Word};
+use ecma_token::{Token, TokenAndSpan};
+use std::mem;
+
+/// Whether the token in the slot may own memory. Most own none: names, keywords and punctuators.
+#[inline(always)]
+fn may_own(slot: &Option<TokenAndSpan>) -> bool
+    ensures { IfSome slot.now (λ token. result ≡ false → token_owns_nothing token.token ≡ true) }
+{
+    match slot {
+        Some(token) => match &token.token {
+            Token::Word(Word::Ident(IdentLike::Other(name))) => !name.is_borrowed(),
+            Token::Template { .. }
+            | Token::Str { .. }
+            | Token::Regex(..)
+            | Token::Num { .. }
+            | Token::BigInt { .. }
+            | Token::JSXName { .. }
+            | Token::JSXText { .. }
+            | Token::Shebang(..)
+            | Token::Error(..) => true,
+            _ => false,
+        },
+        None => false,
+    }
+}
+
+/// Lets go of what is in the slot.
+#[inline(never)]
+fn clear(slot: &mut Option<TokenAndSpan>) {
+    *slot = None;
+}
+
+/// Puts a token into the slot, in the place of what is in it. Where that owns nothing it isn't asked part for part what to let
+/// go of.
+#[inline(always)]
+pub fn put<'a>(slot: &mut Option<TokenAndSpan<'a>>, token: TokenAndSpan<'a>)
+    ensures { slot.new ≡ Some token.entry }
+{
+    if may_own(slot) {
+        clear(slot);
+    }
+    mem::forget(mem::replace(slot, Some(token)));
+}
