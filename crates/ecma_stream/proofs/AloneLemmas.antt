@@ -1,8 +1,8 @@
 -- Punctuators of one character, and the first character of a word: what they open.
-use Rattle.std.proofs.Common.{◌≡◌, ℕ, ◌<◌, Bool, true, false, not, ◌&&◌, ◌==◌, [], ◌∷◌, length, take, drop, Some, slice_get, refl, sym, ap, subst, ◌∙◌, eqb-true, eq-eqb, true≢false, arith, nat_lt}
+use Rattle.std.proofs.Common.{◌≡◌, ℕ, ◌<◌, ◌≤◌, Bool, true, false, not, ◌&&◌, ◌==◌, [], ◌∷◌, length, take, drop, Some, slice_get, refl, sym, ap, subst, ◌∙◌, eqb-true, eq-eqb, true≢false, arith, nat_lt}
 use Rattle.std.proofs.lemmas.Bool.Decides.{nat_tests}
 use Rattle.std.specs.Prelude.{encode_utf8_all}
-use Rattle.std.specs.Char.{is_ascii_digit}
+use Rattle.std.specs.Char.{is_ascii, is_ascii_digit}
 use Rattle.ecma_place.specs.Character.{is_ident_start}
 use Rattle.ecma_place.specs.Text.{Text}
 use Rattle.ecma_place.proofs.CursorLemmas.{first_byte}
@@ -308,13 +308,26 @@ single-no-start : is_ident_start 39 ≡ false
 unfolding is_ident_start
 single-no-start = refl
 
-starts-word : (mode : Mode) (flag : Bool) (a : ℕ) (cs : Text) → a < 128 → is_ident_start a ≡ true → is_template mode.top ≡ false → lookahead mode flag (a ∷ cs) ≡ opens.Word
-starts-word mode flag a cs l start template =
-    let number : digit Decimal a ≡ false = no-digit-starts a l start in
+starts-name : (mode : Mode) (flag : Bool) (a : ℕ) (cs : Text) → digit Decimal a ≡ false → is_ident_start a ≡ true → is_template mode.top ≡ false → lookahead mode flag (a ∷ cs) ≡ opens.Word
+starts-name mode flag a cs number start template =
     let point = differs a 46 start point-no-start in
     let double = differs a 34 start double-no-start in
     let single = differs a 39 start single-no-start in
     rw (template, number, point, double, single, start) refl
+
+pub past-ascii : (c : ℕ) → is_ascii c ≡ false → 128 ≤ c
+past-ascii c h = grind (arith, nat_tests)
+
+no-digit-past : (c : ℕ) → 128 ≤ c → digit Decimal c ≡ false
+no-digit-past c past = grind (arith, nat_tests)
+
+-- a name that begins past ASCII
+pub foreign-opens : (mode : Mode) (flag : Bool) (text : Text) (c : ℕ) → slice_get text 0 ≡ Some c → 128 ≤ c → is_ident_start c ≡ true → is_template mode.top ≡ false → lookahead mode flag text ≡ opens.Word
+foreign-opens mode flag text c e past start template =
+    ap (lookahead mode flag) (first-cons text c e) ∙ starts-name mode flag c (drop 1 text) (no-digit-past c past) start template
+
+starts-word : (mode : Mode) (flag : Bool) (a : ℕ) (cs : Text) → a < 128 → is_ident_start a ≡ true → is_template mode.top ≡ false → lookahead mode flag (a ∷ cs) ≡ opens.Word
+starts-word mode flag a cs l start template = starts-name mode flag a cs (no-digit-starts a l start) start template
 
 pub word-opens : (mode : Mode) (flag : Bool) (text : Text) (c : ℕ) → slice_get text 0 ≡ Some c → begins_word c ≡ true → is_template mode.top ≡ false → lookahead mode flag text ≡ opens.Word
 word-opens mode flag text c e is template =

@@ -1,6 +1,8 @@
 -- Reads of tokens of which nothing is to be told besides.
-use Rattle.std.proofs.Common.{◌≡◌, ℕ, ◌+◌, Bool, true, false, ◌||◌, ◌&&◌, ◌==◌, List, [], ◌∷◌, Option, Some, None, Result, Ok, Err, length, is_some, slice_get, refl, sym, ap, arith, ◌∙◌}
+use Rattle.std.proofs.Common.{◌≡◌, ℕ, ◌+◌, ◌≤◌, Bool, true, false, ◌||◌, ◌&&◌, ◌==◌, List, [], ◌∷◌, Option, Some, None, Result, Ok, Err, length, is_some, slice_get, refl, sym, subst, ap, arith, ◌∙◌}
 use Rattle.std.specs.Prelude.{option_map, IfOk, IfSome}
+use Rattle.std.specs.List.{list_any, prefix_len, take_while}
+use Rattle.ecma_place.specs.Character.{is_line_terminator, is_white_space}
 use Rattle.ecma_place.specs.Text.{Text, byte_len}
 use Rattle.ecma_place.specs.Cursor.{Cursor, ascii_of, rest, place, passed}
 use Rattle.ecma_place.specs.declared.place.BytePos.{BytePos}
@@ -10,8 +12,8 @@ use Rattle.ecma_place.proofs.MoveLemmas.{span-passed}
 use Rattle.ecma_syntax.specs.declared.word.Word.{Word}
 use Rattle.ecma_token.specs.View.{SpannedView, plain_token, token_view}
 use Rattle.ecma_token.specs.declared.token.Token as token
-use Rattle.ecma_gap.proofs.BlankGapLemmas.{ascii-is}
-use Rattle.ecma_scan.specs.BlankGaps.{IsBlankGap, IsTold, told_of}
+use Rattle.ecma_gap.proofs.BlankGapLemmas.{ascii-is, told}
+use Rattle.ecma_scan.specs.BlankGaps.{IsBlankGap, IsTold, may_begin, told_of}
 use Rattle.ecma_scan.specs.declared.blank_gap.BlankGap.{BlankGap}
 use Rattle.ecma_scan.specs.Comments.{collected, comments_at}
 use Rattle.ecma_scan.specs.Found.{found_at, scanned, span_of, token_behind}
@@ -168,6 +170,22 @@ space-told (c ∷ cs) b e slash less =
     let no_less : (c == 60) ≡ false = other-byte c 60 (λ h. less (sym is ∙ h)) in
     rw (no_slash, no_less) (ap (option_map (λ (x : ℕ). let gap : BlankGap = record { line_break = false; next = x } in gap)) e)
 
+-- so may none past ASCII
+pub past-begins : (flag : Bool) (text : Text) (c : ℕ) → slice_get text 0 ≡ Some c → 128 ≤ c → may_begin flag text ≡ false
+past-begins flag [] c e past = cc
+past-begins flag (d ∷ ds) c e past =
+    let is : d ≡ c = cc in
+    let slash : (d == 47) ≡ false = other-byte d 47 (λ h. omega (arith, is, h, past)) in
+    let less : (d == 60) ≡ false = other-byte d 60 (λ h. omega (arith, is, h, past)) in
+    let minus : (d == 45) ≡ false = other-byte d 45 (λ h. omega (arith, is, h, past)) in
+    let equals : (d == 61) ≡ false = other-byte d 61 (λ h. omega (arith, is, h, past)) in
+    let greater : (d == 62) ≡ false = other-byte d 62 (λ h. omega (arith, is, h, past)) in
+    rw (slash, less, minus, equals, greater) (none flag)
+  where
+    none : (flag : Bool) → (flag && false) ≡ false
+    none true = refl
+    none false = refl
+
 -- a read behind it takes no memory where its token takes none
 pub free-plain : (mode : Mode) (old now : Cursor) (gap : BlankGap) → StandsPlain mode old now gap → is_free mode old ≡ true → is_free_at mode gap.line_break (rest now) ≡ true
 free-plain mode old now gap stands h =
@@ -206,6 +224,15 @@ plain-read mode input here now c t none first gap is =
         ap (λ b. let g : GapView = record { line_break = b; comments = comments_at (place input) (gap_mode mode) (rest input); faults = gap_faults_at (place input) (gap_mode mode) (rest input) } in g) gap.line_break
         ∙ ap (λ cs. let g : GapView = record { line_break = flag; comments = cs; faults = gap_faults_at (place input) (gap_mode mode) (rest input) } in g) gap.comments
         ∙ ap (λ fs. let g : GapView = record { line_break = flag; comments = []; faults = fs } in g) gap.faults
+
+-- a name that begins past ASCII behind white space
+pub foreign-read : (mode : Mode) (old mid now : Cursor) (terminator : Bool) (c : ℕ) (t : SpannedView) → mode.shebang_allowed ≡ false → passes_space mode.top ≡ true
+    → mid ≡ passed (prefix_len is_white_space (rest old)) old → terminator ≡ list_any is_line_terminator (take_while is_white_space (rest old)) → slice_get (rest mid) 0 ≡ Some c → 128 ≤ c
+    → t.had_line_break ≡ (mode.first || terminator) → IsPlain mode t mid now → reading mode old ≡ plain_reading t now
+foreign-read mode old mid now terminator c t given passes moved said first past flag is =
+    let parts = passes-parts mode.top passes in
+    let blank = told mode.first old mid terminator c moved said first (past-begins (mode.first || terminator) (rest mid) c first past) (gap_mode mode) refl parts.0 parts.1 in
+    plain-read mode old mid now c t given first (subst (IsBlankGap (gap_mode mode) old mid) (sym flag) blank) is
 
 -- in a template no gap stands before its text
 pub blank-text : (mode : Mode) (input : Cursor) → mode.first ≡ false → is_template mode.top ≡ true → IsBlankGap (gap_mode mode) input input false

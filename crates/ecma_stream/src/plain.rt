@@ -1,5 +1,5 @@
 //! Reads of tokens with nothing else to report: most reads, without lists. Our own, for speed.
-ghost use Rattle.std.specs.Prelude.{◌≡◌, ◌<◌, ◌≤◌, Bool, true, false, Some, drop, length, slice_get, IfNone, IfOk, IfSome, IsOk, OnErr, OnOk};
+ghost use Rattle.std.specs.Prelude.{◌≡◌, ◌<◌, ◌≤◌, ℕ, Bool, true, false, Some, drop, length, slice_get, IfNone, IfOk, IfSome, IsOk, OnErr, OnOk};
 ghost use Rattle.ecma_place.specs.Cursor.{Cursor, HasPlace, rest, place, passed};
 ghost use Rattle.ecma_syntax.specs.declared.settings.NumberRule.{NumberRule};
 ghost use Rattle.ecma_syntax.specs.declared.settings.NumberRule.TheVariants.{Crate};
@@ -9,18 +9,19 @@ ghost use Rattle.ecma_scan.specs.Found.{found_at, found_view, token_behind};
 ghost use Rattle.ecma_scan.specs.Numbers.{number, opens_number};
 ghost use Rattle.ecma_scan.specs.Strings.{opens_string, string_literal};
 ghost use Rattle.ecma_scan.specs.Templates.{template_found, template_text};
-ghost use Rattle.ecma_stream.specs.Plain.{IsAhead, IsAlone, IsKept, IsPlain, OperatesAlone, PassesWord, StandsPlain, assignment, begins_word, plain_view, text_view};
+ghost use Rattle.ecma_stream.specs.Plain.{IsAhead, IsAlone, IsKept, IsPlain, OperatesAlone, PassesWord, StandsPlain, assignment, begins_word, plain_reading, plain_view, text_view};
 ghost use Rattle.ecma_scan.specs.declared.punctuator_kind.PunctuatorKind.{PunctuatorKind};
 ghost use Rattle.ecma_state.specs.Mode.{is_template, is_tpl_element};
+ghost use Rattle.ecma_state.specs.Reading.{reading};
 ghost use Rattle.ecma_state.specs.TokenAt.{is_free_token, lookahead, ts1085};
 ghost use Rattle.ecma_state.specs.declared.lookahead.Lookahead.TheVariants as opens;
 ghost use Rattle.ecma_state.specs.declared.mode.Mode.{Mode};
 ghost use Rattle.ecma_state.specs.declared.lookahead.Lookahead.{Lookahead};
 
-use ecma_place::{BytePos, Span, StringInput};
+use ecma_place::{BytePos, CharExt, Span, StringInput};
 use ecma_scan::{
-    BlankGap, Found, PunctuatorKind, eat_plain_number, eat_plain_string, eat_punctuator,
-    scan_blank_gap, scan_number, scan_string, scan_template,
+    BlankGap, Found, PunctuatorKind, eat_plain_kind, eat_plain_number, eat_plain_string,
+    eat_punctuator, scan_blank_gap, scan_number, scan_string, scan_template, skip_white_space,
 };
 use ecma_state::kept::Kept;
 use ecma_state::mode::Mode;
@@ -150,20 +151,19 @@ pub fn lone_operator(input: &StringInput, c: u8) -> Option<PunctuatorKind>
     }
 }
 
-/// The word of this kind between the place and the cursor, which is all of a word with no escape, behind this gap.
+/// The word of this kind between the place and the cursor, which is all of a word with no escape, behind a gap with this flag.
 #[inline(always)]
 pub fn word_behind<'a>(
     input: &StringInput<'a>,
-    gap: BlankGap,
+    flag: bool,
     start: BytePos,
     kind: WordKind,
 ) -> Plain<'a>
     requires there { HasPlace input.now start.0 }
     requires before { start.0 ≤ place input.now }
-    ensures token { (mode : Mode) (old : Cursor) → is_template mode.top ≡ false → start.0 ≡ place old
-        → slice_get (rest old) 0 ≡ Some gap.next → begins_word gap.next ≡ true → PassesWord old input.now kind
+    ensures token { (mode : Mode) (old : Cursor) → lookahead mode flag (rest old) ≡ opens.Word → start.0 ≡ place old → PassesWord old input.now kind
         → IsPlain mode (spanned_view result.token) old input.now }
-    ensures flag { result.token.had_line_break ≡ gap.line_break }
+    ensures flag { result.token.had_line_break ≡ flag }
     ensures kept { IsKept result }
 {
     let end = input.cur_pos();
@@ -172,13 +172,13 @@ pub fn word_behind<'a>(
     Plain {
         token: TokenAndSpan {
             token: Token::Word(word),
-            had_line_break: gap.line_break,
+            had_line_break: flag,
             span,
         },
         kept: Kept {
             kind: TokenKind::Word(kind),
             span,
-            flag: gap.line_break,
+            flag,
         },
     }
 }
@@ -377,4 +377,25 @@ pub fn plain_space(input: &mut StringInput, mode: &Mode) -> Option<BlankGap>
         }),
         _ => None,
     }
+}
+
+/// The name behind the white space at the cursor, where it begins past ASCII and is written with no escape.
+#[inline(always)]
+pub fn plain_foreign<'a>(input: &mut StringInput<'a>, mode: &Mode) -> Option<Plain<'a>>
+    ensures found { IfSome result (λ plain. reading mode.now input.old ≡ plain_reading (spanned_view plain.token) input.new) }
+    ensures kept { IfSome result IsKept }
+    ensures ahead { IfSome result (λ _. IsAhead input.old input.new) }
+    ensures more { IfSome result (λ _. (c : ℕ) × (slice_get (rest input.old) 0 ≡ Some c)) }
+{
+    if mode.shebang_allowed || !mode.passes_space() {
+        return None;
+    }
+    let terminator = skip_white_space(input);
+    let c = input.cur()?;
+    if c.is_ascii() || !c.is_ident_start() {
+        return None;
+    }
+    let start = input.cur_pos();
+    let kind = eat_plain_kind(input)?;
+    Some(word_behind(input, mode.first | terminator, start, kind))
 }

@@ -1,6 +1,6 @@
 //! The arms of a read, which give what comes behind white space: words, punctuators of one character, and all else of which
 //! there is nothing else to report.
-ghost use Rattle.std.specs.Prelude.{◌≡◌, ◌<◌, ◌≤◌, true, false, None, Some, length, IfNone, IfOk, IfSome, IsOk, OnOk, OnErr};
+ghost use Rattle.std.specs.Prelude.{◌≡◌, ◌<◌, ◌≤◌, true, false, None, Some, [], length, IfNone, IfOk, IfSome, IsOk, OnOk, OnErr};
 ghost use Rattle.ecma_token.specs.View.{spanned_view};
 ghost use Rattle.ecma_place.specs.Cursor.{HasPlace, place, rest};
 ghost use Rattle.ecma_stream.specs.Plain.{back_at, Gives, IsAlone, IsBehindGap, IsKept, IsRefused, begins_word, plain_reading};
@@ -12,8 +12,8 @@ ghost use Rattle.ecma_state.specs.Run.{at_place, is_free_read, mode_of};
 
 use super::Lexer;
 use crate::plain::{
-    Plain, eaten_number, eaten_string, plain_alone, plain_gap, plain_number, plain_punctuator,
-    plain_string, with_kept, word_behind,
+    Plain, eaten_number, eaten_string, plain_alone, plain_foreign, plain_gap, plain_number,
+    plain_punctuator, plain_string, with_kept, word_behind,
 };
 use crate::slot::put;
 use ecma_place::BytePos;
@@ -99,10 +99,10 @@ impl<'a> Lexer<'a> {
         // Names have an arm of their own, in which the kind is a constant, up to and with the change of the state.
         let name = WordKind::Ident(IdentKind::Other);
         if kind == name {
-            let plain = word_behind(&self.input, gap, start, name);
+            let plain = word_behind(&self.input, gap.line_break, start, name);
             self.give(slot, before, plain)?;
         } else {
-            let plain = word_behind(&self.input, gap, start, kind);
+            let plain = word_behind(&self.input, gap.line_break, start, kind);
             self.give(slot, before, plain)?;
         }
         Ok(true)
@@ -310,6 +310,30 @@ impl<'a> Lexer<'a> {
         match eaten_number(&mut self.input, gap.line_break) {
             Some(plain) => self.give(slot, before, plain),
             None => self.scanned_number_into(slot, before, gap),
+        }
+    }
+
+    /// Reads a name that begins past ASCII, and all else with what is found beside the token.
+    #[inline(never)]
+    pub(super) fn foreign_into(
+        &mut self,
+        slot: &mut Option<TokenAndSpan<'a>>,
+    ) -> Result<(), AllocError>
+        requires none { self.old.reread ≡ None }
+        ensures done { OnOk result (Gives self.old self.new slot.old slot.new true) }
+        ensures refused { OnErr result (IsRefused self.old self.new slot.old slot.new) }
+        ensures free { length self.old.state.contexts < 128 → is_free_read (lexer_state self.old) ≡ true → IsOk result }
+        ensures ended { rest self.old.input ≡ [] → IsOk result }
+    {
+        let before = self.input.cur_pos();
+        let here = self.input.clone()?;
+        let mode = self.mode();
+        match plain_foreign(&mut self.input, &mode) {
+            Some(plain) => self.give(slot, before, plain),
+            None => {
+                self.input = here;
+                self.besides_into(slot)
+            }
         }
     }
 

@@ -62,7 +62,7 @@ impl<'a> Lexer<'a> {
     {
         let mode = self.mode();
         if !reads_text(&mode) {
-            return self.besides_into(slot);
+            return self.foreign_into(slot);
         }
         let Some(_) = self.input.cur() else {
             return self.besides_into(slot);
