@@ -260,6 +260,7 @@ impl<'a> Lexer<'a> {
 
 impl<'a> Lexer<'a> {
     /// What the next read finds, behind which this cursor then is, which is where the lexer is.
+    #[inline(always)]
     fn read_on(&self, input: &mut StringInput<'a>) -> Result<Reading<'a>, AllocError>
         requires { input.old ≡ self.now.input }
         ensures found { IfOk result (λ r. option_map spanned_view r.found ≡ (reading_of (lexer_state self.now)).found) }
@@ -276,20 +277,8 @@ impl<'a> Lexer<'a> {
         }
     }
 
-    /// The same where no slash is read again.
-    #[inline(always)]
-    fn read_here(&self, input: &mut StringInput<'a>) -> Result<Reading<'a>, AllocError>
-        requires here { input.old ≡ self.now.input }
-        requires none { self.now.reread ≡ None }
-        ensures found { IfOk result (λ r. option_map spanned_view r.found ≡ (reading_of (lexer_state self.now)).found) }
-        ensures besides { IfOk result (λ r. IsBeside r.besides (reading_of (lexer_state self.now))) }
-        ensures moved { OnOk result (input.new ≡ (reading_of (lexer_state self.now)).input) }
-        ensures free { is_free_read (lexer_state self.now) ≡ true → IsOk result }
-    {
-        read_from(self.alloc, input, &self.mode())
-    }
-
     /// What the next read finds, behind which the cursor then is. Nothing is changed where memory is refused.
+    #[inline(always)]
     fn find(&mut self) -> Result<Reading<'a>, AllocError>
         ensures found { IfOk result (λ r. option_map spanned_view r.found ≡ (reading_of (lexer_state self.old)).found) }
         ensures besides { IfOk result (λ r. IsBeside r.besides (reading_of (lexer_state self.old))) }
@@ -300,24 +289,6 @@ impl<'a> Lexer<'a> {
     {
         let mut input = self.input.clone()?;
         let reading = self.read_on(&mut input)?;
-        self.input = input;
-        Ok(reading)
-    }
-
-    /// What the next read finds where no slash is read again, behind which the cursor then is. Nothing is changed where memory
-    /// is refused.
-    #[inline(always)]
-    fn find_on(&mut self) -> Result<Reading<'a>, AllocError>
-        requires none { self.old.reread ≡ None }
-        ensures found { IfOk result (λ r. option_map spanned_view r.found ≡ (reading_of (lexer_state self.old)).found) }
-        ensures besides { IfOk result (λ r. IsBeside r.besides (reading_of (lexer_state self.old))) }
-        ensures moved { OnOk result (self.new ≡ record self.old { input = (reading_of (lexer_state self.old)).input }) }
-        ensures same { OnErr result (self.new ≡ self.old) }
-        ensures answer { IfOk result (λ r. IsAnswer self.new (kept_in (option_map spanned_view r.found))) }
-        ensures free { is_free_read (lexer_state self.old) ≡ true → IsOk result }
-    {
-        let mut input = self.input.clone()?;
-        let reading = self.read_here(&mut input)?;
         self.input = input;
         Ok(reading)
     }
@@ -358,45 +329,16 @@ impl<'a> Lexer<'a> {
         Ok(())
     }
 
-    /// Reads with all that is found beside the token.
+    /// Reads with all that is found beside the token, which it puts into the slot.
     #[inline(never)]
     #[tactic(auto, using(crate::proofs::SlashLemmas::free_read_faults, crate::proofs::SlashLemmas::free_read_comments, crate::proofs::EndingLemmas::end_found, crate::proofs::EndingLemmas::end_faults, crate::proofs::EndingLemmas::end_comments, crate::proofs::EndingLemmas::end_free))]
-    fn next_with_besides(&mut self) -> Result<Option<TokenAndSpan<'a>>, AllocError>
-        ensures answer { IfOk result (λ answer. option_map spanned_view answer ≡ (reading_of (lexer_state self.old)).found) }
-        ensures after { OnOk result (lexer_state self.new ≡ state_behind (lexer_state self.old) (reading_of (lexer_state self.old))) }
-        ensures kept { OnErr result (self.new.errors ≡ self.old.errors) }
-        ensures given { OnErr result (IsGivenAs self.old self.new) }
+    fn besides_into(&mut self, slot: &mut Option<TokenAndSpan<'a>>) -> Result<(), AllocError>
+        ensures done { OnOk result (Gives self.old self.new slot.old slot.new true) }
+        ensures refused { OnErr result (IsRefused self.old self.new slot.old slot.new) }
         ensures free { length self.old.state.contexts < 128 → is_free_read (lexer_state self.old) ≡ true → IsOk result }
         ensures ended { self.old.reread ≡ None → rest self.old.input ≡ [] → IsOk result }
     {
         let Reading { found, besides } = self.find()?;
-        self.take_in(Kept::of_answer(&found), besides)?;
-        Ok(found)
-    }
-
-    /// Reads with all that is found beside the token, which it puts into the slot, where a slash is read again.
-    #[inline(never)]
-    fn again_into(&mut self, slot: &mut Option<TokenAndSpan<'a>>) -> Result<(), AllocError>
-        ensures done { OnOk result (Gives self.old self.new slot.old slot.new true) }
-        ensures refused { OnErr result (IsRefused self.old self.new slot.old slot.new) }
-        ensures free { length self.old.state.contexts < 128 → is_free_read (lexer_state self.old) ≡ true → IsOk result }
-        ensures ended { self.old.reread ≡ None → rest self.old.input ≡ [] → IsOk result }
-    {
-        *slot = self.next_with_besides()?;
-        Ok(())
-    }
-
-    /// Reads with all that is found beside the token, which it puts into the slot, where no slash is read again.
-    #[inline(never)]
-    #[tactic(auto, using(crate::proofs::SlashLemmas::free_read_faults, crate::proofs::SlashLemmas::free_read_comments, crate::proofs::EndingLemmas::end_found, crate::proofs::EndingLemmas::end_faults, crate::proofs::EndingLemmas::end_comments, crate::proofs::EndingLemmas::end_free))]
-    fn besides_into(&mut self, slot: &mut Option<TokenAndSpan<'a>>) -> Result<(), AllocError>
-        requires none { self.old.reread ≡ None }
-        ensures done { OnOk result (Gives self.old self.new slot.old slot.new true) }
-        ensures refused { OnErr result (IsRefused self.old self.new slot.old slot.new) }
-        ensures free { length self.old.state.contexts < 128 → is_free_read (lexer_state self.old) ≡ true → IsOk result }
-        ensures ended { rest self.old.input ≡ [] → IsOk result }
-    {
-        let Reading { found, besides } = self.find_on()?;
         self.take_in(Kept::of_answer(&found), besides)?;
         *slot = found;
         Ok(())

@@ -121,7 +121,7 @@ impl<'a> Lexer<'a> {
         ensures ended { self.old.reread ≡ None → rest self.old.input ≡ [] → IsOk result }
     {
         if self.reads_again() {
-            return self.again_into(slot);
+            return self.besides_into(slot);
         }
         let before = self.input.cur_pos();
         let stood = self.input.clone()?;
