@@ -124,7 +124,7 @@ fn operator_of(c: u8) -> Option<PunctuatorKind>
     }
 }
 
-/// Whether neither the character at the cursor nor `=` stands behind it.
+/// Whether something stands behind the character at the cursor that is neither the same nor `=`.
 #[inline(always)]
 fn goes_on_otherwise(input: &StringInput, c: u8) -> bool
     requires ascii { c < 128 }
@@ -137,7 +137,7 @@ fn goes_on_otherwise(input: &StringInput, c: u8) -> bool
     }
 }
 
-/// The operator at the cursor, before which this character is, where it is that character alone.
+/// The operator at the cursor, which is before the character `c`, where it is that character alone.
 #[inline(always)]
 pub fn lone_operator(input: &StringInput, c: u8) -> Option<PunctuatorKind>
     requires { slice_get (rest input.now) 0 ≡ Some c }

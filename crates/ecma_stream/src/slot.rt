@@ -1,5 +1,5 @@
 //! The slot that a token is put into. Our own, for speed.
-ghost use Rattle.std.specs.Prelude.{◌≡◌, true, false, Some, IfSome};
+ghost use Rattle.std.specs.Prelude.{◌≡◌, true, false, None, Some, IfSome};
 ghost use Rattle.ecma_token.specs.View.{token_owns_nothing};
 
 use ecma_syntax::{IdentLike, Word};
@@ -31,12 +31,21 @@ fn may_own(slot: &Option<TokenAndSpan>) -> bool
 
 /// Lets go of what is in the slot.
 #[inline(never)]
-fn clear(slot: &mut Option<TokenAndSpan>) {
+fn clear(slot: &mut Option<TokenAndSpan>)
+    ensures { slot.new ≡ None }
+{
     *slot = None;
 }
 
-/// Puts a token into the slot, in the place of what is in it. Where that owns nothing it isn't asked part for part what to let
-/// go of.
+/// Forgets a token that owns no memory, so that nothing is lost, and none of its parts is asked what to let go of.
+#[inline(always)]
+fn forget(left: Option<TokenAndSpan>)
+    requires { IfSome left (λ token. token_owns_nothing token.token ≡ true) }
+{
+    mem::forget(left);
+}
+
+/// Puts a token into the slot, in the place of what is in it.
 #[inline(always)]
 pub fn put<'a>(slot: &mut Option<TokenAndSpan<'a>>, token: TokenAndSpan<'a>)
     ensures { slot.new ≡ Some token.entry }
@@ -44,5 +53,5 @@ pub fn put<'a>(slot: &mut Option<TokenAndSpan<'a>>, token: TokenAndSpan<'a>)
     if may_own(slot) {
         clear(slot);
     }
-    mem::forget(mem::replace(slot, Some(token)));
+    forget(mem::replace(slot, Some(token)));
 }

@@ -16,7 +16,7 @@ use ecma_state::mode::Mode;
 use ecma_token::TokenAndSpan;
 use std::alloc::AllocError;
 
-/// Whether what is at the cursor is read as in a template, behind a token.
+/// Whether template text is read at the cursor, and a token came before.
 #[inline(always)]
 fn reads_text(mode: &Mode) -> bool
     ensures { result ≡ true → (mode.now.shebang_allowed ≡ false) × (mode.now.first ≡ false) × (is_template mode.now.top ≡ true) }
@@ -47,8 +47,8 @@ impl<'a> Lexer<'a> {
         Ok(())
     }
 
-    /// Reads what is at the cursor where no white space is passed first: in a template, or where no slash is read again and
-    /// more is to be reported than a token.
+    /// Reads what is at the cursor where `plain_gap` answers nothing: what stands in a template, else a name that begins past
+    /// ASCII, or what has more to report than a token.
     #[inline(never)]
     pub(super) fn text_into(
         &mut self,
