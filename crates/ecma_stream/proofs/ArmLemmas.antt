@@ -16,14 +16,11 @@ use Rattle.ecma_state.specs.Mode.{gap_mode, is_template}
 use Rattle.ecma_state.specs.Reading.{Reading, reading}
 use Rattle.ecma_state.specs.Run.{at_place, mode_of, reading_from, reading_of, state_behind}
 use Rattle.ecma_state.specs.Session.{LexerValue, LexerState, kept_of, lexer_state}
-use Rattle.ecma_state.specs.TokenAt.{lookahead}
-use Rattle.ecma_state.specs.declared.lookahead.Lookahead.TheVariants as opens
 use Rattle.ecma_stream.specs.Plain.{IsBehindGap, IsPlain, PassesWord, StandsPlain, back_at, begins_word, plain_reading}
 use Rattle.ecma_state.specs.declared.mode.Mode.{Mode}
 use Rattle.ecma_stream.specs.Slashes.{IsAnswer}
 use Rattle.ecma_stream.specs.View.{IsLexer, lexer_view}
 use Rattle.ecma_stream.specs.declared.lexer.Lexer.TheInside.{Inside}
-use Rattle.ecma_stream.proofs.AloneLemmas.{word-opens}
 use Rattle.ecma_stream.proofs.PlainLemmas.{plain-read}
 use Rattle.ecma_stream.proofs.SlashLemmas.{at-index, is-answer, place-there, stands-moved}
 
@@ -169,14 +166,13 @@ arm-read before a l gap t now n shows behind flag is moved =
 
 pub word-read : (before : BytePos) (a : Inside) (l : LexerValue) (gap : BlankGap) (token : TokenAndSpan) (start : BytePos) (kind : WordKind) (now : Cursor) → lexer_view a ≡ l
     → IsBehindGap before l gap → begins_word gap.next ≡ true → start.0 ≡ place a.input → PassesWord a.input now kind
-    → ((mode : Mode) (old : Cursor) → lookahead mode gap.line_break (rest old) ≡ opens.Word → start.0 ≡ place old → PassesWord old now kind → IsPlain mode (spanned_view token) old now)
+    → ((mode : Mode) (old : Cursor) → is_template mode.top ≡ false → start.0 ≡ place old → slice_get (rest old) 0 ≡ Some gap.next → begins_word gap.next ≡ true → PassesWord old now kind
+    → IsPlain mode (spanned_view token) old now)
     → token.had_line_break ≡ gap.line_break → reading (mode_of (lexer_state (lexer_view a))) (at_place before now) ≡ plain_reading (spanned_view token) now
 word-read before a l gap token start kind now shows behind begins there passes told flag =
     let code = arm-code before a l gap shows behind in
     let first : slice_get (rest a.input) 0 ≡ Some gap.next = ap (λ k. slice_get (rest k.input) 0) shows ∙ behind.stands.next in
-    let mode = mode_of (lexer_state (lexer_view a)) in
-    let opened = word-opens mode gap.line_break (rest a.input) gap.next first begins code in
-    arm-read before a l gap (spanned_view token) now _ shows behind flag (told mode a.input opened there passes) passes.moved
+    arm-read before a l gap (spanned_view token) now _ shows behind flag (told (mode_of (lexer_state (lexer_view a))) a.input code there first begins passes) passes.moved
 
 -- behind the white space
 

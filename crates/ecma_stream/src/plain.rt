@@ -153,7 +153,7 @@ pub fn lone_operator(input: &StringInput, c: u8) -> Option<PunctuatorKind>
 
 /// The word of this kind between the place and the cursor, which is all of a word with no escape, behind a gap with this flag.
 #[inline(always)]
-pub fn word_behind<'a>(
+fn word_between<'a>(
     input: &StringInput<'a>,
     flag: bool,
     start: BytePos,
@@ -181,6 +181,25 @@ pub fn word_behind<'a>(
             flag,
         },
     }
+}
+
+/// The word of this kind between the place and the cursor, which is all of a word with no escape, behind this gap.
+#[inline(always)]
+pub fn word_behind<'a>(
+    input: &StringInput<'a>,
+    gap: BlankGap,
+    start: BytePos,
+    kind: WordKind,
+) -> Plain<'a>
+    requires there { HasPlace input.now start.0 }
+    requires before { start.0 ≤ place input.now }
+    ensures token { (mode : Mode) (old : Cursor) → is_template mode.top ≡ false → start.0 ≡ place old
+        → slice_get (rest old) 0 ≡ Some gap.next → begins_word gap.next ≡ true → PassesWord old input.now kind
+        → IsPlain mode (spanned_view result.token) old input.now }
+    ensures flag { result.token.had_line_break ≡ gap.line_break }
+    ensures kept { IsKept result }
+{
+    word_between(input, gap.line_break, start, kind)
 }
 
 /// The punctuator at the cursor, behind this gap, which is the character there alone.
@@ -397,5 +416,5 @@ pub fn plain_foreign<'a>(input: &mut StringInput<'a>, mode: &Mode) -> Option<Pla
     }
     let start = input.cur_pos();
     let kind = eat_plain_kind(input)?;
-    Some(word_behind(input, mode.first | terminator, start, kind))
+    Some(word_between(input, mode.first | terminator, start, kind))
 }

@@ -99,10 +99,10 @@ impl<'a> Lexer<'a> {
         // Names have an arm of their own, in which the kind is a constant, up to and with the change of the state.
         let name = WordKind::Ident(IdentKind::Other);
         if kind == name {
-            let plain = word_behind(&self.input, gap.line_break, start, name);
+            let plain = word_behind(&self.input, gap, start, name);
             self.give(slot, before, plain)?;
         } else {
-            let plain = word_behind(&self.input, gap.line_break, start, kind);
+            let plain = word_behind(&self.input, gap, start, kind);
             self.give(slot, before, plain)?;
         }
         Ok(true)

@@ -9,8 +9,8 @@ use Rattle.ecma_stream.proofs.ArmLemmas.{some-before}
 use Rattle.ecma_stream.proofs.PlainLemmas.{foreign-read, passes-parts}
 use Rattle.ecma_stream.proofs.plain.plain_foreign.Goals as goal
 
-pub word_behind-requires-clause-before : goal.word_behind-requires-clause-before
-word_behind-requires-clause-before c = rw c.cur_pos-start.ensures (place-passed-le _ _ _ c.in_ok-kind.ensures.moved)
+pub word_between-requires-clause-before : goal.word_between-requires-clause-before
+word_between-requires-clause-before c = rw c.cur_pos-start.ensures (place-passed-le _ _ _ c.in_ok-kind.ensures.moved)
 
 pub returns-clause-found : goal.returns-clause-found
 returns-clause-found c =
@@ -26,8 +26,8 @@ returns-clause-found c =
     let passes = sym c.passes_space.ensures ∙ c.if-not-passes_space.false in
     let code = (passes-parts mode.top passes).0 in
     let opened = foreign-opens mode (mode.first || c.skip_white_space-terminator.result) (rest mid) ch first past start code in
-    let is = c.word_behind.ensures.token mode mid opened c.cur_pos-start.ensures (record { of_kind = c.in_ok-kind.ensures.kind; word = c.in_ok-kind.ensures.word; moved = c.in_ok-kind.ensures.moved }) in
-    foreign-read mode old mid now c.skip_white_space-terminator.result ch (spanned_view c.word_behind.result.token) c.if-mode.false passes white.moved white.terminator first past c.word_behind.ensures.flag is
+    let is = c.word_between.ensures.token mode mid opened c.cur_pos-start.ensures (record { of_kind = c.in_ok-kind.ensures.kind; word = c.in_ok-kind.ensures.word; moved = c.in_ok-kind.ensures.moved }) in
+    foreign-read mode old mid now c.skip_white_space-terminator.result ch (spanned_view c.word_between.result.token) c.if-mode.false passes white.moved white.terminator first past c.word_between.ensures.flag is
 
 pub returns-clause-ahead : goal.returns-clause-ahead
 returns-clause-ahead c = ahead-more _ c.skip_white_space-terminator.new.input _ (_, c.skip_white_space-terminator.ensures.moved) (_, c.in_ok-kind.ensures.moved)
