@@ -355,6 +355,7 @@ pub fn plain_text<'a>(
         extent,
         line_break,
     } = scan_template(alloc, input, mode.opened, mode.is_after_template())?;
+    // There are none: why an escape is refused is in the token.
     if !faults.is_empty() {
         return Ok(None);
     }

@@ -85,8 +85,7 @@ impl<'a> Lexer<'a> {
             b':' => self.colon_into(slot, before, gap),
             b'.' if is_lone_dot(&self.input) => self.dot_into(slot, before, gap),
             b'=' if is_lone_equals(&self.input) => self.assign_into(slot, before, gap),
-            b'"' => self.string_into(slot, before, gap),
-            b'\'' => self.string_into(slot, before, gap),
+            b'"' | b'\'' => self.string_into(slot, before, gap),
             b'0'..=b'9' => self.number_into(slot, before, gap),
             _ => self.operator_into(slot, before, gap),
         }
