@@ -1,3 +1,4 @@
+pub mod ContextPairLemmas
 pub mod ErrorLemmas
 pub mod LookaheadLemmas
 pub mod SharedCommentsLemmas

@@ -1,5 +1,6 @@
 pub mod Attachment
 pub mod Buffers
+pub mod ContextPairs
 pub mod Contexts
 pub mod Counting
 pub mod Disposition

@@ -3,6 +3,7 @@
 
 pub mod attachment;
 pub mod comments_buffer;
+mod context_pair;
 pub mod error_list;
 pub mod errors;
 mod hand_over;
