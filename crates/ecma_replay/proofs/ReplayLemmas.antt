@@ -113,6 +113,14 @@ step_responds_ok x step is counts old shown new (Ok answer) shows saves grows ac
     step_responds x step is counts old shown new answer shows saves grows acts begin xs stands
 step_responds_ok x step is counts old shown new (Err error) shows saves grows acts begin xs stands = tt
 
+-- a read, whose answer stands in a slot
+pub read_responds : {V E : Type 0} → (old shown new : CourseValue) (result : Result V E) (answer : Answer) → shown ≡ old → new.saves ≡ shown.saves → OnOk result (Grows shown.kept new.kept)
+    → ((s : Session) → IsAt shown.kept s shown.branch → OnOk result (Acts new.kept (act s Read) answer new.branch)) → (begin : Session) (xs : List Step) → Stands begin xs old
+    → OnOk result (Responds begin xs Read answer new)
+read_responds old shown new (Ok v) answer shows saves grows acts begin xs stands =
+    step_responds Read Read refl counts_read old shown new answer shows saves grows acts begin xs stands
+read_responds old shown new (Err error) answer shows saves grows acts begin xs stands = tt
+
 -- a save
 
 all-more : (es : List Entry) (begin : Session) (steps : List (List Step)) (ps : List BranchValue) (more : List Step) (p : BranchValue) → AllAt es begin steps ps → IsAt es (act_all begin more) p → AllAt es begin (steps ++ more ∷ []) (ps ++ p ∷ [])

@@ -1,10 +1,12 @@
 -- What a replay holds while it plays its steps, and how that stands to the run of these.
-use Rattle.std.specs.Prelude.{◌≡◌, ◌≤◌, ◌++◌, ◌==◌, ⊤, ℕ, suc, Bool, true, false, List, [], ◌∷◌, drop, if◌then◌else◌, length, map}
+use Rattle.std.specs.Prelude.{◌≡◌, ◌≤◌, ◌++◌, ◌==◌, ⊤, ℕ, suc, Bool, true, false, List, [], ◌∷◌, Option, Some, None, drop, if◌then◌else◌, length, map}
+use Rattle.ecma_token.specs.declared.token.TokenAndSpan.{TokenAndSpan}
 use Rattle.ecma_state.specs.Counting.{count_all, none_yet}
 use Rattle.ecma_state.specs.Run.{Acted, act_all, answer_behind, answers_behind}
 use Rattle.ecma_state.specs.Session.{LexerValue, Session, kept_back, kept_of, lexer_state, state_of}
 use Rattle.ecma_replay.specs.Replay.{answer_view}
 use Rattle.ecma_replay.specs.declared.answer.Answer.{Answer}
+use Rattle.ecma_replay.specs.declared.answer.Answer.TheVariants.{Token, End}
 use Rattle.ecma_replay.specs.declared.branch.Entry.{Entry}
 use Rattle.ecma_state.specs.declared.kept.Kept.{Kept}
 use Rattle.ecma_state.specs.declared.step.Step.{Step}
@@ -33,6 +35,11 @@ pub record IsAt (entries : List Entry) (s : Session) (b : BranchValue) : Type 0 
   pub state : lexer_state b.lexer ≡ state_of s
   pub kept : kept_at b.kept entries ≡ map kept_of (kept_back s.past)
   pub within : b.kept ≤ length entries
+
+-- the answer of a read, of which the token stands in a slot
+abbrev pub answer_of : Option TokenAndSpan → Answer
+answer_of (Some token) = Token token
+answer_of None = End
 
 -- a step answered and led to what it does in the run
 pub record Acts (entries : List Entry) (acted : Acted) (answer : Answer) (b : BranchValue) : Type 0 where

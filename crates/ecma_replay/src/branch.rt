@@ -2,7 +2,7 @@
 ghost use Rattle.std.specs.Prelude.{◌≡◌, ◌≤◌, ◌++◌, ◌∷◌, [], List, length, reverse, if◌then◌else◌, IfOk, OnOk};
 ghost use Rattle.ecma_state.specs.Session.{Session, lexer_state, state_of};
 ghost use Rattle.ecma_state.specs.Run.{act};
-ghost use Rattle.ecma_replay.specs.Playing.{Acts, Grows, IsAt, kept_at, without};
+ghost use Rattle.ecma_replay.specs.Playing.{Acts, Grows, IsAt, answer_of, kept_at, without};
 ghost use Rattle.ecma_replay.specs.declared.branch.Entry.{Entry};
 ghost use Rattle.ecma_state.specs.declared.step.Step.{Step};
 
@@ -12,6 +12,7 @@ use ecma_state::token_contexts::TokenContexts;
 use ecma_stream::lexer::Lexer;
 use ecma_stream::tokens::Tokens;
 use ecma_syntax::Context;
+use ecma_token::TokenAndSpan;
 use std::alloc::{AllocError, Global};
 use std::marker::Model;
 
@@ -141,23 +142,38 @@ impl<'a> Branch<'a> {
         self.kept = kept;
     }
 
-    /// Reads, and keeps the token that is answered.
+    /// Reads into a slot, and keeps the token that is answered.
     #[inline(always)]
-    pub fn read(&mut self, kept: &mut KeptTree) -> Result<Answer<'a>, AllocError>
-        ensures acts { (s : Session) → IsAt kept.old s self.old → IfOk result (λ answer. Acts kept.new (act s Step.Read) answer self.new) }
+    pub fn read_into(
+        &mut self,
+        kept: &mut KeptTree,
+        slot: &mut Option<TokenAndSpan<'a>>,
+    ) -> Result<(), AllocError>
+        ensures acts { (s : Session) → IsAt kept.old s self.old → OnOk result (Acts kept.new (act s Step.Read) (answer_of slot.new) self.new) }
         ensures grows { OnOk result (Grows kept.old kept.new) }
     {
         let again = self.lexer.reads_again();
         let before = self.kept;
-        match self.lexer.read()? {
-            Some(token) => {
-                self.kept = kept.keep(Entry {
-                    token: Kept::of(&token),
-                    again,
-                    before,
-                })?;
-                Ok(Answer::Token(token))
-            }
+        self.lexer.read_into(slot)?;
+        if let Some(token) = slot {
+            self.kept = kept.keep(Entry {
+                token: Kept::of(token),
+                again,
+                before,
+            })?;
+        }
+        Ok(())
+    }
+
+    /// Reads, and keeps the token that is answered.
+    pub fn read(&mut self, kept: &mut KeptTree) -> Result<Answer<'a>, AllocError>
+        ensures acts { (s : Session) → IsAt kept.old s self.old → IfOk result (λ answer. Acts kept.new (act s Step.Read) answer self.new) }
+        ensures grows { OnOk result (Grows kept.old kept.new) }
+    {
+        let mut slot = None;
+        self.read_into(kept, &mut slot)?;
+        match slot {
+            Some(token) => Ok(Answer::Token(token)),
             None => Ok(Answer::End),
         }
     }

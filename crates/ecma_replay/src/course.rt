@@ -2,7 +2,7 @@
 ghost use Rattle.std.specs.Prelude.{◌++◌, ◌∷◌, [], List, IfOk, OnOk};
 ghost use Rattle.ecma_state.specs.Session.{Session};
 ghost use Rattle.ecma_state.specs.Run.{start_of};
-ghost use Rattle.ecma_replay.specs.Playing.{Responds, Stands};
+ghost use Rattle.ecma_replay.specs.Playing.{Responds, Stands, answer_of};
 ghost use Rattle.ecma_replay.specs.Replay.{Gathers};
 ghost use Rattle.ecma_state.specs.declared.step.Step.{Step};
 
@@ -13,6 +13,7 @@ use ecma_place::StringInput;
 use ecma_state::settings::Settings;
 use ecma_state::step::Step;
 use ecma_stream::lexer::Lexer;
+use ecma_token::TokenAndSpan;
 use std::alloc::{AllocError, Global};
 use std::marker::Model;
 
@@ -72,8 +73,8 @@ impl<'a> Course<'a> {
     }
 
     /// Takes a step.
-    // In each caller by itself, so that an answer that nobody looks at need not be made.
-    #[inline(always)]
+    // A call of its own: of most steps, which are reads, the callers put the answer where it stays.
+    #[inline(never)]
     pub fn respond(&mut self, step: &Step) -> Result<Answer<'a>, AllocError>
         ensures { (begin : Session) (xs : List Step) → Stands begin xs self.old → IfOk result (λ answer. Responds begin xs step.now answer self.new) }
     {
@@ -91,12 +92,30 @@ impl<'a> Course<'a> {
         }
     }
 
-    /// Takes a step, whose answer nobody looks at.
-    pub fn pass(&mut self, step: &Step) -> Result<(), AllocError>
+    /// Takes the step of a read, whose answer comes into a slot.
+    #[inline(always)]
+    pub fn read_into(&mut self, slot: &mut Option<TokenAndSpan<'a>>) -> Result<(), AllocError>
+        ensures { (begin : Session) (xs : List Step) → Stands begin xs self.old → OnOk result (Responds begin xs Step.Read (answer_of slot.new) self.new) }
+    {
+        self.branch.read_into(&mut self.kept, slot)
+    }
+
+    /// Takes a step, whose answer nobody looks at; a token that is read takes the place of what is in the slot.
+    #[inline(always)]
+    pub fn pass(
+        &mut self,
+        step: &Step,
+        slot: &mut Option<TokenAndSpan<'a>>,
+    ) -> Result<(), AllocError>
         ensures { (begin : Session) (xs : List Step) → Stands begin xs self.old → OnOk result (Stands begin (xs ++ step.now ∷ []) self.new) }
     {
-        let _answer = self.respond(step)?;
-        Ok(())
+        match step {
+            Step::Read => self.read_into(slot),
+            _ => {
+                let _answer = self.respond(step)?;
+                Ok(())
+            }
+        }
     }
 
     /// What the steps came to.

@@ -14,9 +14,26 @@ use crate::replayed::Replay;
 use ecma_place::{BytePos, StringInput};
 use ecma_state::settings::Settings;
 use ecma_state::step::Step;
+use ecma_token::TokenAndSpan;
 use std::alloc::{AllocError, Global};
 
+/// Takes the step of a read, and keeps its answer.
+// A call of its own, so that the token is moved once, from where it is read to the answers.
+#[inline(never)]
+fn read_answer<'a>(course: &mut Course<'a>, answers: &mut Vec<Answer<'a>>) -> Result<(), AllocError>
+    ensures { (begin : Session) (xs : List Step) → Follows begin xs answers.old.items course.old → OnOk result (Follows begin (xs ++ Step.Read ∷ []) answers.new.items course.new) }
+{
+    let mut slot = None;
+    course.read_into(&mut slot)?;
+    match slot {
+        Some(token) => answers.push(Answer::Token(token))?,
+        None => answers.push(Answer::End)?,
+    }
+    Ok(())
+}
+
 /// Takes a step, and keeps its answer.
+#[inline(always)]
 fn perform<'a>(
     course: &mut Course<'a>,
     answers: &mut Vec<Answer<'a>>,
@@ -24,9 +41,14 @@ fn perform<'a>(
 ) -> Result<(), AllocError>
     ensures { (begin : Session) (xs : List Step) → Follows begin xs answers.old.items course.old → OnOk result (Follows begin (xs ++ step.now ∷ []) answers.new.items course.new) }
 {
-    let answer = course.respond(step)?;
-    answers.push(answer)?;
-    Ok(())
+    match step {
+        Step::Read => read_answer(course, answers),
+        _ => {
+            let answer = course.respond(step)?;
+            answers.push(answer)?;
+            Ok(())
+        }
+    }
 }
 
 /// Takes steps over a text that starts at a place.
@@ -93,8 +115,9 @@ pub fn gather<'a>(
     ensures { IfOk result (λ r. Gathers (start_of settings.now record { start = start.0; text = chars source.now; at = 0 }) steps.now r) }
 {
     let mut course = Course::new(alloc, settings, StringInput::new(source, start));
+    let mut slot = None;
     'steps: for step in steps {
-        course.pass(step)?;
+        course.pass(step, &mut slot)?;
     }
     course.finish(alloc)
 }
