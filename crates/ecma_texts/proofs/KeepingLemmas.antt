@@ -21,6 +21,7 @@ use Rattle.ecma_slashes.proofs.TokenLemmas.{met-slash}
 use Rattle.ecma_replay.specs.Replay.{Gathers}
 use Rattle.ecma_replay.specs.declared.gathered.Gathered.{Gathered}
 use Rattle.ecma_texts.specs.Keeping.{KeepsOn}
+use Rattle.ecma_texts.specs.ReadingOut.{kept_found}
 
 -- What is kept of one token
 
@@ -63,23 +64,19 @@ kept-by rule s plain = go (meets_expression rule s) refl
 
 -- Tokens
 
-abbrev pub kept_one : Option SpannedView → List Kept
-kept_one None = []
-kept_one (Some t) = kept_of t ∷ []
-
-keeps-with : (found : Option SpannedView) (ts : List SpannedView) → reverse (map kept_of (kept_with found ts)) ≡ reverse (map kept_of ts) ++ kept_one found
+keeps-with : (found : Option SpannedView) (ts : List SpannedView) → reverse (map kept_of (kept_with found ts)) ≡ reverse (map kept_of ts) ++ kept_found found
 keeps-with None ts = sym (append-nil (reverse (map kept_of ts)))
 keeps-with (Some t) ts = reverse_onto (map kept_of ts) (kept_of t) []
 
-pub keeps-behind : (rule : SlashRule) (s : Session) → s.reread ≡ None → kept_tokens (behind_by rule s) ≡ kept_tokens s ++ kept_one (found_by rule s)
+pub keeps-behind : (rule : SlashRule) (s : Session) → s.reread ≡ None → kept_tokens (behind_by rule s) ≡ kept_tokens s ++ kept_found (found_by rule s)
 keeps-behind rule s plain = ap (λ ts. reverse (map kept_of ts)) (kept-by rule s plain) ∙ keeps-with (found_by rule s) (kept_back s.past)
 
 -- one more is kept of what was found
 pub keeps-on : (rule : SlashRule) (s : Session) (found : Option SpannedView) (before kept : List Kept) (more : Bool) (l : LexerState) → s.reread ≡ None → before ≡ kept_tokens s
-    → ReadsBy rule s found l → kept ≡ before ++ kept_one found → more ≡ is_some found → KeepsOn rule s kept more l
+    → ReadsBy rule s found l → kept ≡ before ++ kept_found found → more ≡ is_some found → KeepsOn rule s kept more l
 keeps-on rule s found before kept more l plain so reads adds told =
     record {
-      keeps = adds ∙ ap (λ list. list ++ kept_one found) so ∙ ap (λ o. kept_tokens s ++ kept_one o) reads.finds ∙ sym (keeps-behind rule s plain);
+      keeps = adds ∙ ap (λ list. list ++ kept_found found) so ∙ ap (λ o. kept_tokens s ++ kept_found o) reads.finds ∙ sym (keeps-behind rule s plain);
       told = told ∙ ap is_some reads.finds;
       after = reads.after;
     }
@@ -93,14 +90,14 @@ pub record KeptSoFar (rule : SlashRule) (begun : Session) (kept : List Kept) (l 
   pub keeps : kept ≡ kept_tokens (act_all begun steps)
 
 -- where these steps lead
-here-is : (rule : SlashRule) (begun : Session) (steps : List Step) (l : LexerState) (so : SoFar rule begun [] steps l) → so.here ≡ act_all begun steps
+pub here-is : (rule : SlashRule) (begun : Session) (steps : List Step) (l : LexerState) (so : SoFar rule begun [] steps l) → so.here ≡ act_all begun steps
 here-is rule begun steps l so = so.there ∙ ap (act_all begun) (sym so.behind)
 
 pub kept-here : (rule : SlashRule) (begun : Session) (kept : List Kept) (l : LexerState) (so_far : KeptSoFar rule begun kept l) → kept ≡ kept_tokens so_far.so.here
 kept-here rule begun kept l so_far = so_far.keeps ∙ ap kept_tokens (sym (here-is rule begun so_far.steps l so_far.so))
 
 -- one token further
-further : (rule : SlashRule) (begun : Session) (steps : List Step) (l : LexerState) (so : SoFar rule begun [] steps l) → behind_by rule so.here ≡ act_all begun (steps ++ steps_by rule so.here)
+pub further : (rule : SlashRule) (begun : Session) (steps : List Step) (l : LexerState) (so : SoFar rule begun [] steps l) → behind_by rule so.here ≡ act_all begun (steps ++ steps_by rule so.here)
 further rule begun steps l so = ap (λ x. act_all x (steps_by rule so.here)) (here-is rule begun steps l so) ∙ sym (fold-append act_on begun steps (steps_by rule so.here))
 
 pub kept-start : (rule : SlashRule) (s : Session) (kept : List Kept) (l : LexerState) → l ≡ state_of s → s.reread ≡ None → kept ≡ kept_tokens s → KeptSoFar rule s kept l

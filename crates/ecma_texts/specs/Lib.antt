@@ -1,4 +1,5 @@
 pub mod Keeping
+pub mod ReadingOut
 pub use Rattle.ecma_state.specs.Run
 pub use Rattle.ecma_state.specs.Session
 pub use Rattle.ecma_slashes.specs.ByFlag

@@ -1,11 +1,13 @@
 //! What is kept of a text that is read to its end.
-ghost use Rattle.std.specs.Prelude.{◌≡◌, ◌+◌, ◌<◌, ◌^◌, true, None, length, IfOk, OnOk};
+ghost use Rattle.std.specs.Prelude.{◌≡◌, ◌+◌, ◌<◌, ◌^◌, List, true, None, length, IfOk, OnOk};
 ghost use Rattle.std.specs.Str.{chars};
 ghost use Rattle.ecma_replay.specs.Replay.{Gathers};
 ghost use Rattle.ecma_slashes.specs.ByFlag.{text_steps};
-ghost use Rattle.ecma_slashes.specs.Rereads.{is_in_order, rule_of, steps_to_end_by, text_steps_by};
+ghost use Rattle.ecma_slashes.specs.Rereads.{entered, is_in_order, rule_of, steps_to_end_by, text_steps_by};
+ghost use Rattle.ecma_state.specs.Counting.{counting};
 ghost use Rattle.ecma_state.specs.Run.{act_all, start_of};
 ghost use Rattle.ecma_state.specs.Session.{Session, kept_tokens, lexer_state, state_of};
+ghost use Rattle.ecma_state.specs.declared.step.Step.{Step};
 ghost use Rattle.ecma_stream.specs.Ending.{most_tokens};
 ghost use Rattle.ecma_texts.specs.Keeping.{KeepsOn};
 
@@ -68,6 +70,39 @@ pub fn keep_to_end(
     Ok(())
 }
 
+/// A lexer of a text that starts at a place, in a context.
+pub(crate) fn begun<'a>(
+    alloc: Global,
+    settings: &Settings,
+    context: Context,
+    source: &'a str,
+    start: BytePos,
+) -> Result<Lexer<'a>, AllocError>
+    requires { start.0 + length source.now < 2 ^ 32 }
+    ensures shows { IfOk result (λ lexer. lexer_state lexer ≡ state_of (entered settings.now context record { start = start.0; text = chars source.now; at = 0 })) }
+    ensures no_reread { IfOk result (λ lexer. lexer.reread ≡ None) }
+{
+    let input = StringInput::new(source, start);
+    let mut lexer = Lexer::with_settings(alloc, settings, input);
+    lexer.set_ctx(context)?;
+    Ok(lexer)
+}
+
+/// The tokens that were kept, with what the lexer that read them has besides.
+pub(crate) fn gathered<'a>(kept: Vec<Kept>, lexer: Lexer<'a>) -> Gathered<'a>
+    ensures { (begin s : Session) (steps : List Step) → act_all begin (counting steps) ≡ s → state_of s ≡ lexer_state lexer.entry → kept.items ≡ kept_tokens s
+        → Gathers begin steps result }
+{
+    let (errors, comments, ended) = lexer.into_parts();
+    Gathered {
+        kept,
+        errors: errors.recorded,
+        waiting: errors.waiting,
+        comments,
+        ended,
+    }
+}
+
 /// What [`gather`](ecma_replay::gather) tells of the steps by which a text that starts at a place is read to its end in a
 /// context ([`steps_by`](ecma_slashes::steps_by)), by one reading and with no list of steps. Our own.
 ///
@@ -90,19 +125,10 @@ pub fn gather_by<'a>(
     ensures { IfOk result (λ r. Gathers (start_of settings.now record { start = start.0; text = chars source.now; at = 0 })
         (text_steps_by (rule_of slashes.entry) settings.now context record { start = start.0; text = chars source.now; at = 0 }) r) }
 {
-    let input = StringInput::new(source, start);
-    let mut lexer = Lexer::with_settings(alloc, settings, input);
-    lexer.set_ctx(context)?;
+    let mut lexer = begun(alloc, settings, context, source, start)?;
     let mut kept = Vec::new(alloc);
     keep_to_end(&mut kept, &mut lexer, slashes)?;
-    let (errors, comments, ended) = lexer.into_parts();
-    Ok(Gathered {
-        kept,
-        errors: errors.recorded,
-        waiting: errors.waiting,
-        comments,
-        ended,
-    })
+    Ok(gathered(kept, lexer))
 }
 
 /// The same by the flag ([`steps_by_flag`](ecma_slashes::steps_by_flag)). Our own.

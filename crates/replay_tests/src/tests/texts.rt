@@ -4,10 +4,11 @@ ghost use Rattle.ecma_slashes.specs.Rereads.{is_in_order, rule_of};
 
 use crate::tests::agreement::{START, TEXTS, told};
 use crate::tests::replays::settings;
-use ecma_lexer::{Slashes, ascend, gather, steps_by};
-use ecma_place::{BytePos, StringInput};
+use ecma_lexer::{Slashes, ascend, count_rereads, gather, steps_by};
+use ecma_place::{BytePos, Spanned, StringInput};
 use ecma_syntax::Context;
-use ecma_texts::gather_by;
+use ecma_texts::{gather_by, read_out};
+use ecma_token::Error;
 use std::alloc::{AllocError, Global};
 use std::process::Abort;
 use std::test::Fail;
@@ -53,6 +54,12 @@ fn assert_text(
         kept && read.ended && shown.as_str() == wanted.as_str(),
         "{text}: {shown}, by steps {wanted}"
     );
+    let out = read_out(alloc, &settings(), context, text, START, slashes)?;
+    let shown = told(alloc, &out.gathered)?;
+    assert!(rt;
+        out.rereads == count_rereads(&steps) && shown.as_str() == wanted.as_str(),
+        "{text}: {shown}, by steps {wanted}"
+    );
     Ok(())
 }
 
@@ -77,6 +84,38 @@ fn texts_read_once_come_to_their_steps(rt: HostRuntime) -> Result<(), Fail> {
     for places in PLACES {
         assert_texts(&rt, rt.alloc(), Context::default(), places)?;
         assert_texts(&rt, rt.alloc(), module, places)?;
+    }
+    Ok(())
+}
+
+/// Texts, and where their tokens that are errors lie.
+const REFUSED: &[(&str, &[(u32, u32)])] = &[
+    ("a / /b/g", &[]),
+    ("'a\nb", &[]),
+    ("3in 0x", &[(4, 4), (9, 9)]),
+    ("(/b\n= /[/", &[(4, 6), (9, 12)]),
+    ("", &[]),
+];
+
+/// Whether the errors lie at these places.
+fn lie_at(errors: &[Error], places: &[(u32, u32)]) -> bool {
+    errors.len() == places.len()
+        && errors.iter().zip(places).all(|(error, (low, high))| {
+            let span = error.span();
+            span.lo.0 == *low && span.hi.0 == *high
+        })
+}
+
+#[test]
+fn refused_tokens_are_told(rt: HostRuntime) -> Result<(), Fail> {
+    let alloc = rt.alloc();
+    for (text, places) in REFUSED {
+        if !StringInput::fits(text, START) {
+            return Err(Fail::from(AllocError));
+        }
+        let context = Context::default();
+        let read = read_out(alloc, &settings(), context, text, START, Slashes::ByFlag)?;
+        assert!(rt; lie_at(&read.refusals, places), "{text}");
     }
     Ok(())
 }
