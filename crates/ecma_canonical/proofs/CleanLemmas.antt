@@ -9,19 +9,21 @@ use Rattle.std.proofs.lemmas.List.Folds.{list_all-map}
 use Rattle.ecma_place.specs.Cursor.{Cursor}
 use Rattle.ecma_token.specs.Kinds.{kind_of}
 use Rattle.ecma_token.specs.View.{SpannedView, error_view}
-use Rattle.ecma_clean.specs.Clean.{each_step, is_clean, is_plain_step, takes_none}
+use Rattle.ecma_token.specs.declared.error.Error.{Error}
+use Rattle.ecma_clean.specs.Clean.{each_step, ends_clean, is_clean, is_plain_step, takes_none}
 use Rattle.ecma_clean.specs.Canonical.{canonical_of, own_in}
 use Rattle.ecma_clean.specs.Sharing.{IsReadCleanly, begin, canonical_text_of}
 use Rattle.ecma_clean.proofs.CanonicalLaws.{canonical_is_read}
 use Rattle.ecma_place.specs.Text.{Text}
 use Rattle.ecma_canonical.specs.Canonical.{IsCanonicalText, IsTooLong}
-use Rattle.ecma_replay.specs.Replay.{Replays, answer_view}
+use Rattle.ecma_replay.specs.Replay.{Gathers, Replays, answer_view}
+use Rattle.ecma_replay.specs.declared.gathered.Gathered.{Gathered}
 use Rattle.ecma_replay.specs.declared.replayed.Replay.{Replay}
 use Rattle.ecma_canonical.specs.Watching.{followed_all, nothing_watched}
 use Rattle.ecma_canonical.proofs.WatchLemmas.{answers-length, run-watched}
 use Rattle.ecma_state.specs.Counting.{counting, none_yet}
 use Rattle.ecma_state.specs.Run.{session, start_of}
-use Rattle.ecma_state.specs.Session.{has_ended, kept_back, kept_of}
+use Rattle.ecma_state.specs.Session.{Session, has_ended, kept_back, kept_of, kept_tokens}
 use Rattle.ecma_state.specs.State.{is_error}
 use Rattle.ecma_state.specs.TokenAt.{is_empty}
 use Rattle.ecma_state.specs.declared.kept.Kept.{Kept}
@@ -52,6 +54,18 @@ pub one-each : (settings : Settings) (input : Cursor) (steps : List Step) (r : R
 one-each settings input steps r replays =
     sym (length-map r.answers.items answer_view) ∙ ap length replays.answers ∙ answers-length (start_of settings input) none_yet steps
 
+-- where a run ends, what it left says whether anything is wrong
+ends-told : (s : Session) (ended : Bool) (kept : List Kept) (errors : List Error) → kept ≡ kept_tokens s → map error_view errors ≡ s.errors.recorded → ended ≡ has_ended s.past
+    → (ended && (list_all (λ (k : Kept). not (is_error k.kind)) kept && (length errors == 0))) ≡ ends_clean s
+ends-told s ended kept errors keeps recorded ends =
+    let none : list_all (λ (k : Kept). not (is_error k.kind)) kept ≡ list_all (λ t. not (is_error (kind_of t.token))) (kept_back s.past) =
+    ap (list_all (λ (k : Kept). not (is_error k.kind))) keeps ∙ none-error (kept_back s.past) in
+    let no_error : (length errors == 0) ≡ is_empty s.errors.recorded =
+    sym (mapped-empty error_view errors) ∙ ap is_empty recorded in
+    ap (λ e. e && (list_all (λ (k : Kept). not (is_error k.kind)) kept && (length errors == 0))) ends
+    ∙ ap (λ l. has_ended s.past && (l && (length errors == 0))) none
+    ∙ ap (λ m. has_ended s.past && (list_all (λ t. not (is_error (kind_of t.token))) (kept_back s.past) && m)) no_error
+
 pub told-clean : (settings : Settings) (input : Cursor) (steps : List Step) (r : Replay) (b : Bool) → Replays (start_of settings input) steps r
     → b ≡ (followed_all nothing_watched steps (map answer_view r.answers.items)).watch.is_clean
     → (b && (r.ended && (list_all (λ (k : Kept). not (is_error k.kind)) r.kept.items && (length r.errors == 0)))) ≡ is_clean settings input steps
@@ -62,22 +76,22 @@ told-clean settings input steps r b replays told =
     let none = each_step takes_none begin (counting steps) in
     let watched : b ≡ (plain && none) =
     told ∙ ap (λ answers. (followed_all nothing_watched steps answers).watch.is_clean) replays.answers ∙ ap (λ w. w.watch.is_clean) (run-watched settings input steps) in
-    let kept : list_all (λ (k : Kept). not (is_error k.kind)) r.kept.items ≡ list_all (λ t. not (is_error (kind_of t.token))) (kept_back s.past) =
-    ap (list_all (λ (k : Kept). not (is_error k.kind))) replays.kept ∙ none-error (kept_back s.past) in
-    let errors : (length r.errors == 0) ≡ is_empty s.errors.recorded =
-    sym (mapped-empty error_view r.errors) ∙ ap is_empty replays.errors in
     ap (λ w. w && (r.ended && (list_all (λ (k : Kept). not (is_error k.kind)) r.kept.items && (length r.errors == 0)))) watched
-    ∙ ap (λ e. (plain && none) && (e && (list_all (λ (k : Kept). not (is_error k.kind)) r.kept.items && (length r.errors == 0)))) replays.ended
-    ∙ ap (λ l. (plain && none) && (has_ended s.past && (l && (length r.errors == 0)))) kept
-    ∙ ap (λ m. (plain && none) && (has_ended s.past && (list_all (λ t. not (is_error (kind_of t.token))) (kept_back s.past) && m))) errors
-    ∙ and_assoc plain none (has_ended s.past && (list_all (λ t. not (is_error (kind_of t.token))) (kept_back s.past) && is_empty s.errors.recorded))
+    ∙ ap (λ e. (plain && none) && e) (ends-told s r.ended r.kept.items r.errors replays.kept replays.errors replays.ended)
+    ∙ and_assoc plain none (ends_clean s)
+
+-- where the steps say nothing against it, what was gathered is enough
+pub gathered-clean : (settings : Settings) (input : Cursor) (steps : List Step) (r : Gathered) → Gathers (start_of settings input) steps r
+    → is_clean settings input steps ≡ ends_clean (session settings input steps)
+    → (r.ended && (list_all (λ (k : Kept). not (is_error k.kind)) r.kept.items && (length r.errors == 0))) ≡ is_clean settings input steps
+gathered-clean settings input steps r gathers plain =
+    ends-told (session settings input steps) r.ended r.kept.items r.errors gathers.kept gathers.errors gathers.ended ∙ sym plain
 
 -- the bytes of what is joined are those of the canonical text
-pub text-is : (settings : Settings) (start : ℕ) (text : Text) (steps : List Step) (r : Replay) → Replays (start_of settings (begin start text)) steps r
-    → (kept : List Kept) (bytes : List ℕ) → kept ≡ r.kept.items → bytes ≡ encode_utf8_all (canonical_of (map (own_in (begin start text)) kept))
-    → bytes ≡ encode_utf8_all (canonical_text_of settings start text steps)
-text-is settings start text steps r replays kept bytes whole joined =
-    joined ∙ ap (λ ks. encode_utf8_all (canonical_of (map (own_in (begin start text)) ks))) (whole ∙ replays.kept)
+pub text-is : (settings : Settings) (start : ℕ) (text : Text) (steps : List Step) (kept : List Kept) (bytes : List ℕ) → kept ≡ kept_tokens (session settings (begin start text) steps)
+    → bytes ≡ encode_utf8_all (canonical_of (map (own_in (begin start text)) kept)) → bytes ≡ encode_utf8_all (canonical_text_of settings start text steps)
+text-is settings start text steps kept bytes whole joined =
+    joined ∙ ap (λ ks. encode_utf8_all (canonical_of (map (own_in (begin start text)) ks))) whole
 
 pub text-fits : (settings : Settings) (start : ℕ) (text : Text) (steps : List Step) → IsReadCleanly settings start text steps
     → (bytes seen : List ℕ) → bytes ≡ encode_utf8_all (canonical_text_of settings start text steps) → seen ≡ bytes → start + length seen < 2 ^ 32 → IsCanonicalText settings start text steps bytes

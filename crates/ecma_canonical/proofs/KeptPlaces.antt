@@ -12,7 +12,8 @@ use Rattle.ecma_state.specs.declared.kept.Kept.{Kept}
 use Rattle.ecma_state.specs.declared.settings.Settings.{Settings}
 use Rattle.ecma_state.specs.declared.step.Step.{Step}
 use Rattle.ecma_laws.proofs.KeptSpans.{AllLie, LiesIn, kept_lie}
-use Rattle.ecma_replay.specs.Replay.{Replays}
+use Rattle.ecma_replay.specs.Replay.{Gathers, Replays}
+use Rattle.ecma_replay.specs.declared.gathered.Gathered.{Gathered}
 use Rattle.ecma_replay.specs.declared.replayed.Replay.{Replay}
 use Rattle.ecma_canonical.specs.Joined.{StandsIn}
 
@@ -36,3 +37,8 @@ kept_tokens_stand settings input steps = steps_keep_places settings input (count
 pub replayed_tokens_stand : (settings : Settings) (input : Cursor) (steps : List Step) (r : Replay) → Replays (start_of settings input) steps r → All (StandsIn input) r.kept.items
 replayed_tokens_stand settings input steps r replays =
     subst (All (StandsIn input)) (sym replays.kept) (kept_tokens_stand settings input steps)
+
+-- those that are gathered
+pub gathered_tokens_stand : (settings : Settings) (input : Cursor) (steps : List Step) (r : Gathered) → Gathers (start_of settings input) steps r → All (StandsIn input) r.kept.items
+gathered_tokens_stand settings input steps r gathers =
+    subst (All (StandsIn input)) (sym gathers.kept) (kept_tokens_stand settings input steps)

@@ -1,14 +1,18 @@
 //! The canonical text of a clean run.
-ghost use Rattle.std.specs.Prelude.{◌≡◌, ◌+◌, ◌<◌, ◌^◌, ◌==◌, ◌&&◌, not, length, IfOk};
-ghost use Rattle.std.specs.List.{list_all};
+ghost use Rattle.std.specs.Prelude.{◌≡◌, ◌+◌, ◌<◌, ◌^◌, ◌==◌, ◌&&◌, List, not, length, IfOk};
+ghost use Rattle.std.specs.List.{All, list_all};
 ghost use Rattle.std.specs.Str.{chars};
 ghost use Rattle.ecma_place.specs.Cursor.{Cursor};
-ghost use Rattle.ecma_state.specs.Run.{start_of};
+ghost use Rattle.ecma_state.specs.Run.{session, start_of};
+ghost use Rattle.ecma_state.specs.Session.{kept_tokens};
 ghost use Rattle.ecma_state.specs.State.{is_error};
 ghost use Rattle.ecma_state.specs.declared.settings.Settings.{Settings};
+ghost use Rattle.ecma_state.specs.declared.step.Step.{Step};
 ghost use Rattle.ecma_clean.specs.Clean as clean;
+ghost use Rattle.ecma_clean.specs.Sharing.{IsReadCleanly, begin};
 ghost use Rattle.ecma_replay.specs.Replay.{Replays};
 ghost use Rattle.ecma_canonical.specs.Canonical.{IsCanon};
+ghost use Rattle.ecma_canonical.specs.Joined.{StandsIn};
 
 use crate::joined::canonical_text;
 use crate::watch::steps_are_clean;
@@ -34,7 +38,7 @@ pub enum Canon {
 }
 
 /// No kept token is an error.
-fn has_no_error(kept: &[Kept]) -> bool
+pub(crate) fn has_no_error(kept: &[Kept]) -> bool
     ensures { result ≡ list_all (λ k. not (is_error k.kind)) kept.now }
 {
     kept.iter().all(|token| token.kind != TokenKind::Error)
@@ -54,6 +58,26 @@ fn is_clean(alloc: Global, steps: &[Step], played: &Replay) -> Result<bool, Allo
 {
     let are_clean = steps_are_clean(alloc, steps, played.answers.as_slice())?;
     Ok(are_clean && ends_clean(played))
+}
+
+/// The canonical text of what a clean run keeps of a text that starts at a place.
+pub(crate) fn canon_of_clean(
+    alloc: Global,
+    source: &str,
+    start: BytePos,
+    kept: &[Kept],
+) -> Result<Canon, AllocError>
+    requires fits { start.0 + length source.now < 2 ^ 32 }
+    requires stand { All (StandsIn (begin start.0 (chars source.now))) kept.now }
+    ensures { (settings : Settings) (steps : List Step) → kept.now ≡ kept_tokens (session settings (begin start.0 (chars source.now)) steps)
+        → IsReadCleanly settings start.0 (chars source.now) steps → IfOk result (IsCanon settings start.0 (chars source.now) steps) }
+{
+    let text = canonical_text(alloc, source, start, kept)?;
+    if StringInput::fits(text.as_str(), start) {
+        Ok(Canon::Text(text))
+    } else {
+        Ok(Canon::TooLong)
+    }
 }
 
 /// The canonical text of a list of steps over a text that starts at a place.
@@ -81,10 +105,5 @@ pub fn canonical(
     if !is_clean(alloc, steps, &played)? {
         return Ok(Canon::NotClean);
     }
-    let text = canonical_text(alloc, source, start, played.kept.as_slice())?;
-    if StringInput::fits(text.as_str(), start) {
-        Ok(Canon::Text(text))
-    } else {
-        Ok(Canon::TooLong)
-    }
+    canon_of_clean(alloc, source, start, played.kept.as_slice())
 }

@@ -2,9 +2,11 @@
 //! them as keeps them apart. Where the run is clean, it is read to the same tokens.
 #![tactic(auto)]
 
+mod clean_gathered;
 pub mod clean_text;
 pub mod joined;
 mod watch;
 
+pub use clean_gathered::canonical_of_gathered;
 pub use clean_text::{Canon, canonical};
 pub use joined::canonical_text;
