@@ -1,16 +1,30 @@
 //! The canonical text.
-ghost use Rattle.std.specs.Prelude.{◌≡◌, map, IfOk, OnErr};
-ghost use Rattle.ecma_rows.specs.Asked.{judged, place_at};
-ghost use Rattle.ecma_rows.specs.Canon.{canon_told};
+ghost use Rattle.std.specs.Prelude.{◌≡◌, ◌<◌, ◌^◌, false, length, map, IfOk, OnErr};
+ghost use Rattle.std.specs.Str.{chars};
+ghost use Rattle.ecma_state.specs.Run.{start_of};
+ghost use Rattle.ecma_options.specs.Begin as reading;
+ghost use Rattle.ecma_texts.specs.ReadingOut.{IsReadOut};
+ghost use Rattle.ecma_canonical.specs.Canonical.{IsCanon};
+ghost use Rattle.ecma_rows.specs.Asked.{asked_view, judged, place_at};
+ghost use Rattle.ecma_rows.specs.Canon.{canon_told, steps_of};
 ghost use Rattle.ecma_rows.specs.Told.{IsTold};
 
 use crate::outcome::{Answer, Status};
-use crate::request::{judge, places};
+use crate::request::{Asked, judge, places};
 use crate::room::write_all;
-use ecma_canonical::{Canon, canonical};
+use ecma_canonical::{Canon, canonical_of_gathered};
 use ecma_place::BytePos;
-use ecma_slashes::{count_rereads, steps_by};
+use ecma_texts::{ReadOut, read_out};
 use std::alloc::{AllocError, Global};
+
+/// The canonical text of a text, by what was read of it as it was asked for.
+fn canon_of_read(alloc: Global, asked: &Asked, read: &ReadOut) -> Result<Canon, AllocError>
+    requires short { length asked.now.text.now < 2 ^ 32 }
+    requires read { IsReadOut (start_of (reading.settings false asked.now.options) (reading.whole asked.now.text.now)) (steps_of (asked_view asked.now)) read.now }
+    ensures { IfOk result (IsCanon (reading.settings false asked.now.options) 0 (chars asked.now.text.now) (steps_of (asked_view asked.now))) }
+{
+    canonical_of_gathered(alloc, asked.text, BytePos(0), &read.gathered)
+}
 
 /// Writes the canonical text of a text to the room, as many bytes as fit. The count is the number of its bytes. What is taken
 /// is as of [`write_tokens`](crate::write_tokens). Nothing is written where the answer is `Refused`,
@@ -36,14 +50,14 @@ pub fn write_canonical(
         Ok(asked) => asked,
         Err(status) => return Ok(Answer::of_status(status)),
     };
-    let start = BytePos(0);
     let settings = asked.options.settings(false);
     let context = asked.options.context();
-    let steps = steps_by(alloc, &settings, context, asked.text, start, asked.slashes)?;
-    if !asked.is_met(count_rereads(&steps)) {
+    let start = BytePos(0);
+    let read = read_out(alloc, &settings, context, asked.text, start, asked.slashes)?;
+    if !asked.is_met(read.rereads) {
         return Ok(Answer::of_status(Status::NoSlash));
     }
-    match canonical(alloc, &settings, asked.text, start, &steps)? {
+    match canon_of_read(alloc, &asked, &read)? {
         Canon::Text(canon) => {
             let bytes = canon.as_bytes();
             write_all(bytes, out);
