@@ -1,17 +1,24 @@
 //! What is told of a text.
 ghost use Rattle.std.specs.Prelude.{◌≡◌, ◌<◌, ◌^◌, length, true};
+ghost use Rattle.std.specs.List.{All};
+ghost use Rattle.std.specs.Str.{chars};
 ghost use Rattle.ecma_slashes.specs.Rereads.{is_in_order, rule_of};
+ghost use Rattle.ecma_canonical.specs.Joined.{StandsIn};
+ghost use Rattle.ecma_classes.specs.Classes.{begin};
+ghost use Rattle.ecma_pieces.specs.Covered.{MayBeCovered};
 
-use ecma_html::{Class, html_of_steps};
+use ecma_canonical::{Canon, canonical_of_gathered};
+use ecma_classes::{Class as PieceClass, Piece, classes};
+use ecma_html::{Class, html_of_gathered};
 use ecma_imports::{Form, Specifier, specifiers};
-use ecma_lexer::{
-    Answer, BufferedComment, BufferedCommentKind, Canon, Class as PieceClass, Kept, Piece, Replay,
-    Settings, Slashes, Step, ascend, canonical, classes_of_steps, count_rereads, replay, steps_by,
-};
 use ecma_place::{BytePos, CommentKind, Span, Spanned};
+use ecma_replay::Gathered;
 use ecma_report::report::{More, Report, Row};
 use ecma_report::words::{Asked, Face};
-use ecma_token::{Error, Token, TokenKind};
+use ecma_slashes::{Slashes, ascend};
+use ecma_state::{BufferedComment, BufferedCommentKind, Kept};
+use ecma_texts::{ReadOut, read_out};
+use ecma_token::{Error, TokenKind};
 use serde_json::json;
 use std::alloc::{AllocError, Global};
 
@@ -71,16 +78,12 @@ fn tell_error(report: &mut Report, kind: &str, error: &Error) -> Result<(), Allo
 }
 
 /// Tells of the errors of tokens, and of those that were recorded.
-fn tell_faults(report: &mut Report, played: &Replay) -> Result<(), AllocError> {
-    for answer in &played.answers {
-        if let Answer::Token(found) = answer {
-            if let Token::Error(error) = &found.token {
-                report.is_faulty = true;
-                tell_error(report, "token", error)?;
-            }
-        }
+fn tell_faults(report: &mut Report, read: &ReadOut) -> Result<(), AllocError> {
+    for error in &read.refusals {
+        report.is_faulty = true;
+        tell_error(report, "token", error)?;
     }
-    for error in played.errors.as_slice() {
+    for error in read.gathered.errors.as_slice() {
         report.is_faulty = true;
         tell_error(report, "recorded", error)?;
     }
@@ -138,15 +141,11 @@ fn tell_whole(report: &mut Report, text: &str) -> Result<(), AllocError> {
     report.push_json(value)
 }
 
-fn tell_canonical(
-    report: &mut Report,
-    settings: &Settings,
-    text: &str,
-    steps: &[Step],
-) -> Result<(), AllocError>
-    requires { length text.now < 2 ^ 32 }
+fn tell_canonical(report: &mut Report, text: &str, gathered: &Gathered) -> Result<(), AllocError>
+    requires fits { length text.now < 2 ^ 32 }
+    requires stand { All (StandsIn (begin 0 (chars text.now))) gathered.now.kept.items }
 {
-    match canonical(report.alloc, settings, text, START, steps)? {
+    match canonical_of_gathered(report.alloc, text, START, gathered)? {
         Canon::Text(canon) => tell_whole(report, canon.as_str()),
         Canon::NotClean | Canon::TooLong => {
             report.is_faulty = true;
@@ -155,39 +154,38 @@ fn tell_canonical(
     }
 }
 
-fn tell_html(
-    report: &mut Report,
-    settings: &Settings,
-    text: &str,
-    steps: &[Step],
-) -> Result<(), AllocError>
-    requires { length text.now < 2 ^ 32 }
+fn tell_classes(report: &mut Report, text: &str, gathered: &Gathered) -> Result<(), AllocError>
+    requires fits { length text.now < 2 ^ 32 }
+    requires covered { MayBeCovered (begin 0 (chars text.now)) gathered.now.kept.items gathered.now.comments.items }
 {
-    let html = html_of_steps(report.alloc, settings, text, steps)?;
+    let kept = gathered.kept.as_slice();
+    let comments = gathered.comments.as_slice();
+    let pieces = classes(report.alloc, text, START, kept, comments)?;
+    tell_pieces(report, &pieces)
+}
+
+fn tell_html(report: &mut Report, text: &str, gathered: &Gathered) -> Result<(), AllocError>
+    requires fits { length text.now < 2 ^ 32 }
+    requires covered { MayBeCovered (begin 0 (chars text.now)) gathered.now.kept.items gathered.now.comments.items }
+{
+    let html = html_of_gathered(report.alloc, text, gathered)?;
     tell_whole(report, str::from_utf8(html.as_slice()).unwrap_or(""))
 }
 
-fn tell_face(
-    report: &mut Report,
-    settings: &Settings,
-    text: &str,
-    steps: &[Step],
-    played: &Replay,
-) -> Result<(), AllocError>
-    requires { length text.now < 2 ^ 32 }
+fn tell_face(report: &mut Report, text: &str, gathered: &Gathered) -> Result<(), AllocError>
+    requires fits { length text.now < 2 ^ 32 }
+    requires stand { All (StandsIn (begin 0 (chars text.now))) gathered.now.kept.items }
+    requires covered { MayBeCovered (begin 0 (chars text.now)) gathered.now.kept.items gathered.now.comments.items }
 {
     match report.asked.face {
-        Face::Tokens => tell_tokens(report, played.kept.as_slice()),
-        Face::Comments => tell_comments(report, played.comments.as_slice()),
-        Face::Errors => tell_waiting(report, played.waiting.as_slice()),
-        Face::Canonical => tell_canonical(report, settings, text, steps),
-        Face::Classes => {
-            let pieces = classes_of_steps(report.alloc, settings, text, START, steps)?;
-            tell_pieces(report, &pieces)
-        }
-        Face::Html => tell_html(report, settings, text, steps),
+        Face::Tokens => tell_tokens(report, gathered.kept.as_slice()),
+        Face::Comments => tell_comments(report, gathered.comments.as_slice()),
+        Face::Errors => tell_waiting(report, gathered.waiting.as_slice()),
+        Face::Canonical => tell_canonical(report, text, gathered),
+        Face::Classes => tell_classes(report, text, gathered),
+        Face::Html => tell_html(report, text, gathered),
         Face::Imports => {
-            let found = specifiers(report.alloc, played.kept.as_slice())?;
+            let found = specifiers(report.alloc, gathered.kept.as_slice())?;
             tell_specifiers(report, &found)
         }
     }
@@ -238,12 +236,11 @@ pub fn tell<'a>(
     let context = asked.options.context();
     let mut report = Report::new(alloc, asked, name, text)?;
     let slashes = slashes_at(places);
-    let steps = steps_by(alloc, &settings, context, text, START, slashes)?;
-    let played = replay(alloc, &settings, text, START, &steps)?;
-    if !places.is_empty() && count_rereads(&steps) != places.len() {
-        tell_unmet(&mut report, places, &played.kept)?;
+    let read = read_out(alloc, &settings, context, text, START, slashes)?;
+    if !places.is_empty() && read.rereads != places.len() {
+        tell_unmet(&mut report, places, &read.gathered.kept)?;
     }
-    tell_faults(&mut report, &played)?;
-    tell_face(&mut report, &settings, text, &steps, &played)?;
+    tell_faults(&mut report, &read)?;
+    tell_face(&mut report, text, &read.gathered)?;
     Ok(report)
 }

@@ -7,4 +7,4 @@ mod text;
 
 pub use class::{Class, token_classes};
 pub use markup::html;
-pub use text::{html_of_steps, html_text};
+pub use text::{html_of_gathered, html_of_steps, html_text};

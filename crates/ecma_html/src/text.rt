@@ -16,8 +16,20 @@ use ecma_syntax::Context;
 use ecma_texts::gather_by_flag;
 use std::alloc::{AllocError, Global};
 
-/// A text as HTML, by what was gathered of it. The text starts at the place 0.
-fn html_of_gathered(alloc: Global, source: &str, gathered: &Gathered) -> Result<Vec<u8>, AllocError>
+/// A text as HTML ([`html`]), by what was gathered of it: the tokens that were kept, and the comments that were collected. The
+/// text starts at the place 0. Our own.
+///
+/// The caller knows that pieces can cover the text with these tokens and comments, as with what
+/// [`gather`](ecma_replay::gather), or one reading, gathered of it.
+///
+/// # Errors
+///
+/// `AllocError` where there is no memory.
+pub fn html_of_gathered(
+    alloc: Global,
+    source: &str,
+    gathered: &Gathered,
+) -> Result<Vec<u8>, AllocError>
     requires fits { length source.now < 2 ^ 32 }
     requires covered { MayBeCovered (begin 0 (chars source.now)) gathered.now.kept.items gathered.now.comments.items }
     ensures same { IfOk result (λ v. v.items ≡ html_kept source.now gathered.now.kept.items gathered.now.comments.items) }
