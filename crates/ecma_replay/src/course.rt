@@ -73,7 +73,7 @@ impl<'a> Course<'a> {
     }
 
     /// Takes a step.
-    // A call of its own: of most steps, which are reads, the callers put the answer where it stays.
+    // Never inlined: callers take reads, which most steps are, by `read_into`, so that few steps come this way.
     #[inline(never)]
     pub fn respond(&mut self, step: &Step) -> Result<Answer<'a>, AllocError>
         ensures { (begin : Session) (xs : List Step) → Stands begin xs self.old → IfOk result (λ answer. Responds begin xs step.now answer self.new) }

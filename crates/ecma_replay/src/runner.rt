@@ -14,7 +14,6 @@ use crate::replayed::Replay;
 use ecma_place::{BytePos, StringInput};
 use ecma_state::settings::Settings;
 use ecma_state::step::Step;
-use ecma_token::TokenAndSpan;
 use std::alloc::{AllocError, Global};
 
 /// Takes the step of a read, and keeps its answer.

@@ -152,7 +152,7 @@ pub(crate) fn tally_all<'a>(
         rereads: 0,
         errors: Vec::new(alloc),
     };
-    // One slot for all, so that none is made and let go of a token.
+    // One slot for all, so that none is made and let go of for each token.
     let mut slot = None;
     'tokens: while tally.read_next(&mut slot, slashes, out)? {}
     Ok(tally)

@@ -16,8 +16,8 @@ use Rattle.ecma_state.specs.declared.step.Step.{Step}
 use Rattle.ecma_stream.specs.Ending.{most_tokens}
 use Rattle.ecma_slashes.specs.Rereads.{ReadsBy, SlashRule, StepsOn, behind_by, entered, found_by, is_reread, meets_expression, read_steps, rereads, steps_by, steps_to_end_by, text_steps_by}
 use Rattle.ecma_slashes.proofs.RunLemmas.{SoFar, so-far-end, so-far-next, so-far-start}
-use Rattle.ecma_texts.specs.ReadingOut.{CollectsOn, IsCollected, kept_found, one_if, refusal_found, refusals}
-use Rattle.ecma_texts.specs.declared.reading_out.Collected.{Collected}
+use Rattle.ecma_texts.specs.ReadingOut.{ReadsOn, IsReadSoFar, kept_found, one_if, refusal_found, refusals}
+use Rattle.ecma_texts.specs.declared.reading_out.ReadSoFar.{ReadSoFar}
 use Rattle.ecma_texts.proofs.KeepingLemmas.{further, here-is, keeps-behind, kept-by, kept_with}
 
 -- Errors
@@ -50,12 +50,12 @@ some-map f None = refl
 some-map f (Some x) = refl
 
 -- one more token was told of
-pub collects-on : (rule : SlashRule) (s : Session) (steps : List Step) (old new : Collected) (found : Option SpannedView) (again more : Bool) (l : LexerState)
-    → s.reread ≡ None → IsCollected steps s old → ReadsBy rule s found l → again ≡ meets_expression rule s → more ≡ is_some found
+pub reads_on-on : (rule : SlashRule) (s : Session) (steps : List Step) (old new : ReadSoFar) (found : Option SpannedView) (again more : Bool) (l : LexerState)
+    → s.reread ≡ None → IsReadSoFar steps s old → ReadsBy rule s found l → again ≡ meets_expression rule s → more ≡ is_some found
     → new.kept.items ≡ old.kept.items ++ kept_found found → new.rereads ≡ old.rereads + one_if again
     → map error_view new.refusals.items ≡ map error_view old.refusals.items ++ refusal_found found
-    → CollectsOn rule s steps new more l
-collects-on rule s steps old new found again more l plain so reads twice told keeps counted refuses =
+    → ReadsOn rule s steps new more l
+reads_on-on rule s steps old new found again more l plain so reads twice told keeps counted refuses =
     record {
       told = told ∙ ap is_some reads.finds;
       after = reads.after;
@@ -71,43 +71,43 @@ collects-on rule s steps old new found again more l plain so reads twice told ke
 -- The loop
 
 -- so many tokens were read behind a session, and a lexer shows where that led
-pub record Going (rule : SlashRule) (begun : Session) (collected : Collected) (l : LexerState) : Type 0 where
+pub record Going (rule : SlashRule) (begun : Session) (so_far : ReadSoFar) (l : LexerState) : Type 0 where
   pub steps : List Step
   pub so : SoFar rule begun [] steps l
-  pub tells : IsCollected steps so.here collected
+  pub tells : IsReadSoFar steps so.here so_far
 
-pub going-start : (rule : SlashRule) (s : Session) (collected : Collected) (l : LexerState) → l ≡ state_of s → s.reread ≡ None → s.past ≡ []
-    → collected.kept.items ≡ [] → collected.rereads ≡ 0 → collected.refusals.items ≡ [] → Going rule s collected l
-going-start rule s collected l at plain none kept counted refused =
+pub going-start : (rule : SlashRule) (s : Session) (so_far : ReadSoFar) (l : LexerState) → l ≡ state_of s → s.reread ≡ None → s.past ≡ []
+    → so_far.kept.items ≡ [] → so_far.rereads ≡ 0 → so_far.refusals.items ≡ [] → Going rule s so_far l
+going-start rule s so_far l at plain none kept counted refused =
     let so = so-far-start rule s [] l at plain in
     let no_tokens : kept_tokens s ≡ [] = ap (λ past. reverse (map kept_of (kept_back past))) none in
     let no_errors : refusals s ≡ [] = ap (λ past. flat_map (λ (t : SpannedView). refusal_of t.token) (reverse (kept_back past))) none in
-    let tells : IsCollected [] s collected = record { kept = kept ∙ sym no_tokens; rereads = counted; refusals = ap (map error_view) refused ∙ sym no_errors } in
-    record { steps = []; so = so; tells = subst (λ x. IsCollected [] x collected) (sym (here-is rule s [] l so)) tells }
+    let tells : IsReadSoFar [] s so_far = record { kept = kept ∙ sym no_tokens; rereads = counted; refusals = ap (map error_view) refused ∙ sym no_errors } in
+    record { steps = []; so = so; tells = subst (λ x. IsReadSoFar [] x so_far) (sym (here-is rule s [] l so)) tells }
 
 -- by the steps that were added
-steps-on : (rule : SlashRule) (s : Session) (steps : List Step) (collected : Collected) (more : Bool) (l : LexerState) → CollectsOn rule s steps collected more l
+steps-on : (rule : SlashRule) (s : Session) (steps : List Step) (so_far : ReadSoFar) (more : Bool) (l : LexerState) → ReadsOn rule s steps so_far more l
     → StepsOn rule s steps (steps ++ steps_by rule s) more l
-steps-on rule s steps collected more l on = record { adds = refl; told = on.told; after = on.after }
+steps-on rule s steps so_far more l on = record { adds = refl; told = on.told; after = on.after }
 
-pub going-next : (rule : SlashRule) (s : Session) (old new : Collected) (l next : LexerState) (go : Going rule s old l)
-    → CollectsOn rule go.so.here go.steps new true next → Going rule s new next
+pub going-next : (rule : SlashRule) (s : Session) (old new : ReadSoFar) (l next : LexerState) (go : Going rule s old l)
+    → ReadsOn rule go.so.here go.steps new true next → Going rule s new next
 going-next rule s old new l next go on =
     let here = go.so.here in
     let steps : List Step = go.steps ++ steps_by rule here in
     let so = so-far-next rule s [] go.steps steps l next go.so (steps-on rule here go.steps new true next on) in
-    record { steps = steps; so = so; tells = subst (λ x. IsCollected steps x new) (sym (here-is rule s steps next so ∙ sym (further rule s go.steps l go.so))) on.tells }
+    record { steps = steps; so = so; tells = subst (λ x. IsReadSoFar steps x new) (sym (here-is rule s steps next so ∙ sym (further rule s go.steps l go.so))) on.tells }
 
 -- behind the read that answers the end all tokens were read, and the lexer shows where that led
-pub going-end : (rule : SlashRule) (s : Session) (old new : Collected) (l next : LexerState) (go : Going rule s old l)
-    → CollectsOn rule go.so.here go.steps new false next
-    → IsCollected (steps_to_end_by rule s) (act_all s (steps_to_end_by rule s)) new × (next ≡ state_of (act_all s (steps_to_end_by rule s)))
+pub going-end : (rule : SlashRule) (s : Session) (old new : ReadSoFar) (l next : LexerState) (go : Going rule s old l)
+    → ReadsOn rule go.so.here go.steps new false next
+    → IsReadSoFar (steps_to_end_by rule s) (act_all s (steps_to_end_by rule s)) new × (next ≡ state_of (act_all s (steps_to_end_by rule s)))
 going-end rule s old new l next go on =
     let here = go.so.here in
     let all = so-far-end rule s [] go.steps (go.steps ++ steps_by rule here) l next go.so (steps-on rule here go.steps new false next on) in
     let steps : go.steps ++ steps_by rule here ≡ steps_to_end_by rule s = all.0 in
     let out : behind_by rule here ≡ act_all s (steps_to_end_by rule s) = further rule s go.steps l go.so ∙ ap (act_all s) steps in
-    (subst (λ x. IsCollected (steps_to_end_by rule s) x new) out (subst (λ x. IsCollected x (behind_by rule here) new) steps on.tells), all.1)
+    (subst (λ x. IsReadSoFar (steps_to_end_by rule s) x new) out (subst (λ x. IsReadSoFar x (behind_by rule here) new) steps on.tells), all.1)
 
 -- Texts
 

@@ -9,7 +9,7 @@ use Rattle.ecma_state.specs.declared.kept.Kept.{Kept}
 use Rattle.ecma_state.specs.declared.step.Step.{Step}
 use Rattle.ecma_replay.specs.Replay.{Gathers}
 use Rattle.ecma_slashes.specs.Rereads.{SlashRule, behind_by, found_by, rereads, steps_by}
-use Rattle.ecma_texts.specs.declared.reading_out.Collected.{Collected}
+use Rattle.ecma_texts.specs.declared.reading_out.ReadSoFar.{ReadSoFar}
 use Rattle.ecma_texts.specs.declared.reading_out.ReadOut.{ReadOut}
 
 -- Tokens that are errors
@@ -39,16 +39,16 @@ kept_found None = []
 kept_found (Some t) = kept_of t ∷ []
 
 -- so much was told where steps came to a session
-pub record IsCollected (steps : List Step) (s : Session) (collected : Collected) : Type 0 where
-  pub kept : collected.kept.items ≡ kept_tokens s
-  pub rereads : collected.rereads ≡ rereads steps
-  pub refusals : map error_view collected.refusals.items ≡ refusals s
+pub record IsReadSoFar (steps : List Step) (s : Session) (so_far : ReadSoFar) : Type 0 where
+  pub kept : so_far.kept.items ≡ kept_tokens s
+  pub rereads : so_far.rereads ≡ rereads steps
+  pub refusals : map error_view so_far.refusals.items ≡ refusals s
 
 -- and then of the next token too, if there is one
-pub record CollectsOn (rule : SlashRule) (s : Session) (steps : List Step) (collected : Collected) (more : Bool) (l : LexerState) : Type 0 where
+pub record ReadsOn (rule : SlashRule) (s : Session) (steps : List Step) (so_far : ReadSoFar) (more : Bool) (l : LexerState) : Type 0 where
   pub told : more ≡ is_some (found_by rule s)
   pub after : l ≡ state_of (behind_by rule s)
-  pub tells : IsCollected (steps ++ steps_by rule s) (behind_by rule s) collected
+  pub tells : IsReadSoFar (steps ++ steps_by rule s) (behind_by rule s) so_far
 
 -- Texts
 

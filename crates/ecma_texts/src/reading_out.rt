@@ -7,7 +7,7 @@ ghost use Rattle.ecma_state.specs.Session.{Session, lexer_state, state_of};
 ghost use Rattle.ecma_state.specs.declared.step.Step.{Step};
 ghost use Rattle.ecma_stream.specs.Ending.{most_tokens};
 ghost use Rattle.ecma_slashes.specs.Rereads.{is_in_order, rule_of, steps_to_end_by, text_steps_by};
-ghost use Rattle.ecma_texts.specs.ReadingOut.{CollectsOn, IsCollected, IsReadOut, kept_found, one_if, refusal_found, refusals_in};
+ghost use Rattle.ecma_texts.specs.ReadingOut.{ReadsOn, IsReadSoFar, IsReadOut, kept_found, one_if, refusal_found, refusals_in};
 
 use crate::gathering::{begun, gathered};
 use ecma_place::BytePos;
@@ -22,6 +22,7 @@ use std::alloc::{AllocError, Global};
 /// What was read of a text.
 #[derive(Drop)]
 pub struct ReadOut<'a> {
+    /// What the steps by which it is read come to.
     pub gathered: Gathered<'a>,
     /// How many slashes were read again.
     pub rereads: usize,
@@ -31,7 +32,7 @@ pub struct ReadOut<'a> {
 
 /// What is told of the tokens so far.
 #[derive(Drop)]
-struct Collected<'a> {
+struct ReadSoFar<'a> {
     kept: Vec<Kept>,
     /// How many slashes were read again.
     rereads: usize,
@@ -59,7 +60,7 @@ fn refusal_in<'a>(slot: &mut Option<TokenAndSpan<'a>>) -> Option<Error<'a>>
     }
 }
 
-impl<'a> Collected<'a> {
+impl<'a> ReadSoFar<'a> {
     /// Takes in what a read left in the slot, and says whether that is a token.
     fn take_in(
         &mut self,
@@ -95,8 +96,8 @@ impl<'a> Collected<'a> {
         requires no_reread { lexer.old.reread ≡ None }
         requires in_order { is_in_order (rule_of slashes) ≡ true }
         requires rare { self.old.rereads < 2 ^ 60 }
-        ensures steps { (s : Session) (steps : List Step) → state_of s ≡ lexer_state lexer.old → IsCollected steps s self.old
-            → IfOk result (λ more. CollectsOn (rule_of slashes.entry) s steps self.new more (lexer_state lexer.new)) }
+        ensures steps { (s : Session) (steps : List Step) → state_of s ≡ lexer_state lexer.old → IsReadSoFar steps s self.old
+            → IfOk result (λ more. ReadsOn (rule_of slashes.entry) s steps self.new more (lexer_state lexer.new)) }
         ensures fewer { IfOk result (λ more. more ≡ true → most_tokens (lexer_state lexer.new) < most_tokens (lexer_state lexer.old)) }
         ensures no_reread { OnOk result (lexer.new.reread ≡ None) }
         ensures rare { OnOk result (self.new.rereads ≤ self.old.rereads + 1) }
@@ -108,27 +109,27 @@ impl<'a> Collected<'a> {
 }
 
 /// Reads to the end, and tells of what was read.
-fn collect<'a>(
+fn read_rest<'a>(
     alloc: Global,
     lexer: &mut Lexer<'a>,
     slashes: Slashes,
-) -> Result<Collected<'a>, AllocError>
+) -> Result<ReadSoFar<'a>, AllocError>
     requires no_reread { lexer.old.reread ≡ None }
     requires in_order { is_in_order (rule_of slashes) ≡ true }
     requires short { most_tokens (lexer_state lexer.old) < 2 ^ 60 }
-    ensures told { (s : Session) → state_of s ≡ lexer_state lexer.old → s.past ≡ [] → IfOk result (λ collected.
-        IsCollected (steps_to_end_by (rule_of slashes.entry) s) (act_all s (steps_to_end_by (rule_of slashes.entry) s)) collected) }
+    ensures told { (s : Session) → state_of s ≡ lexer_state lexer.old → s.past ≡ [] → IfOk result (λ so_far.
+        IsReadSoFar (steps_to_end_by (rule_of slashes.entry) s) (act_all s (steps_to_end_by (rule_of slashes.entry) s)) so_far) }
     ensures after { (s : Session) → state_of s ≡ lexer_state lexer.old → s.past ≡ [] → OnOk result (lexer_state lexer.new ≡ state_of (act_all s (steps_to_end_by (rule_of slashes.entry) s))) }
 {
-    let mut collected = Collected {
+    let mut so_far = ReadSoFar {
         kept: Vec::new(alloc),
         rereads: 0,
         refusals: Vec::new(alloc),
     };
-    // One slot for all, so that none is made and let go of a token.
+    // One slot for all, so that none is made and let go of for each token.
     let mut slot = None;
-    'tokens: while collected.read_next(lexer, &mut slot, slashes)? {}
-    Ok(collected)
+    'tokens: while so_far.read_next(lexer, &mut slot, slashes)? {}
+    Ok(so_far)
 }
 
 /// What [`gather_by`](crate::gather_by) tells of a text, how many slashes were read again, and the errors of the tokens
@@ -154,11 +155,11 @@ pub fn read_out<'a>(
         (text_steps_by (rule_of slashes.entry) settings.now context record { start = start.0; text = chars source.now; at = 0 })) }
 {
     let mut lexer = begun(alloc, settings, context, source, start)?;
-    let Collected {
+    let ReadSoFar {
         kept,
         rereads,
         refusals,
-    } = collect(alloc, &mut lexer, slashes)?;
+    } = read_rest(alloc, &mut lexer, slashes)?;
     Ok(ReadOut {
         gathered: gathered(kept, lexer),
         rereads,

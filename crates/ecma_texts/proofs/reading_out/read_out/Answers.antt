@@ -9,8 +9,8 @@ use Rattle.ecma_texts.proofs.KeepingLemmas.{text-run}
 use Rattle.ecma_texts.proofs.ReadingLemmas.{few-tokens, text-rereads}
 use Rattle.ecma_texts.proofs.reading_out.read_out.Goals as goal
 
-pub collect-requires-clause-short : goal.collect-requires-clause-short
-collect-requires-clause-short c =
+pub read_rest-requires-clause-short : goal.read_rest-requires-clause-short
+read_rest-requires-clause-short c =
     few-tokens c.args.settings.now c.args.context c.args.start.0 c.args.source.now (lexer_state c.in_ok-lexer.lexer) c.in_ok-lexer.ensures.shows c.utf8.source c.requires.fits
 
 pub returns : goal.returns

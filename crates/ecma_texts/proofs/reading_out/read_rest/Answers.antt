@@ -1,9 +1,9 @@
 use Rattle.std.proofs.Common.{◌∙◌, Bool, ap, arith, refl, subst, sym}
 use Rattle.ecma_state.specs.Session.{lexer_state}
 use Rattle.ecma_slashes.specs.Rereads.{rule_of}
-use Rattle.ecma_texts.specs.ReadingOut.{CollectsOn}
+use Rattle.ecma_texts.specs.ReadingOut.{ReadsOn}
 use Rattle.ecma_texts.proofs.ReadingLemmas.{going-end, going-next, going-start}
-use Rattle.ecma_texts.proofs.reading_out.collect.Goals as goal
+use Rattle.ecma_texts.proofs.reading_out.read_rest.Goals as goal
 
 pub tokens-init : goal.tokens-init
 tokens-init c = (
@@ -21,8 +21,8 @@ tokens-preserved c =
       λ s at none.
           let going = c.tokens.invariant.0 s at none in
           let on = ok.steps going.so.here going.steps (sym going.so.shows) going.tells in
-          going-next (rule_of c.args.slashes) s c.tokens.collected c.read_next.new.self (lexer_state c.tokens.lexer) (lexer_state c.read_next.new.lexer) going
-          (subst (λ (b : Bool). CollectsOn (rule_of c.args.slashes) going.so.here going.steps c.read_next.new.self b (lexer_state c.read_next.new.lexer)) c.if-branch.true on),
+          going-next (rule_of c.args.slashes) s c.tokens.so_far c.read_next.new.self (lexer_state c.tokens.lexer) (lexer_state c.read_next.new.lexer) going
+          (subst (λ (b : Bool). ReadsOn (rule_of c.args.slashes) going.so.here going.steps c.read_next.new.self b (lexer_state c.read_next.new.lexer)) c.if-branch.true on),
       (ok.no_reread, omega (arith, less, rare, again)),
     )
 
@@ -31,13 +31,13 @@ returns-clause-told c = λ s at none.
     let ok = c.in_ok-read_next.ensures in
     let going = c.tokens.invariant.0 s at none in
     let on = ok.steps going.so.here going.steps (sym going.so.shows) going.tells in
-    (going-end (rule_of c.args.slashes) s c.tokens.collected c.read_next.new.self (lexer_state c.tokens.lexer) (lexer_state c.read_next.new.lexer) going
-    (subst (λ (b : Bool). CollectsOn (rule_of c.args.slashes) going.so.here going.steps c.read_next.new.self b (lexer_state c.read_next.new.lexer)) c.if-branch.false on)).0
+    (going-end (rule_of c.args.slashes) s c.tokens.so_far c.read_next.new.self (lexer_state c.tokens.lexer) (lexer_state c.read_next.new.lexer) going
+    (subst (λ (b : Bool). ReadsOn (rule_of c.args.slashes) going.so.here going.steps c.read_next.new.self b (lexer_state c.read_next.new.lexer)) c.if-branch.false on)).0
 
 pub returns-clause-after : goal.returns-clause-after
 returns-clause-after c = λ s at none.
     let ok = c.in_ok-read_next.ensures in
     let going = c.tokens.invariant.0 s at none in
     let on = ok.steps going.so.here going.steps (sym going.so.shows) going.tells in
-    (going-end (rule_of c.args.slashes) s c.tokens.collected c.read_next.new.self (lexer_state c.tokens.lexer) (lexer_state c.read_next.new.lexer) going
-    (subst (λ (b : Bool). CollectsOn (rule_of c.args.slashes) going.so.here going.steps c.read_next.new.self b (lexer_state c.read_next.new.lexer)) c.if-branch.false on)).1
+    (going-end (rule_of c.args.slashes) s c.tokens.so_far c.read_next.new.self (lexer_state c.tokens.lexer) (lexer_state c.read_next.new.lexer) going
+    (subst (λ (b : Bool). ReadsOn (rule_of c.args.slashes) going.so.here going.steps c.read_next.new.self b (lexer_state c.read_next.new.lexer)) c.if-branch.false on)).1
