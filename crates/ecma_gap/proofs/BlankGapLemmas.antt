@@ -7,6 +7,7 @@ use Rattle.std.proofs.lemmas.Bool.{or_parts}
 use Rattle.ecma_place.specs.Text.{Text}
 use Rattle.ecma_place.specs.Character.{is_white_space, is_line_terminator}
 use Rattle.ecma_place.specs.Cursor.{Cursor, ascii_of, rest, place, passed}
+use Rattle.ecma_place.proofs.CursorLemmas.{ascii-is}
 use Rattle.ecma_gap.specs.BlankGaps.{IsBlankGap, IsTold, may_begin, told_of}
 use Rattle.ecma_gap.specs.declared.blank_gap.BlankGap.{BlankGap}
 use Rattle.ecma_grammar.specs.Comments.{collected, comments_of}
@@ -103,15 +104,6 @@ pub none-next : (mode : GapMode) (flag : Bool) (text : Text) (c : ℕ) → slice
     → element mode flag text ≡ None
 none-next mode flag [] c e white none = cc
 none-next mode flag (d ∷ ds) c e white none = none-begins mode flag d ds white none
-
--- a byte that is ASCII is the first character
-pub ascii-is : (first : Option ℕ) (b : ℕ) → ascii_of first ≡ Some b → first ≡ Some b
-ascii-is None b e = cc
-ascii-is (Some c) b e = go (nat_lt c 128) e
-  where
-    go : (x : Bool) → cond x (Some c) None ≡ Some b → Some c ≡ Some b
-    go true e = e
-    go false e = cc
 
 -- what is told at a text
 pub record Tells (flag : Bool) (text : Text) (gap : BlankGap) : Type 0 where

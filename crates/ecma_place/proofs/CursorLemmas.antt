@@ -1,5 +1,5 @@
 -- What the bytes and the offset of an input say of its characters.
-use Rattle.std.proofs.Common.{◌≡◌, Bor, ℕ, ◌+◌, ◌-◌, ◌<◌, ◌≤◌, List, [], ◌∷◌, ◌++◌, length, take, drop, refl, sym, ap, subst, ◌∙◌, arith, length-append, take-append-drop, take_at, drop_at, length-take-le, length-drop, drop-cons, nat_le, nat_eq, append_assoc, encode_utf8, encode_utf8_all, Option, None, Some, is_some, IfSome, slice_get, get_or, ◌↔◌, slice_range, zero, suc, Bool, true, false, ◌&&◌, take-add, IsUtf8, IsCharBoundary, ⊎_elim, if◌then◌else◌, nat_lt}
+use Rattle.std.proofs.Common.{◌≡◌, Bor, ℕ, ◌+◌, ◌-◌, ◌<◌, ◌≤◌, List, [], ◌∷◌, ◌++◌, length, take, drop, refl, sym, ap, subst, ◌∙◌, arith, length-append, take-append-drop, take_at, drop_at, length-take-le, length-drop, drop-cons, nat_le, nat_eq, append_assoc, encode_utf8, encode_utf8_all, Option, None, Some, is_some, IfSome, slice_get, get_or, ◌↔◌, slice_range, zero, suc, Bool, true, false, ◌&&◌, take-add, IsUtf8, IsCharBoundary, ⊎_elim, if◌then◌else◌, nat_lt, cond}
 use Rattle.std.specs.Str.{chars, all_scalars}
 use Rattle.std.specs.Char.{len_utf8, IsScalar}
 use Rattle.std.proofs.lemmas.Str.{chars-nil, chars-append, encode_ascii, char_from_byte, cons_from_encodes, IsCharBoundary-from_take, encodes-append, scalars-chars, IsCharBoundary-at_seam, IsUtf8-between, length-encode, len_utf8_bounds, encodes-chars, chars_past_char, IsUtf8-take, IsUtf8-drop, IsUtf8-from_is_utf8, drop_past_char, IsCharBoundary-past_char, IsCharBoundary-after_ascii, IsCharBoundary-from_rest}
@@ -320,3 +320,12 @@ ascii-places t s o k c (Some b) e i got = λ low.
       HasPlace-seen t s o (place c + k) c e i (omega arith) (rw first (IsCharBoundary-from_rest t o k i.cut.0 cuts.0)),
       HasPlace-seen t s o (place c + (k + 1)) c e i (omega arith) (rw second (IsCharBoundary-from_rest t o (k + 1) i.cut.0 cuts.1)),
     )
+
+-- a byte that is ASCII is the first character
+pub ascii-is : (first : Option ℕ) (b : ℕ) → ascii_of first ≡ Some b → first ≡ Some b
+ascii-is None b e = cc
+ascii-is (Some c) b e = go (nat_lt c 128) e
+  where
+    go : (x : Bool) → cond x (Some c) None ≡ Some b → Some c ≡ Some b
+    go true e = e
+    go false e = cc

@@ -18,4 +18,4 @@ pub use character::CharExt;
 pub use comment::{Comment, CommentKind, Comments};
 pub use input::StringInput;
 pub use place::{BytePos, Span, Spanned};
-pub use run::{ByteClass, Quote, part_lanes, plain_lanes, white_lanes};
+pub use run::{ByteClass, Quote, part_lanes, plain_lanes, template_lanes, white_lanes};

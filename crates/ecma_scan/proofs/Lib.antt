@@ -1,10 +1,10 @@
 pub mod CharacterLaws
 pub mod CommentLaws
 pub mod ExpressionReading
-pub mod PunctuatorLaws
+pub use Rattle.ecma_punctuator.proofs.PunctuatorLaws
 pub mod SeparationLaws
-pub mod ShebangLaws
-pub mod ShebangLemmas
+pub use Rattle.ecma_punctuator.proofs.ShebangLaws
+pub use Rattle.ecma_punctuator.proofs.ShebangLemmas
 pub use Rattle.ecma_grammar.proofs.Agreement
 pub use Rattle.ecma_grammar.proofs.ForNextLemmas
 pub use Rattle.ecma_gap.proofs.BarsLaws

@@ -1,4 +1,4 @@
-pub mod PunctuatorKinds
+pub use Rattle.ecma_punctuator.specs.PunctuatorKinds
 pub use Rattle.ecma_grammar.specs.Bars
 pub use Rattle.ecma_grammar.specs.Comments
 pub use Rattle.ecma_grammar.specs.Cutters

@@ -1,10 +1,6 @@
 //! The readers of the lexical grammar: each reads one kind of text from a cursor on, and says what it found.
 #![tactic(auto)]
 
-pub mod punctuator;
-pub mod punctuator_kind;
-pub mod shebang;
-
 pub use ecma_escape::{eat_plain_kind, eat_plain_word, scan_escape, scan_word, word};
 pub use ecma_gap::{
     Bars, BlankGap, Gap, SkipWhitespace, bars, blank_gap, gap, scan_bars, scan_blank_gap, scan_gap,
@@ -15,6 +11,6 @@ pub use ecma_literal::{
     eat_plain_string, expression, scan_regexp, scan_string, scan_template, string, template,
 };
 pub use ecma_number::{eat_plain_number, number, scan_number};
-pub use punctuator::{eat_punctuator, scan_punct};
-pub use punctuator_kind::PunctuatorKind;
-pub use shebang::scan_shebang;
+pub use ecma_punctuator::{
+    PunctuatorKind, eat_punctuator, punctuator, punctuator_kind, scan_punct, scan_shebang, shebang,
+};

@@ -12,7 +12,8 @@ use Rattle.ecma_place.proofs.MoveLemmas.{span-passed}
 use Rattle.ecma_syntax.specs.declared.word.Word.{Word}
 use Rattle.ecma_token.specs.View.{SpannedView, plain_token, token_view}
 use Rattle.ecma_token.specs.declared.token.Token as token
-use Rattle.ecma_gap.proofs.BlankGapLemmas.{ascii-is, told}
+use Rattle.ecma_place.proofs.CursorLemmas.{ascii-is}
+use Rattle.ecma_gap.proofs.BlankGapLemmas.{told}
 use Rattle.ecma_scan.specs.BlankGaps.{IsBlankGap, IsTold, may_begin, told_of}
 use Rattle.ecma_scan.specs.declared.blank_gap.BlankGap.{BlankGap}
 use Rattle.ecma_scan.specs.Comments.{collected, comments_at}

@@ -1,4 +1,2 @@
-pub mod Finding
 pub mod ShortLemmas
-pub mod TableLemmas
 pub mod Words

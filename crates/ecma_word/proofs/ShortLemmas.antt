@@ -1,5 +1,5 @@
 -- What a row at the place of a text says of it, and equal fronts by lanes.
-use Rattle.std.proofs.Common.{◌≡◌, ℕ, ◌+◌, ◌-◌, ◌*◌, ◌%◌, ◌^◌, ◌<◌, ◌≤◌, Bool, true, false, ◌&&◌, not, List, [], ◌∷◌, map, find, cond, length, take, slice_index_or, zero, suc, refl, sym, ◌∙◌, ap, nat_eq, arith, one-add, Option, None, Some, unwrap_or, true≢false, bit_or, leb, eqb}
+use Rattle.std.proofs.Common.{◌≡◌, ℕ, ◌+◌, ◌-◌, ◌*◌, ◌%◌, ◌^◌, ◌<◌, ◌≤◌, Bool, true, false, ◌&&◌, not, List, [], ◌∷◌, map, find, cond, length, take, slice_index_or, zero, suc, refl, sym, ◌∙◌, ap, nat_eq, nat_le, arith, one-add, Option, None, Some, unwrap_or, true≢false, bit_or, leb, eqb}
 use Rattle.std.specs.List.{list_all, prefix_len}
 use Rattle.std.specs.Cmp.Lexicographic.{pointwise}
 use Rattle.std.proofs.Math.Dec.{leb-zero, leb-suc-zero, leb-suc-suc}
@@ -15,7 +15,6 @@ use Rattle.ecma_place.proofs.LaneLemmas.{first_of_16}
 use Rattle.ecma_word.specs.ShortWords.{hash, no_row, row_kind, row_word, row_for, holds, is_placed}
 use Rattle.ecma_word.specs.Table.{table_of_words, has_text}
 use Rattle.ecma_word.specs.Word.{word_of, word_text, word_kind}
-use Rattle.ecma_word.proofs.TableLemmas.{looked_up, words_with-none}
 use Rattle.ecma_word.proofs.Words.{words_are_looked_up, find-holds}
 use Rattle.ecma_word.specs.declared.short_words.Row.{Row}
 use Rattle.ecma_word.specs.declared.word.IdentLike.TheVariants.{Other}
@@ -78,10 +77,27 @@ no-word rows text all lacks = go (find (has_text text) table_of_words) refl ∙ 
         let placed : holds text (row_for rows text) ≡ true = rw same at (found-all (has_text text) (is_placed rows) table_of_words word all e) in
         absurd (true≢false (sym placed ∙ lacks))
 
+-- every word of the table has 2 to 10 bytes
+is_within : Word → Bool
+is_within word = nat_le 2 (length (word_text word)) && nat_le (length (word_text word)) 10
+
+all-within : list_all is_within table_of_words ≡ true
+unfolding is_within table_of_words
+all-within = refl
+
 -- a text that is shorter or longer than all words of the table
 pub no-length : (text : List ℕ) (n : ℕ) → length text ≡ n → ((k : ℕ) → 2 ≤ k → k ≤ 10 → nat_eq k n ≡ false) → kind.Ident ident_kind.Other ≡ word_kind (word_of text)
-no-length text n long none =
-    looked_up text [] (rw (long, words_with-none n (slice_index_or text 0 0) (λ k b p q r s. rw (none k p q) refl)) refl)
+unfolding is_within
+no-length text n long none = go (find (has_text text) table_of_words) refl ∙ ap word_kind (sym (words_are_looked_up text))
+  where
+    go : (o : Option Word) → find (has_text text) table_of_words ≡ o → kind.Ident ident_kind.Other ≡ word_kind (unwrap_or o (w.Ident (Other (borrowed_atom text))))
+    go None e = refl
+    go (Some word) e =
+        let same : word_text word ≡ text = (bytes_eq-Decides (word_text word) text).0 (find-holds (has_text text) table_of_words word e) in
+        let within : is_within word ≡ true = found-all (has_text text) is_within table_of_words word all-within e in
+        let count : length (word_text word) ≡ n = ap length same ∙ long in
+        let other = none (length (word_text word)) (grind (arith, nat_tests)) (grind (arith, nat_tests)) in
+        absurd (grind (arith, nat_tests))
 
 -- where the row at its place has its length and its text, it is that row's word
 pub its-word : (rows : List Row) (bytes : List ℕ) (i n : ℕ) → map row_kind rows ≡ map row_word rows → i < length rows → (slice_index_or rows i no_row).length ≡ n

@@ -3,7 +3,7 @@ ghost use Rattle.std.specs.Prelude.{◌≡◌, Some, None, MatchResult};
 ghost use Rattle.ecma_place.specs.Atom.{borrowed_atom};
 ghost use Rattle.ecma_word.specs.KnownIdent.{known_text, known_of};
 
-use crate::table;
+use crate::short_words;
 use ecma_place::Atom;
 use std::fmt;
 use std::str::FromStr;
@@ -116,7 +116,7 @@ impl FromStr for KnownIdent {
     ghost from_str_gives = { λ text r. MatchResult r (λ k. known_of text ≡ Some k) (λ _. known_of text ≡ None) };
 
     fn from_str(text: &str) -> Result<KnownIdent, ()> {
-        table::kind_of(text).known().ok_or(())
+        short_words::kind_of(text).known().ok_or(())
     }
 }
 

@@ -5,7 +5,6 @@ pub mod keyword;
 pub mod known_ident;
 pub mod operator;
 pub mod short_words;
-mod table;
 pub mod word;
 
 pub use keyword::Keyword;

@@ -368,3 +368,16 @@ pub fn kind_in(chunk: &[u8; 16], length: u32) -> WordKind
     }
     WordKind::Ident(IdentKind::Other)
 }
+
+/// What the word with this text is. It takes no memory, and compares with one row at most.
+pub(crate) fn kind_of(text: &str) -> WordKind
+    ensures { result ≡ word_kind (word_of text.now) }
+{
+    let bytes = text.as_bytes();
+    if bytes.len() > 10 {
+        return WordKind::Ident(IdentKind::Other);
+    }
+    let mut chunk = [0; 16];
+    chunk[..bytes.len()].copy_from_slice(bytes);
+    kind_in(&chunk, bytes.len() as u32)
+}

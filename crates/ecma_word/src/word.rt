@@ -6,7 +6,7 @@ ghost use Rattle.ecma_word.specs.declared.word.WordKind.TheVariants as a_kind;
 
 use crate::keyword::Keyword;
 use crate::known_ident::KnownIdent;
-use crate::table;
+use crate::short_words;
 use ecma_place::Atom;
 use std::alloc::{AllocError, Global};
 use std::convert::AsStr;
@@ -109,14 +109,14 @@ impl<'a> Word<'a> {
     pub fn from_str(text: &'a str) -> Word<'a>
         ensures { result ≡ word_of text.now }
     {
-        Word::of_kind(table::kind_of(text), text)
+        Word::of_kind(short_words::kind_of(text), text)
     }
 
     /// What the word with this text is. It takes no memory.
     pub fn kind_of(text: &str) -> WordKind
         ensures { result ≡ word_kind (word_of text.now) }
     {
-        table::kind_of(text)
+        short_words::kind_of(text)
     }
 
     /// The word of this kind; an other name borrows the text. It takes no memory.

@@ -1,0 +1,3 @@
+pub mod PunctuatorLaws
+pub mod ShebangLaws
+pub mod ShebangLemmas

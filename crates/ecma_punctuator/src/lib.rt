@@ -1,0 +1,10 @@
+//! Punctuators, and the shebang.
+#![tactic(auto)]
+
+pub mod punctuator;
+pub mod punctuator_kind;
+pub mod shebang;
+
+pub use punctuator::{eat_punctuator, scan_punct};
+pub use punctuator_kind::PunctuatorKind;
+pub use shebang::scan_shebang;
