@@ -1,3 +1,4 @@
+pub mod AloneLemmas
 pub mod PunctuatorLaws
 pub mod ShebangLaws
 pub mod ShebangLemmas

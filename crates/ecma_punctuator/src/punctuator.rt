@@ -10,6 +10,7 @@ ghost use Rattle.ecma_grammar.specs.Punctuators.{first_of, punctuators, token_in
 ghost use Rattle.ecma_place.specs.Text.{Text};
 ghost use Rattle.ecma_token.specs.View.{token_view};
 
+use crate::alone::{alone_kind, is_lone};
 use crate::punctuator_kind::PunctuatorKind;
 use ecma_grammar::found::Found;
 use ecma_place::{Span, StringInput};
@@ -283,28 +284,20 @@ fn behind_question(input: &mut StringInput) -> PunctuatorKind
 
 /// The punctuator that is this character, whatever follows it.
 #[inline(always)]
-#[tactic(auto, unfolding(ecma_grammar::specs::Punctuators::is_lone))]
 fn lone(first: char) -> Option<PunctuatorKind>
     ensures some { IfSome result (λ kind. (text : Text) →
         first_of punctuators (first ∷ text) ≡ Some (spells (first ∷ []) (kind_token kind))) }
     ensures lone { IfSome result (λ _. is_lone first ≡ true) }
     ensures none { IfNone result (is_lone first ≡ false) }
 {
-    match first {
-        '{' => Some(PunctuatorKind::LBrace),
-        '}' => Some(PunctuatorKind::RBrace),
-        '(' => Some(PunctuatorKind::LParen),
-        ')' => Some(PunctuatorKind::RParen),
-        '[' => Some(PunctuatorKind::LBracket),
-        ']' => Some(PunctuatorKind::RBracket),
-        ';' => Some(PunctuatorKind::Semi),
-        ',' => Some(PunctuatorKind::Comma),
-        '~' => Some(PunctuatorKind::Tilde),
-        '@' => Some(PunctuatorKind::At),
-        '#' => Some(PunctuatorKind::Hash),
-        ':' => Some(PunctuatorKind::Colon),
-        '`' => Some(PunctuatorKind::BackQuote),
-        _ => None,
+    if !first.is_ascii() {
+        return None;
+    }
+    let first = first as u8;
+    if is_lone(first) {
+        alone_kind(first)
+    } else {
+        None
     }
 }
 

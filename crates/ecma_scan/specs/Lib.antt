@@ -1,3 +1,4 @@
+pub use Rattle.ecma_punctuator.specs.Alone
 pub use Rattle.ecma_punctuator.specs.PunctuatorKinds
 pub use Rattle.ecma_grammar.specs.Bars
 pub use Rattle.ecma_grammar.specs.Comments

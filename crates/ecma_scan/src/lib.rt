@@ -12,5 +12,6 @@ pub use ecma_literal::{
 };
 pub use ecma_number::{eat_plain_number, number, scan_number};
 pub use ecma_punctuator::{
-    PunctuatorKind, eat_punctuator, punctuator, punctuator_kind, scan_punct, scan_shebang, shebang,
+    PunctuatorKind, alone, alone_kind, eat_punctuator, punctuator, punctuator_kind, scan_punct,
+    scan_shebang, shebang, stands_alone,
 };

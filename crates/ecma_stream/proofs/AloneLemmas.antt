@@ -1,29 +1,28 @@
 -- Punctuators of one character, and the first character of a word: what they open.
-use Rattle.std.proofs.Common.{◌≡◌, ℕ, ◌<◌, ◌≤◌, Bool, true, false, not, ◌&&◌, ◌==◌, [], ◌∷◌, length, take, drop, Some, slice_get, refl, sym, ap, subst, ◌∙◌, eqb-true, eq-eqb, true≢false, arith, nat_lt}
+use Rattle.std.proofs.Common.{◌≡◌, ℕ, ◌<◌, ◌≤◌, ⊥, Bool, true, false, ◌&&◌, ◌||◌, ◌==◌, [], ◌∷◌, length, take, drop, Some, slice_get, refl, sym, ap, subst, ◌∙◌, eqb-true, true≢false, arith, nat_lt}
+use Rattle.std.proofs.Math.Bool.{and-false}
+use Rattle.std.proofs.lemmas.Bool.{and_parts}
 use Rattle.std.proofs.lemmas.Bool.Decides.{nat_tests}
-use Rattle.std.specs.Prelude.{encode_utf8_all}
-use Rattle.std.specs.Char.{is_ascii, is_ascii_digit}
+use Rattle.std.specs.Char.{is_ascii}
 use Rattle.ecma_place.specs.Character.{is_ident_start}
 use Rattle.ecma_place.specs.Text.{Text}
-use Rattle.ecma_place.proofs.CursorLemmas.{first_byte}
 use Rattle.ecma_place.proofs.RunLemmas.{first-cons}
-use Rattle.ecma_syntax.specs.declared.operator.AssignOp.TheVariants as assign
-use Rattle.ecma_syntax.specs.declared.operator.BinOpToken.TheVariants as bin
 use Rattle.ecma_token.specs.declared.token.Radix.TheVariants.{Decimal}
+use Rattle.ecma_token.specs.declared.token.Token.{Token}
+use Rattle.ecma_grammar.proofs.PunctuatorLemmas.{first_of-none}
+use Rattle.ecma_scan.specs.Alone.{IsSpelledBy, StandsAlone}
 use Rattle.ecma_scan.specs.Bars.{opens_bars}
-use Rattle.ecma_scan.specs.Fronts.{next_is, next_passes}
-use Rattle.ecma_scan.specs.Numbers.{digit, opens_number}
+use Rattle.ecma_scan.specs.Numbers.{digit, opens_fraction, opens_number}
 use Rattle.ecma_scan.specs.Strings.{opens_string}
 use Rattle.ecma_scan.specs.Words.{opens_word}
-use Rattle.ecma_scan.specs.Punctuators.{first_of, punctuators, spells}
+use Rattle.ecma_scan.specs.Punctuators.{begins_more, first_of, is_lone, longest, punctuator_in, punctuators, spells}
 use Rattle.ecma_scan.specs.PunctuatorKinds.{kind_token}
 use Rattle.ecma_scan.specs.declared.punctuator_kind.PunctuatorKind.{PunctuatorKind}
-use Rattle.ecma_scan.specs.declared.punctuator_kind.PunctuatorKind.TheVariants as kinds
 use Rattle.ecma_state.specs.Mode.{is_template}
 use Rattle.ecma_state.specs.TokenAt.{lookahead, lookahead_from}
 use Rattle.ecma_state.specs.declared.mode.Mode.{Mode}
 use Rattle.ecma_state.specs.declared.lookahead.Lookahead.TheVariants as opens
-use Rattle.ecma_stream.specs.Plain.{IsAlone, OperatesAlone, begins_word}
+use Rattle.ecma_stream.specs.Plain.{begins_word}
 
 -- nothing else is opened where no other reader's question is answered so
 other-opens : (mode : Mode) (flag : Bool) (text : Text) → is_template mode.top ≡ false → opens_number text ≡ false → opens_string text ≡ false → opens_word text ≡ false
@@ -34,244 +33,88 @@ other-opens mode flag text template number string word bars = rw (template, numb
     go true = refl
     go false = refl
 
--- what is read of a character in both modes
-both : (P : Bool → Type 0) → P true → P false → (b : Bool) → P b
-both P t f true = t
-both P t f false = f
+-- what begins a punctuator begins nothing else
 
-left-paren : (cs : Text) → IsAlone kinds.LParen (40 ∷ cs)
-unfolding is_ident_start
-left-paren cs = record { opens = λ mode flag e. other-opens mode flag (40 ∷ cs) e refl refl refl refl; found = both _ refl refl }
+starts : ℕ → Bool
+starts c = is_lone c || begins_more c
 
-right-paren : (cs : Text) → IsAlone kinds.RParen (41 ∷ cs)
-unfolding is_ident_start
-right-paren cs = record { opens = λ mode flag e. other-opens mode flag (41 ∷ cs) e refl refl refl refl; found = both _ refl refl }
-
-left-brace : (cs : Text) → IsAlone kinds.LBrace (123 ∷ cs)
-unfolding is_ident_start
-left-brace cs = record { opens = λ mode flag e. other-opens mode flag (123 ∷ cs) e refl refl refl refl; found = both _ refl refl }
-
-right-brace : (cs : Text) → IsAlone kinds.RBrace (125 ∷ cs)
-unfolding is_ident_start
-right-brace cs = record { opens = λ mode flag e. other-opens mode flag (125 ∷ cs) e refl refl refl refl; found = both _ refl refl }
-
-left-bracket : (cs : Text) → IsAlone kinds.LBracket (91 ∷ cs)
-unfolding is_ident_start
-left-bracket cs = record { opens = λ mode flag e. other-opens mode flag (91 ∷ cs) e refl refl refl refl; found = both _ refl refl }
-
-right-bracket : (cs : Text) → IsAlone kinds.RBracket (93 ∷ cs)
-unfolding is_ident_start
-right-bracket cs = record { opens = λ mode flag e. other-opens mode flag (93 ∷ cs) e refl refl refl refl; found = both _ refl refl }
-
-semi : (cs : Text) → IsAlone kinds.Semi (59 ∷ cs)
-unfolding is_ident_start
-semi cs = record { opens = λ mode flag e. other-opens mode flag (59 ∷ cs) e refl refl refl refl; found = both _ refl refl }
-
-comma : (cs : Text) → IsAlone kinds.Comma (44 ∷ cs)
-unfolding is_ident_start
-comma cs = record { opens = λ mode flag e. other-opens mode flag (44 ∷ cs) e refl refl refl refl; found = both _ refl refl }
-
-colon : (cs : Text) → IsAlone kinds.Colon (58 ∷ cs)
-unfolding is_ident_start
-colon cs = record { opens = λ mode flag e. other-opens mode flag (58 ∷ cs) e refl refl refl refl; found = both _ refl refl }
-
--- the same of any text that begins with the character
-from : (kind : PunctuatorKind) (c : ℕ) (text : Text) → ((cs : Text) → IsAlone kind (c ∷ cs)) → slice_get text 0 ≡ Some c → IsAlone kind text
-from kind c text all e = subst (IsAlone kind) (sym (first-cons text c e)) (all (drop 1 text))
-
-pub left-paren-alone : (text : Text) → slice_get text 0 ≡ Some 40 → IsAlone kinds.LParen text
-left-paren-alone text e = from kinds.LParen 40 text left-paren e
-
-pub right-paren-alone : (text : Text) → slice_get text 0 ≡ Some 41 → IsAlone kinds.RParen text
-right-paren-alone text e = from kinds.RParen 41 text right-paren e
-
-pub left-brace-alone : (text : Text) → slice_get text 0 ≡ Some 123 → IsAlone kinds.LBrace text
-left-brace-alone text e = from kinds.LBrace 123 text left-brace e
-
-pub right-brace-alone : (text : Text) → slice_get text 0 ≡ Some 125 → IsAlone kinds.RBrace text
-right-brace-alone text e = from kinds.RBrace 125 text right-brace e
-
-pub left-bracket-alone : (text : Text) → slice_get text 0 ≡ Some 91 → IsAlone kinds.LBracket text
-left-bracket-alone text e = from kinds.LBracket 91 text left-bracket e
-
-pub right-bracket-alone : (text : Text) → slice_get text 0 ≡ Some 93 → IsAlone kinds.RBracket text
-right-bracket-alone text e = from kinds.RBracket 93 text right-bracket e
-
-pub semi-alone : (text : Text) → slice_get text 0 ≡ Some 59 → IsAlone kinds.Semi text
-semi-alone text e = from kinds.Semi 59 text semi e
-
-pub comma-alone : (text : Text) → slice_get text 0 ≡ Some 44 → IsAlone kinds.Comma text
-comma-alone text e = from kinds.Comma 44 text comma e
-
-pub colon-alone : (text : Text) → slice_get text 0 ≡ Some 58 → IsAlone kinds.Colon text
-colon-alone text e = from kinds.Colon 58 text colon e
-
--- what the second byte tells of the second character
-
-not-next : (cs : Text) (k b : ℕ) → k < 128 → slice_get (encode_utf8_all cs) 0 ≡ Some b → (b == k) ≡ false → next_is k cs ≡ false
-not-next [] k b l at other = refl
-not-next (c ∷ cs) k b l at other = go (c == k) refl
+starts-spelled : (c : ℕ) (kind : PunctuatorKind) → IsSpelledBy c kind → starts c ≡ true
+unfolding starts
+starts-spelled c kind spelled = go (is_lone c) (begins_more c) refl refl
   where
-    go : (is : Bool) → (c == k) ≡ is → is ≡ false
+    go : (x y : Bool) → is_lone c ≡ x → begins_more c ≡ y → (x || y) ≡ true
+    go true y e f = refl
+    go false true e f = refl
+    go false false e f =
+        let none = ap (λ b. longest b (c ∷ [])) (and-false (c == 46)) ∙ first_of-none c [] e f in
+        let some = spelled false in
+        cc
+
+no-word : (c : ℕ) → starts c ≡ true → is_ident_start c ≡ false
+unfolding starts is_lone begins_more is_ident_start
+no-word c h = grind (arith, nat_tests)
+
+no-number : (c : ℕ) → starts c ≡ true → digit Decimal c ≡ false
+unfolding starts is_lone begins_more
+no-number c h = grind (arith, nat_tests)
+
+no-quote : (c : ℕ) → starts c ≡ true → ((c == 34) ≡ false) × ((c == 39) ≡ false) × ((c == 92) ≡ false)
+unfolding starts is_lone begins_more
+no-quote c h = (grind (arith, nat_tests), grind (arith, nat_tests), grind (arith, nat_tests))
+
+abbrev SpelledAs : ℕ → Text → Type 0
+SpelledAs c text = (token : Token) × (punctuator_in false text ≡ Some (spells (c ∷ []) token))
+
+no-fraction : (c : ℕ) (cs : Text) → SpelledAs c (c ∷ cs) → opens_fraction (c ∷ cs) ≡ false
+no-fraction c cs is = go (opens_fraction (c ∷ cs)) is.1 refl
+  where
+    go : (x : Bool) → longest x (c ∷ cs) ≡ Some (spells (c ∷ []) is.0) → opens_fraction (c ∷ cs) ≡ x → x ≡ false
+    go false e f = refl
+    go true e f = cc
+
+two-bars : (cs : Text) (token : Token) → first_of punctuators (124 ∷ 124 ∷ cs) ≡ Some (spells (124 ∷ []) token) → ⊥
+two-bars [] token e = cc
+two-bars (d ∷ ds) token e = go (d == 61) refl e
+  where
+    go : (x : Bool) → (d == 61) ≡ x → first_of punctuators (124 ∷ 124 ∷ d ∷ ds) ≡ Some (spells (124 ∷ []) token) → ⊥
+    go true f e = rw f at e
+    go false f e = rw f at e
+
+no-bars : (c : ℕ) (cs : Text) → SpelledAs c (c ∷ cs) → opens_bars (c ∷ cs) ≡ false
+no-bars c [] is = and-false (c == 124)
+no-bars c (d ∷ ds) is = go (opens_bars (c ∷ d ∷ ds)) refl
+  where
+    go : (x : Bool) → opens_bars (c ∷ d ∷ ds) ≡ x → x ≡ false
     go false e = refl
     go true e =
-        let same : c ≡ k = eqb-true c k e in
-        let byte : slice_get (encode_utf8_all (c ∷ cs)) 0 ≡ Some k = (first_byte (c ∷ cs) k l).1 (ap Some same) in
-        let equal : b ≡ k = cc in
-        absurd (true≢false (sym (eq-eqb b k equal) ∙ other))
+        let one = and_parts (c == 124) _ e in
+        let two = and_parts (d == 124) _ one.1 in
+        let first : c ≡ 124 = eqb-true c 124 one.0 in
+        let second : d ≡ 124 = eqb-true d 124 two.0 in
+        absurd (two-bars ds is.0 (rw (first, second) at is.1))
 
-digit-ascii : (c : ℕ) → digit Decimal c ≡ true → c < 128
-digit-ascii c h = grind (arith, nat_tests)
+spelled-as : (c : ℕ) (kind : PunctuatorKind) (cs : Text) → IsSpelledBy c kind → StandsAlone (c ∷ cs) → SpelledAs c (c ∷ cs)
+spelled-as c kind cs spelled alone = (kind_token kind, alone false ∙ spelled false)
 
-no-digit : (cs : Text) (b : ℕ) → slice_get (encode_utf8_all cs) 0 ≡ Some b → digit Decimal b ≡ false → next_passes (digit Decimal) cs ≡ false
-no-digit [] b at other = refl
-no-digit (c ∷ cs) b at other = go (digit Decimal c) refl
-  where
-    go : (is : Bool) → digit Decimal c ≡ is → is ≡ false
-    go false e = refl
-    go true e =
-        let byte : slice_get (encode_utf8_all (c ∷ cs)) 0 ≡ Some c = (first_byte (c ∷ cs) c (digit-ascii c e)).1 refl in
-        let equal : b ≡ c = cc in
-        absurd (true≢false (sym e ∙ ap (digit Decimal) (sym equal) ∙ other))
+opens-other : (c : ℕ) (kind : PunctuatorKind) (cs : Text) (mode : Mode) (flag : Bool) → IsSpelledBy c kind → StandsAlone (c ∷ cs) → is_template mode.top ≡ false
+    → lookahead mode flag (c ∷ cs) ≡ opens.Other
+opens-other c kind cs mode flag spelled alone template =
+    let starts = starts-spelled c kind spelled in
+    let is = spelled-as c kind cs spelled alone in
+    let quote = no-quote c starts in
+    other-opens mode flag (c ∷ cs) template (rw (no-number c starts, no-fraction c cs is) refl) (rw (quote.0, quote.1) refl) (rw (no-word c starts, quote.2) refl) (no-bars c cs is)
 
-dot : (cs : Text) (b : ℕ) → slice_get (encode_utf8_all cs) 0 ≡ Some b → (b == 46) ≡ false → digit Decimal b ≡ false → IsAlone kinds.Dot (46 ∷ cs)
-unfolding is_ident_start
-dot cs b at no-point no-number =
-    let point : next_is 46 cs ≡ false = not-next cs 46 b (omega arith) at no-point in
-    let number : next_passes (digit Decimal) cs ≡ false = no-digit cs b at no-number in
-    record {
-      opens = λ mode flag e. other-opens mode flag (46 ∷ cs) e number refl refl refl;
-      found = both _ (rw number (point-first cs point)) (rw number (point-first cs point));
-    }
-  where
-    point-first : (cs : Text) → next_is 46 cs ≡ false → first_of punctuators (46 ∷ cs) ≡ Some (spells (46 ∷ []) (kind_token kinds.Dot))
-    point-first [] e = refl
-    point-first (c ∷ cs) e = rw e refl
+pub alone-opens : (text : Text) (c : ℕ) (kind : PunctuatorKind) (mode : Mode) (flag : Bool) → slice_get text 0 ≡ Some c → IsSpelledBy c kind → StandsAlone text → is_template mode.top ≡ false
+    → lookahead mode flag text ≡ opens.Other
+alone-opens text c kind mode flag first spelled alone template =
+    let whole : text ≡ c ∷ drop 1 text = first-cons text c first in
+    ap (lookahead mode flag) whole ∙ opens-other c kind (drop 1 text) mode flag spelled (subst StandsAlone whole alone) template
 
-equals : (cs : Text) (b : ℕ) → slice_get (encode_utf8_all cs) 0 ≡ Some b → (b == 61) ≡ false → (b == 62) ≡ false → IsAlone (kinds.AssignOp assign.Assign) (61 ∷ cs)
-unfolding is_ident_start
-equals cs b at no-equals no-arrow =
-    let second : next_is 61 cs ≡ false = not-next cs 61 b (omega arith) at no-equals in
-    let arrow : next_is 62 cs ≡ false = not-next cs 62 b (omega arith) at no-arrow in
-    record {
-      opens = λ mode flag e. other-opens mode flag (61 ∷ cs) e refl refl refl refl;
-      found = both _ (equals-first cs second arrow) (equals-first cs second arrow);
-    }
-  where
-    equals-first : (cs : Text) → next_is 61 cs ≡ false → next_is 62 cs ≡ false → first_of punctuators (61 ∷ cs) ≡ Some (spells (61 ∷ []) (kind_token (kinds.AssignOp assign.Assign)))
-    equals-first [] e f = refl
-    equals-first (c ∷ cs) e f = rw (e, f) refl
-
-pub not-true : (b : Bool) → not b ≡ true → b ≡ false
-not-true true h = cc
-not-true false h = refl
-
-pub other-byte : (b k : ℕ) → (b ≡ k → ⊥) → (b == k) ≡ false
-other-byte b k other = go (b == k) refl
-  where
-    go : (is : Bool) → (b == k) ≡ is → is ≡ false
-    go true e = absurd (other (eqb-true b k e))
-    go false e = refl
-
-no-digit-byte : (b : ℕ) → is_ascii_digit b ≡ false → digit Decimal b ≡ false
-no-digit-byte b h = grind (arith, nat_tests)
-
-pub dot-alone : (text : Text) (b : ℕ) → slice_get text 0 ≡ Some 46 → Some b ≡ slice_get (encode_utf8_all text) 1 → (b ≡ 46 → ⊥) → is_ascii_digit b ≡ false → IsAlone kinds.Dot text
-unfolding lib.Utf8.encode
-dot-alone text b e at no-point no-number =
-    let whole : text ≡ 46 ∷ drop 1 text = first-cons text 46 e in
-    let second : slice_get (encode_utf8_all (drop 1 text)) 0 ≡ Some b = sym (at ∙ ap (λ t. slice_get (encode_utf8_all t) 1) whole) in
-    subst (IsAlone kinds.Dot) (sym whole) (dot (drop 1 text) b second (other-byte b 46 no-point) (no-digit-byte b no-number))
-
-pub equals-alone : (text : Text) (b : ℕ) → slice_get text 0 ≡ Some 61 → Some b ≡ slice_get (encode_utf8_all text) 1 → (b ≡ 61 → ⊥) → (b == 62) ≡ false
-    → IsAlone (kinds.AssignOp assign.Assign) text
-unfolding lib.Utf8.encode
-equals-alone text b e at no-equals no-arrow =
-    let whole : text ≡ 61 ∷ drop 1 text = first-cons text 61 e in
-    let second : slice_get (encode_utf8_all (drop 1 text)) 0 ≡ Some b = sym (at ∙ ap (λ t. slice_get (encode_utf8_all t) 1) whole) in
-    subst (IsAlone (kinds.AssignOp assign.Assign)) (sym whole) (equals (drop 1 text) b second (other-byte b 61 no-equals) no-arrow)
-
--- operators of one character
-
-pub plus : OperatesAlone 43 (kinds.BinOp bin.Add)
-unfolding is_ident_start
-plus cs e f = record { opens = λ mode flag t. other-opens mode flag (43 ∷ cs) t refl refl refl refl; found = both _ (first cs e f) (first cs e f) }
-  where
-    first : (cs : Text) → next_is 43 cs ≡ false → next_is 61 cs ≡ false → first_of punctuators (43 ∷ cs) ≡ Some (spells (43 ∷ []) (kind_token (kinds.BinOp bin.Add)))
-    first [] e f = refl
-    first (c ∷ cs) e f = rw (e, f) refl
-
-pub minus : OperatesAlone 45 (kinds.BinOp bin.Sub)
-unfolding is_ident_start
-minus cs e f = record { opens = λ mode flag t. other-opens mode flag (45 ∷ cs) t refl refl refl refl; found = both _ (first cs e f) (first cs e f) }
-  where
-    first : (cs : Text) → next_is 45 cs ≡ false → next_is 61 cs ≡ false → first_of punctuators (45 ∷ cs) ≡ Some (spells (45 ∷ []) (kind_token (kinds.BinOp bin.Sub)))
-    first [] e f = refl
-    first (c ∷ cs) e f = rw (e, f) refl
-
-pub star : OperatesAlone 42 (kinds.BinOp bin.Mul)
-unfolding is_ident_start
-star cs e f = record { opens = λ mode flag t. other-opens mode flag (42 ∷ cs) t refl refl refl refl; found = both _ (first cs e f) (first cs e f) }
-  where
-    first : (cs : Text) → next_is 42 cs ≡ false → next_is 61 cs ≡ false → first_of punctuators (42 ∷ cs) ≡ Some (spells (42 ∷ []) (kind_token (kinds.BinOp bin.Mul)))
-    first [] e f = refl
-    first (c ∷ cs) e f = rw (e, f) refl
-
-pub slash : OperatesAlone 47 (kinds.BinOp bin.Div)
-unfolding is_ident_start
-slash cs e f = record { opens = λ mode flag t. other-opens mode flag (47 ∷ cs) t refl refl refl refl; found = both _ (first cs e f) (first cs e f) }
-  where
-    first : (cs : Text) → next_is 47 cs ≡ false → next_is 61 cs ≡ false → first_of punctuators (47 ∷ cs) ≡ Some (spells (47 ∷ []) (kind_token (kinds.BinOp bin.Div)))
-    first [] e f = refl
-    first (c ∷ cs) e f = rw f refl
-
-pub percent : OperatesAlone 37 (kinds.BinOp bin.Mod)
-unfolding is_ident_start
-percent cs e f = record { opens = λ mode flag t. other-opens mode flag (37 ∷ cs) t refl refl refl refl; found = both _ (first cs e f) (first cs e f) }
-  where
-    first : (cs : Text) → next_is 37 cs ≡ false → next_is 61 cs ≡ false → first_of punctuators (37 ∷ cs) ≡ Some (spells (37 ∷ []) (kind_token (kinds.BinOp bin.Mod)))
-    first [] e f = refl
-    first (c ∷ cs) e f = rw f refl
-
-pub less : OperatesAlone 60 (kinds.BinOp bin.Lt)
-unfolding is_ident_start
-less cs e f = record { opens = λ mode flag t. other-opens mode flag (60 ∷ cs) t refl refl refl refl; found = both _ refl (first cs e f) }
-  where
-    first : (cs : Text) → next_is 60 cs ≡ false → next_is 61 cs ≡ false → first_of punctuators (60 ∷ cs) ≡ Some (spells (60 ∷ []) (kind_token (kinds.BinOp bin.Lt)))
-    first [] e f = refl
-    first (c ∷ cs) e f = rw (e, f) refl
-
-pub greater : OperatesAlone 62 (kinds.BinOp bin.Gt)
-unfolding is_ident_start
-greater cs e f = record { opens = λ mode flag t. other-opens mode flag (62 ∷ cs) t refl refl refl refl; found = both _ refl (first cs e f) }
-  where
-    first : (cs : Text) → next_is 62 cs ≡ false → next_is 61 cs ≡ false → first_of punctuators (62 ∷ cs) ≡ Some (spells (62 ∷ []) (kind_token (kinds.BinOp bin.Gt)))
-    first [] e f = refl
-    first (c ∷ cs) e f = rw (e, f) refl
-
-pub ampersand : OperatesAlone 38 (kinds.BinOp bin.BitAnd)
-unfolding is_ident_start
-ampersand cs e f = record { opens = λ mode flag t. other-opens mode flag (38 ∷ cs) t refl refl refl refl; found = both _ (first cs e f) (first cs e f) }
-  where
-    first : (cs : Text) → next_is 38 cs ≡ false → next_is 61 cs ≡ false → first_of punctuators (38 ∷ cs) ≡ Some (spells (38 ∷ []) (kind_token (kinds.BinOp bin.BitAnd)))
-    first [] e f = refl
-    first (c ∷ cs) e f = rw (e, f) refl
-
-pub bang : OperatesAlone 33 kinds.Bang
-unfolding is_ident_start
-bang cs e f = record { opens = λ mode flag t. other-opens mode flag (33 ∷ cs) t refl refl refl refl; found = both _ (first cs e f) (first cs e f) }
-  where
-    first : (cs : Text) → next_is 33 cs ≡ false → next_is 61 cs ≡ false → first_of punctuators (33 ∷ cs) ≡ Some (spells (33 ∷ []) (kind_token kinds.Bang))
-    first [] e f = refl
-    first (c ∷ cs) e f = rw f refl
-
-pub question : OperatesAlone 63 kinds.QuestionMark
-unfolding is_ident_start
-question cs e f = record { opens = λ mode flag t. other-opens mode flag (63 ∷ cs) t refl refl refl refl; found = both _ (first cs e f) (first cs e f) }
-  where
-    first : (cs : Text) → next_is 63 cs ≡ false → next_is 61 cs ≡ false → first_of punctuators (63 ∷ cs) ≡ Some (spells (63 ∷ []) (kind_token kinds.QuestionMark))
-    first [] e f = refl
-    first (c ∷ cs) e f = rw e refl
+pub alone-found : (text : Text) (c : ℕ) (kind : PunctuatorKind) (type_mode : Bool) → slice_get text 0 ≡ Some c → IsSpelledBy c kind → StandsAlone text
+    → punctuator_in type_mode text ≡ Some (spells (take 1 text) (kind_token kind))
+alone-found text c kind type_mode first spelled alone =
+    let one : take 1 text ≡ c ∷ [] = ap (take 1) (first-cons text c first) in
+    rw one (alone type_mode ∙ ap (punctuator_in type_mode) one ∙ spelled type_mode)
 
 -- Words
 

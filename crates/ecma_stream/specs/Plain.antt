@@ -1,10 +1,9 @@
 -- Reads of tokens of which nothing is to be told besides.
-use Rattle.std.specs.Prelude.{◌≡◌, ◌≤◌, ℕ, Bool, true, false, ◌||◌, ◌==◌, Option, Some, None, [], ◌∷◌, length, option_map, slice_get, take, encode_utf8_all, Ok}
+use Rattle.std.specs.Prelude.{◌≡◌, ◌≤◌, ℕ, Bool, true, false, ◌||◌, ◌==◌, Option, Some, None, [], length, option_map, slice_get, encode_utf8_all, Ok}
 use Rattle.std.specs.Char.{is_ascii_alphabetic}
 use Rattle.std.specs.List.{prefix_len, take_while}
 use Rattle.ecma_place.specs.Character.{is_ident_part}
 use Rattle.ecma_place.specs.Cursor.{Cursor, HasPlace, rest, place, passed}
-use Rattle.ecma_place.specs.Text.{Text}
 use Rattle.ecma_place.specs.declared.place.BytePos.{BytePos}
 use Rattle.ecma_token.specs.View.{SpannedView, TokenView, spanned_view}
 use Rattle.ecma_token.specs.declared.token.TokenAndSpan.{TokenAndSpan}
@@ -12,22 +11,15 @@ use Rattle.ecma_syntax.specs.Word.{word_kind, word_of}
 use Rattle.ecma_syntax.specs.declared.context.Context.{Context}
 use Rattle.ecma_syntax.specs.declared.word.WordKind.{WordKind}
 use Rattle.ecma_scan.specs.Found.{FoundView, scanned}
-use Rattle.ecma_scan.specs.Fronts.{next_is}
 use Rattle.ecma_scan.specs.Words.{word}
 use Rattle.ecma_scan.specs.BlankGaps.{IsBlankGap}
-use Rattle.ecma_scan.specs.Punctuators.{punctuator_in, spells}
-use Rattle.ecma_scan.specs.PunctuatorKinds.{kind_token}
 use Rattle.ecma_scan.specs.declared.blank_gap.BlankGap.{BlankGap}
-use Rattle.ecma_scan.specs.declared.punctuator_kind.PunctuatorKind.{PunctuatorKind}
-use Rattle.ecma_scan.specs.declared.punctuator_kind.PunctuatorKind.TheVariants as kinds
-use Rattle.ecma_syntax.specs.declared.operator.AssignOp.TheVariants as assign
 use Rattle.ecma_state.specs.Mode.{gap_mode, is_template}
 use Rattle.ecma_state.specs.Reading.{Reading}
 use Rattle.ecma_state.specs.Run.{at_place, mode_of, reading_of, state_behind}
 use Rattle.ecma_state.specs.Session.{LexerValue, kept_of, lexer_state}
-use Rattle.ecma_state.specs.TokenAt.{lookahead, token_at, token_comments, token_found}
+use Rattle.ecma_state.specs.TokenAt.{token_at, token_comments, token_found}
 use Rattle.ecma_state.specs.declared.mode.Mode.{Mode}
-use Rattle.ecma_state.specs.declared.lookahead.Lookahead.TheVariants as opens
 use Rattle.ecma_stream.specs.View.{IsGivenAs}
 use Rattle.ecma_stream.specs.declared.plain.Plain.{Plain}
 
@@ -66,18 +58,6 @@ pub record PassesWord (old now : Cursor) (kind : WordKind) : Type 0 where
   pub of_kind : kind ≡ word_kind (word_of (encode_utf8_all (take_while is_ident_part (rest old))))
   pub word : (context : Context) → word context (rest old) ≡ scanned (word_of (encode_utf8_all (take_while is_ident_part (rest old)))) (take_while is_ident_part (rest old))
   pub moved : now ≡ passed (prefix_len is_ident_part (rest old)) old
-
--- the first character of the text is a punctuator, which is found in each mode of code, and begins nothing else
-pub record IsAlone (kind : PunctuatorKind) (text : Text) : Type 0 where
-  pub opens : (mode : Mode) (flag : Bool) → is_template mode.top ≡ false → lookahead mode flag text ≡ opens.Other
-  pub found : (type_mode : Bool) → punctuator_in type_mode text ≡ Some (spells (take 1 text) (kind_token kind))
-
--- behind this character, which an operator is written with, neither the same nor `=` stands: then it stands alone
-abbrev pub OperatesAlone : ℕ → PunctuatorKind → Type 0
-OperatesAlone c kind = (cs : Text) → next_is c cs ≡ false → next_is 61 cs ≡ false → IsAlone kind (c ∷ cs)
-
-abbrev pub assignment : PunctuatorKind
-assignment = kinds.AssignOp assign.Assign
 
 -- some characters stand between two cursors of a text
 abbrev pub IsAhead : Cursor → Cursor → Type 0

@@ -15,7 +15,6 @@ ghost use Rattle.ecma_state.specs.Errors.{errors_view};
 
 mod arms;
 mod fork;
-mod lone;
 mod template;
 
 use crate::hand_over::HandsOver;

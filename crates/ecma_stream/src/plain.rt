@@ -1,16 +1,15 @@
 //! Reads of tokens with nothing else to report: most reads, without lists. Our own, for speed.
-ghost use Rattle.std.specs.Prelude.{◌≡◌, ◌<◌, ◌≤◌, ℕ, Bool, true, false, Some, drop, length, slice_get, IfNone, IfOk, IfSome, IsOk, OnErr, OnOk};
+ghost use Rattle.std.specs.Prelude.{◌≡◌, ◌<◌, ◌≤◌, ℕ, Bool, true, false, Some, length, slice_get, IfNone, IfOk, IfSome, IsOk, OnErr, OnOk};
 ghost use Rattle.ecma_place.specs.Cursor.{Cursor, HasPlace, rest, place, passed};
 ghost use Rattle.ecma_syntax.specs.declared.settings.NumberRule.{NumberRule};
 ghost use Rattle.ecma_syntax.specs.declared.settings.NumberRule.TheVariants.{Crate};
 ghost use Rattle.ecma_token.specs.View.{spanned_view, token_view};
-ghost use Rattle.ecma_scan.specs.Fronts.{next_is};
 ghost use Rattle.ecma_scan.specs.Found.{found_at, found_view, token_behind};
 ghost use Rattle.ecma_scan.specs.Numbers.{number, opens_number};
 ghost use Rattle.ecma_scan.specs.Strings.{opens_string, string_literal};
 ghost use Rattle.ecma_scan.specs.Templates.{template_found, template_text};
-ghost use Rattle.ecma_stream.specs.Plain.{IsAhead, IsAlone, IsKept, IsPlain, OperatesAlone, PassesWord, StandsPlain, assignment, begins_word, plain_reading, plain_view, text_view};
-ghost use Rattle.ecma_scan.specs.declared.punctuator_kind.PunctuatorKind.{PunctuatorKind};
+ghost use Rattle.ecma_stream.specs.Plain.{IsAhead, IsKept, IsPlain, PassesWord, StandsPlain, begins_word, plain_reading, plain_view, text_view};
+ghost use Rattle.ecma_scan.specs.Alone.{IsSpelledBy, StandsAlone};
 ghost use Rattle.ecma_state.specs.Mode.{is_template, is_tpl_element};
 ghost use Rattle.ecma_state.specs.Reading.{reading};
 ghost use Rattle.ecma_state.specs.TokenAt.{is_free_token, lookahead, ts1085};
@@ -25,7 +24,7 @@ use ecma_scan::{
 };
 use ecma_state::kept::Kept;
 use ecma_state::mode::Mode;
-use ecma_syntax::{BinOpToken, Word, WordKind};
+use ecma_syntax::{Word, WordKind};
 use ecma_token::{Token, TokenAndSpan, TokenKind};
 use std::alloc::{AllocError, Global};
 
@@ -79,78 +78,6 @@ pub fn begins_word(c: u8) -> bool
     c == b'$' || c == b'_' || c.is_ascii_alphabetic()
 }
 
-/// Whether the point at the cursor is a punctuator of its own.
-#[inline(always)]
-pub fn is_lone_dot(input: &StringInput) -> bool
-    requires { slice_get (rest input.now) 0 ≡ Some 46 }
-    ensures { result ≡ true → IsAlone PunctuatorKind.Dot (rest input.now) }
-{
-    match input.byte_ahead(1) {
-        Some(b) => b != b'.' && !b.is_ascii_digit(),
-        None => false,
-    }
-}
-
-/// Whether the `=` at the cursor is a punctuator of its own.
-#[inline(always)]
-pub fn is_lone_equals(input: &StringInput) -> bool
-    requires { slice_get (rest input.now) 0 ≡ Some 61 }
-    ensures { result ≡ true → IsAlone assignment (rest input.now) }
-{
-    match input.byte_ahead(1) {
-        Some(b) => b != b'=' && b != b'>',
-        None => false,
-    }
-}
-
-/// The operator that begins with the character and is written with it alone, if there is one.
-#[inline(always)]
-fn operator_of(c: u8) -> Option<PunctuatorKind>
-    ensures ascii { IfSome result (λ _. c < 128) }
-    ensures alone { IfSome result (OperatesAlone c) }
-{
-    match c {
-        b'+' => Some(PunctuatorKind::BinOp(BinOpToken::Add)),
-        b'-' => Some(PunctuatorKind::BinOp(BinOpToken::Sub)),
-        b'*' => Some(PunctuatorKind::BinOp(BinOpToken::Mul)),
-        b'/' => Some(PunctuatorKind::BinOp(BinOpToken::Div)),
-        b'%' => Some(PunctuatorKind::BinOp(BinOpToken::Mod)),
-        b'<' => Some(PunctuatorKind::BinOp(BinOpToken::Lt)),
-        b'>' => Some(PunctuatorKind::BinOp(BinOpToken::Gt)),
-        b'&' => Some(PunctuatorKind::BinOp(BinOpToken::BitAnd)),
-        b'!' => Some(PunctuatorKind::Bang),
-        b'?' => Some(PunctuatorKind::QuestionMark),
-        _ => None,
-    }
-}
-
-/// Whether something stands behind the character at the cursor that is neither the same nor `=`.
-#[inline(always)]
-fn goes_on_otherwise(input: &StringInput, c: u8) -> bool
-    requires ascii { c < 128 }
-    requires first { slice_get (rest input.now) 0 ≡ Some c }
-    ensures { result ≡ true → (next_is c (drop 1 (rest input.now)) ≡ false) × (next_is 61 (drop 1 (rest input.now)) ≡ false) }
-{
-    match input.byte_ahead(1) {
-        Some(b) => b != c && b != b'=',
-        None => false,
-    }
-}
-
-/// The operator at the cursor, which is before the character `c`, where it is that character alone.
-#[inline(always)]
-pub fn lone_operator(input: &StringInput, c: u8) -> Option<PunctuatorKind>
-    requires { slice_get (rest input.now) 0 ≡ Some c }
-    ensures { IfSome result (λ kind. IsAlone kind (rest input.now)) }
-{
-    let kind = operator_of(c)?;
-    if goes_on_otherwise(input, c) {
-        Some(kind)
-    } else {
-        None
-    }
-}
-
 /// The word of this kind between the place and the cursor, which is all of a word with no escape, behind a gap with this flag.
 #[inline(always)]
 fn word_between<'a>(
@@ -202,7 +129,7 @@ pub fn word_behind<'a>(
     word_between(input, gap.line_break, start, kind)
 }
 
-/// The punctuator at the cursor, behind this gap, which is the character there alone.
+/// The punctuator at the cursor, behind this gap, which the character there spells alone.
 #[inline(always)]
 pub fn plain_alone<'a>(
     input: &mut StringInput<'a>,
@@ -210,7 +137,8 @@ pub fn plain_alone<'a>(
     kind: PunctuatorKind,
 ) -> Plain<'a>
     requires first { slice_get (rest input.old) 0 ≡ Some gap.next }
-    requires alone { IsAlone kind (rest input.old) }
+    requires spelled { IsSpelledBy gap.next kind }
+    requires alone { StandsAlone (rest input.old) }
     ensures token { (mode : Mode) → is_template mode.top ≡ false → IsPlain mode (spanned_view result.token) input.old input.new }
     ensures flag { result.token.had_line_break ≡ gap.line_break }
     ensures kept { IsKept result }

@@ -3,7 +3,8 @@
 ghost use Rattle.std.specs.Prelude.{◌≡◌, ◌<◌, ◌≤◌, true, false, None, Some, [], length, IfNone, IfOk, IfSome, IsOk, OnOk, OnErr};
 ghost use Rattle.ecma_token.specs.View.{spanned_view};
 ghost use Rattle.ecma_place.specs.Cursor.{HasPlace, place, rest};
-ghost use Rattle.ecma_stream.specs.Plain.{back_at, Gives, IsAlone, IsBehindGap, IsKept, IsRefused, begins_word, plain_reading};
+ghost use Rattle.ecma_scan.specs.Alone.{IsSpelledBy, StandsAlone};
+ghost use Rattle.ecma_stream.specs.Plain.{back_at, Gives, IsBehindGap, IsKept, IsRefused, begins_word, plain_reading};
 ghost use Rattle.ecma_state.specs.Reading.{reading};
 ghost use Rattle.ecma_state.specs.TokenAt.{lookahead};
 ghost use Rattle.ecma_state.specs.declared.lookahead.Lookahead.TheVariants as opens;
@@ -129,7 +130,7 @@ impl<'a> Lexer<'a> {
         }
     }
 
-    /// Gives the punctuator at the cursor, which is the character there alone.
+    /// Gives the punctuator at the cursor, which the character there spells alone.
     #[inline(always)]
     pub(super) fn give_alone(
         &mut self,
@@ -139,7 +140,8 @@ impl<'a> Lexer<'a> {
         kind: PunctuatorKind,
     ) -> Result<(), AllocError>
         requires behind { IsBehindGap before self.old gap }
-        requires alone { IsAlone kind (rest self.old.input) }
+        requires spelled { IsSpelledBy gap.next kind }
+        requires alone { StandsAlone (rest self.old.input) }
         ensures done { OnOk result (Gives (back_at before self.old) self.new slot.old slot.new true) }
         ensures refused { OnErr result (IsRefused self.old self.new slot.old slot.new) }
         ensures free { length self.old.state.contexts < 128 → IsOk result }

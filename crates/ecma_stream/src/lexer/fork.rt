@@ -3,12 +3,13 @@ ghost use Rattle.std.specs.Prelude.{◌≡◌, ◌<◌, true, None, length, IsOk
 ghost use Rattle.ecma_place.specs.Cursor.{rest};
 ghost use Rattle.ecma_state.specs.Run.{is_free_read};
 ghost use Rattle.ecma_state.specs.Session.{lexer_state};
+ghost use Rattle.ecma_scan.specs.Alone.{StandsAlone};
 ghost use Rattle.ecma_stream.specs.Plain.{back_at, Gives, IsBehindGap, IsRefused};
 
 use super::Lexer;
-use crate::plain::{begins_word, is_lone_dot, is_lone_equals, lone_operator, plain_space};
+use crate::plain::{begins_word, plain_space};
 use ecma_place::BytePos;
-use ecma_scan::BlankGap;
+use ecma_scan::{BlankGap, alone_kind, stands_alone};
 use ecma_state::lookahead::Lookahead;
 use ecma_token::TokenAndSpan;
 use std::alloc::AllocError;
@@ -51,7 +52,32 @@ impl<'a> Lexer<'a> {
         ensures refused { OnErr result (IsRefused self.old self.new slot.old slot.new) }
         ensures free { length self.old.state.contexts < 128 → is_free_read (lexer_state (back_at before self.old)) ≡ true → IsOk result }
     {
-        match lone_operator(&self.input, gap.next) {
+        match alone_kind(gap.next) {
+            Some(kind) if stands_alone(&self.input, gap.next) => {
+                self.give_alone(slot, before, gap, kind)
+            }
+            _ => self.other_into(slot, before, gap),
+        }
+    }
+
+    /// Gives the punctuator that the character `C`, which is at the cursor, spells alone.
+    // A function of its own for each such character: the punctuator is a constant there, up to and with the change of the
+    // state.
+    #[inline(never)]
+    fn alone_into<const C: u8>(
+        &mut self,
+        slot: &mut Option<TokenAndSpan<'a>>,
+        before: BytePos,
+        gap: BlankGap,
+    ) -> Result<(), AllocError>
+        requires behind { IsBehindGap before self.old gap }
+        requires next { gap.next ≡ C }
+        requires alone { StandsAlone (rest self.old.input) }
+        ensures done { OnOk result (Gives (back_at before self.old) self.new slot.old slot.new true) }
+        ensures refused { OnErr result (IsRefused self.old self.new slot.old slot.new) }
+        ensures free { length self.old.state.contexts < 128 → is_free_read (lexer_state (back_at before self.old)) ≡ true → IsOk result }
+    {
+        match alone_kind(C) {
             Some(kind) => self.give_alone(slot, before, gap, kind),
             None => self.other_into(slot, before, gap),
         }
@@ -74,17 +100,17 @@ impl<'a> Lexer<'a> {
             return self.word_into(slot, before, gap);
         }
         match gap.next {
-            b'(' => self.left_paren_into(slot, before, gap),
-            b')' => self.right_paren_into(slot, before, gap),
-            b'{' => self.left_brace_into(slot, before, gap),
-            b'}' => self.right_brace_into(slot, before, gap),
-            b'[' => self.left_bracket_into(slot, before, gap),
-            b']' => self.right_bracket_into(slot, before, gap),
-            b';' => self.semi_into(slot, before, gap),
-            b',' => self.comma_into(slot, before, gap),
-            b':' => self.colon_into(slot, before, gap),
-            b'.' if is_lone_dot(&self.input) => self.dot_into(slot, before, gap),
-            b'=' if is_lone_equals(&self.input) => self.assign_into(slot, before, gap),
+            b'(' => self.alone_into::<b'('>(slot, before, gap),
+            b')' => self.alone_into::<b')'>(slot, before, gap),
+            b'{' => self.alone_into::<b'{'>(slot, before, gap),
+            b'}' => self.alone_into::<b'}'>(slot, before, gap),
+            b'[' => self.alone_into::<b'['>(slot, before, gap),
+            b']' => self.alone_into::<b']'>(slot, before, gap),
+            b';' => self.alone_into::<b';'>(slot, before, gap),
+            b',' => self.alone_into::<b','>(slot, before, gap),
+            b':' => self.alone_into::<b':'>(slot, before, gap),
+            b'.' if stands_alone(&self.input, b'.') => self.alone_into::<b'.'>(slot, before, gap),
+            b'=' if stands_alone(&self.input, b'=') => self.alone_into::<b'='>(slot, before, gap),
             b'"' | b'\'' => self.string_into(slot, before, gap),
             b'0'..=b'9' => self.number_into(slot, before, gap),
             _ => self.operator_into(slot, before, gap),

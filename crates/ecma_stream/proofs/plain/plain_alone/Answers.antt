@@ -2,7 +2,7 @@ use Rattle.std.proofs.Common.{Some, ap, sym, ◌∙◌}
 use Rattle.ecma_place.specs.Cursor.{passed, rest}
 use Rattle.ecma_place.proofs.MoveLemmas.{place-passed-le}
 use Rattle.ecma_state.specs.Mode.{type_mode}
-use Rattle.ecma_stream.proofs.AloneLemmas.{one-first}
+use Rattle.ecma_stream.proofs.AloneLemmas.{alone-found, alone-opens, one-first}
 use Rattle.ecma_stream.proofs.PlainLemmas.{plain-of-punctuator}
 use Rattle.ecma_stream.proofs.plain.plain_alone.Goals as goal
 
@@ -12,6 +12,9 @@ new-span-requires c = rw (c.cur_pos-start.ensures, c.cur_pos.ensures) (place-pas
 pub returns-clause-token : goal.returns-clause-token
 returns-clause-token c = λ mode code.
     let old = c.args.input.now in
-    let one = one-first (rest old) c.args.gap.next c.requires.first in
-    plain-of-punctuator mode old c.bump.new.self _ c.token.result c.args.gap.line_break c.new-span.result _ _ (c.requires.alone.opens mode c.args.gap.line_break code) (c.requires.alone.found (type_mode mode)) (ap Some c.token.ensures)
+    let first = c.requires.first in
+    let one = one-first (rest old) c.args.gap.next first in
+    let other = alone-opens (rest old) c.args.gap.next c.args.kind mode c.args.gap.line_break first c.requires.spelled c.requires.alone code in
+    let found = alone-found (rest old) c.args.gap.next c.args.kind (type_mode mode) first c.requires.spelled c.requires.alone in
+    plain-of-punctuator mode old c.bump.new.self _ c.token.result c.args.gap.line_break c.new-span.result _ _ other found (ap Some c.token.ensures)
     (c.bump.ensures ∙ ap (λ n. passed n old) (sym one)) c.cur_pos-start.ensures c.cur_pos.ensures c.new-span.ensures
