@@ -8,7 +8,7 @@ use Rattle.ecma_place.specs.Cursor.{HasPlace}
 use Rattle.ecma_place.specs.Text.{byte_len}
 use Rattle.ecma_place.specs.declared.place.Span.{Span}
 use Rattle.ecma_place.proofs.CursorLemmas.{split-at}
-use Rattle.ecma_state.specs.declared.comments_buffer.BufferedComment.{BufferedComment}
+use Rattle.ecma_comments.specs.declared.comments_buffer.BufferedComment.{BufferedComment}
 use Rattle.ecma_state.specs.declared.kept.Kept.{Kept}
 use Rattle.ecma_classes.specs.Marks.{IsInOrder, walked}
 use Rattle.ecma_classes.specs.Classes.{AreApart, LieInOrder, LiesWell, StandsIn, Tile, TriviaStandsAlone, begin, classes_of, comment_spans, holds_byte, in_order_of_place, is_apart, is_trivia, joined, outside, over, pieces_told, spans_of_comments, spans_of_kept, token_spans}

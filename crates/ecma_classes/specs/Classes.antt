@@ -5,7 +5,7 @@ use Rattle.std.specs.List.{filter, list_all, list_any}
 use Rattle.ecma_place.specs.Cursor.{Cursor, HasPlace}
 use Rattle.ecma_place.specs.Text.{Text}
 use Rattle.ecma_place.specs.declared.place.Span.{Span}
-use Rattle.ecma_state.specs.declared.comments_buffer.BufferedComment.{BufferedComment}
+use Rattle.ecma_comments.specs.declared.comments_buffer.BufferedComment.{BufferedComment}
 use Rattle.ecma_state.specs.declared.kept.Kept.{Kept}
 use Rattle.ecma_classes.specs.declared.piece.Class.{Class}
 use Rattle.ecma_classes.specs.declared.piece.Class.TheVariants.{Token, Comment, Trivia}

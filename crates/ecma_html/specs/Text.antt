@@ -6,7 +6,7 @@ use Rattle.ecma_slashes.specs.ByFlag.{text_steps}
 use Rattle.ecma_classes.specs.Classes.{begin, classes_of}
 use Rattle.ecma_state.specs.Run.{session}
 use Rattle.ecma_state.specs.Session.{Session, kept_tokens}
-use Rattle.ecma_state.specs.declared.comments_buffer.BufferedComment.{BufferedComment}
+use Rattle.ecma_comments.specs.declared.comments_buffer.BufferedComment.{BufferedComment}
 use Rattle.ecma_state.specs.declared.kept.Kept.{Kept}
 use Rattle.ecma_state.specs.declared.settings.Settings.{Settings}
 use Rattle.ecma_state.specs.declared.step.Step.{Step}

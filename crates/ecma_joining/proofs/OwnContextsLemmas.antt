@@ -4,14 +4,14 @@ use Rattle.std.proofs.lemmas.Bool.{false≢true}
 use Rattle.ecma_state.specs.Contexts.{Contexts}
 use Rattle.ecma_joining.specs.OwnContexts.{ContextsStayOwn, TemplatesAreOpened, are_own, may_stand, opens_text}
 use Rattle.ecma_state.specs.Transition.{brace_block, closed, closed_over, coloned, keyword_behind, keyword_turn, paren_behind, quoted, tpl_on_top, transition}
-use Rattle.ecma_state.specs.declared.transition.Before.{Before}
+use Rattle.ecma_contexts.specs.declared.transition.Before.{Before}
 use Rattle.ecma_syntax.specs.declared.keyword.Keyword.{Keyword}
 use Rattle.ecma_syntax.specs.declared.keyword.Keyword.TheVariants as keyword
 use Rattle.ecma_syntax.specs.declared.word.WordKind.TheVariants as word
 use Rattle.ecma_token.specs.declared.kind.TokenKind.{TokenKind}
 use Rattle.ecma_token.specs.declared.kind.TokenKind.TheVariants.{Word, BackQuote, Colon, Dot, DollarLBrace, LBrace, LParen, RBrace, RParen}
-use Rattle.ecma_state.specs.declared.token_context.TokenContext.{TokenContext}
-use Rattle.ecma_state.specs.declared.token_context.TokenContext.TheVariants.{BraceStmt, BraceExpr, TplQuasi, ParenStmt, ParenExpr, Tpl, FnExpr, ClassExpr}
+use Rattle.ecma_contexts.specs.declared.token_context.TokenContext.{TokenContext}
+use Rattle.ecma_contexts.specs.declared.token_context.TokenContext.TheVariants.{BraceStmt, BraceExpr, TplQuasi, ParenStmt, ParenExpr, Tpl, FnExpr, ClassExpr}
 
 right : (a b : Bool) → (a && b) ≡ true → b ≡ true
 right true b h = h

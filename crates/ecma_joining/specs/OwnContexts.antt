@@ -3,11 +3,11 @@
 use Rattle.std.specs.Prelude.{◌≡◌, Bool, true, false, not, ◌&&◌, [], ◌∷◌}
 use Rattle.ecma_state.specs.Contexts.{Contexts}
 use Rattle.ecma_state.specs.Transition.{tpl_on_top, transition}
-use Rattle.ecma_state.specs.declared.transition.Before.{Before}
+use Rattle.ecma_contexts.specs.declared.transition.Before.{Before}
 use Rattle.ecma_token.specs.declared.kind.TokenKind.{TokenKind}
 use Rattle.ecma_token.specs.declared.kind.TokenKind.TheVariants.{BackQuote, DollarLBrace, RBrace, RParen}
-use Rattle.ecma_state.specs.declared.token_context.TokenContext.{TokenContext}
-use Rattle.ecma_state.specs.declared.token_context.TokenContext.TheVariants.{TplQuasi, JSXExpr}
+use Rattle.ecma_contexts.specs.declared.token_context.TokenContext.{TokenContext}
+use Rattle.ecma_contexts.specs.declared.token_context.TokenContext.TheVariants.{TplQuasi, JSXExpr}
 
 -- a context may stand right inside others
 abbrev pub may_stand : TokenContext → Contexts → Bool

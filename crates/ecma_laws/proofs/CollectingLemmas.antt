@@ -24,8 +24,8 @@ use Rattle.ecma_state.specs.Run.{act_on, acted_on, mode_of, popped_from, reading
 use Rattle.ecma_state.specs.Session.{Session, kept_in, state_value, seen_of, state_of}
 use Rattle.ecma_state.specs.State.{around_of, last_slash}
 use Rattle.ecma_state.specs.TokenAt.{comments_in, lookahead, placed, read_opened, token_at, token_comments, token_found}
-use Rattle.ecma_state.specs.declared.attachment.Around.{Around}
-use Rattle.ecma_state.specs.declared.comments_buffer.BufferedComment.{BufferedComment}
+use Rattle.ecma_comments.specs.declared.attachment.Around.{Around}
+use Rattle.ecma_comments.specs.declared.comments_buffer.BufferedComment.{BufferedComment}
 use Rattle.ecma_state.specs.declared.mode.Mode.{Mode}
 use Rattle.ecma_state.specs.declared.lookahead.Lookahead.{Lookahead}
 use Rattle.ecma_state.specs.declared.lookahead.Lookahead.TheVariants as opens

@@ -9,9 +9,9 @@ use Rattle.ecma_state.specs.HandOver.{HandsAll, added_of, has_comments, side_of}
 use Rattle.ecma_state.specs.Run.{reading_of, state_behind}
 use Rattle.ecma_state.specs.Session.{LexerState, Session, kept_in, state_of}
 use Rattle.ecma_state.specs.State.{seen_behind}
-use Rattle.ecma_state.specs.declared.comments_buffer.BufferedComment.{BufferedComment}
-use Rattle.ecma_state.specs.declared.comments_buffer.BufferedCommentKind.{BufferedCommentKind}
-use Rattle.ecma_state.specs.declared.comments_buffer.BufferedCommentKind.TheVariants.{Leading, Trailing}
+use Rattle.ecma_comments.specs.declared.comments_buffer.BufferedComment.{BufferedComment}
+use Rattle.ecma_comments.specs.declared.comments_buffer.BufferedCommentKind.{BufferedCommentKind}
+use Rattle.ecma_comments.specs.declared.comments_buffer.BufferedCommentKind.TheVariants.{Leading, Trailing}
 use Rattle.ecma_stream.proofs.EndingLemmas.{ReadSoFar, so_far-end, so_far-start, so_far-token}
 
 -- Reading to the end

@@ -4,9 +4,9 @@ use Rattle.ecma_place.specs.declared.comment.CommentKind.{CommentKind}
 use Rattle.ecma_place.specs.declared.comment.CommentKind.TheVariants.{Line, Block}
 use Rattle.ecma_stream.specs.Ending.{comments_of}
 use Rattle.ecma_state.specs.Session.{Session}
-use Rattle.ecma_state.specs.declared.comments_buffer.BufferedComment.{BufferedComment}
-use Rattle.ecma_state.specs.declared.comments_buffer.BufferedCommentKind.{BufferedCommentKind}
-use Rattle.ecma_state.specs.declared.comments_buffer.BufferedCommentKind.TheVariants.{Leading, Trailing}
+use Rattle.ecma_comments.specs.declared.comments_buffer.BufferedComment.{BufferedComment}
+use Rattle.ecma_comments.specs.declared.comments_buffer.BufferedCommentKind.{BufferedCommentKind}
+use Rattle.ecma_comments.specs.declared.comments_buffer.BufferedCommentKind.TheVariants.{Leading, Trailing}
 use Rattle.ecma_stdio.specs.Escaped.{escaped}
 use Rattle.ecma_lines.specs.Rereads.{session_behind}
 use Rattle.ecma_options.specs.declared.options.Options.{Options}

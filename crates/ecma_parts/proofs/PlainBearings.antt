@@ -6,7 +6,7 @@ use Rattle.ecma_state.specs.Contexts.{Contexts, innermost}
 use Rattle.ecma_state.specs.Mode.{is_template, keeps_space}
 use Rattle.ecma_state.specs.State.{is_shebang}
 use Rattle.ecma_state.specs.Transition.{tpl_on_top, transition}
-use Rattle.ecma_state.specs.declared.token_context.TokenContext.TheVariants.{JSXExpr, Tpl}
+use Rattle.ecma_contexts.specs.declared.token_context.TokenContext.TheVariants.{JSXExpr, Tpl}
 use Rattle.ecma_token.specs.declared.kind.TokenKind.{TokenKind}
 use Rattle.ecma_token.specs.declared.kind.TokenKind.TheVariants.{Regex, Shebang, Template}
 use Rattle.ecma_parts.specs.Bearing.{Bearing, behind_kind, turned_in}

@@ -21,7 +21,7 @@ use Rattle.ecma_state.specs.Mode.{is_template, is_tpl_element}
 use Rattle.ecma_state.specs.State.{is_error}
 use Rattle.ecma_state.specs.TokenAt.{lookahead_from, read_opened, token_at}
 use Rattle.ecma_state.specs.Transition.{tpl_on_top}
-use Rattle.ecma_state.specs.declared.token_context.TokenContext.TheVariants.{Tpl}
+use Rattle.ecma_contexts.specs.declared.token_context.TokenContext.TheVariants.{Tpl}
 use Rattle.ecma_token.specs.Kinds.{kind_of}
 use Rattle.ecma_token.specs.View.{ErrorView, TokenView}
 use Rattle.ecma_parts.proofs.CodeParts.{code_end}

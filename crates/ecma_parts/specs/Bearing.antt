@@ -8,7 +8,7 @@ use Rattle.ecma_state.specs.State.{flag_of, is_shebang, previous}
 use Rattle.ecma_state.specs.Transition.{Turned, transition}
 use Rattle.ecma_state.specs.declared.mode.Mode.{Mode}
 use Rattle.ecma_state.specs.declared.settings.Settings.{Settings}
-use Rattle.ecma_state.specs.declared.transition.Before.{Before}
+use Rattle.ecma_contexts.specs.declared.transition.Before.{Before}
 use Rattle.ecma_token.specs.declared.kind.TokenKind.{TokenKind}
 
 pub record Bearing : Type 0 where

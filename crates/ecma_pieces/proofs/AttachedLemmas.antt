@@ -8,9 +8,9 @@ use Rattle.ecma_place.specs.declared.place.BytePos.{BytePos}
 use Rattle.ecma_place.specs.declared.place.Span.{Span}
 use Rattle.ecma_scan.specs.Comments.{LieBetween}
 use Rattle.ecma_state.specs.Attachment.{attached, attachment, for_next, of_next, of_previous, waiting_for}
-use Rattle.ecma_state.specs.declared.attachment.Around.{Around}
-use Rattle.ecma_state.specs.declared.comments_buffer.BufferedComment.{BufferedComment}
-use Rattle.ecma_state.specs.declared.comments_buffer.BufferedCommentKind.TheVariants.{Trailing}
+use Rattle.ecma_comments.specs.declared.attachment.Around.{Around}
+use Rattle.ecma_comments.specs.declared.comments_buffer.BufferedComment.{BufferedComment}
+use Rattle.ecma_comments.specs.declared.comments_buffer.BufferedCommentKind.TheVariants.{Trailing}
 use Rattle.ecma_classes.specs.Classes.{AreApart, LieInOrder, is_apart, spans_of_comments}
 use Rattle.ecma_classes.proofs.ApartLemmas.{apart-both, order-apart}
 use Rattle.ecma_classes.proofs.MemberLemmas.{IsIn, all_of, at_all, filter-dropped, filter-kept, in_either, of_filter}

@@ -3,7 +3,7 @@ use Rattle.std.specs.Prelude.{ℕ, List, length}
 use Rattle.std.specs.List.{All}
 use Rattle.std.specs.Str.{chars}
 use Rattle.ecma_place.specs.Cursor.{Cursor}
-use Rattle.ecma_state.specs.declared.comments_buffer.BufferedComment.{BufferedComment}
+use Rattle.ecma_comments.specs.declared.comments_buffer.BufferedComment.{BufferedComment}
 use Rattle.ecma_state.specs.declared.kept.Kept.{Kept}
 use Rattle.ecma_state.specs.declared.settings.Settings.{Settings}
 use Rattle.ecma_state.specs.declared.step.Step.{Step}

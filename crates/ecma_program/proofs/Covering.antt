@@ -3,7 +3,7 @@ use Rattle.std.proofs.Common.{◌≡◌, ℕ, true, List, Some, refl, sym, subst
 use Rattle.ecma_pieces.specs.Covered.{MayBeCovered}
 use Rattle.ecma_stream.specs.Ending.{comments_of, read_out}
 use Rattle.ecma_state.specs.Session.{Session, kept_tokens}
-use Rattle.ecma_state.specs.declared.comments_buffer.BufferedComment.{BufferedComment}
+use Rattle.ecma_comments.specs.declared.comments_buffer.BufferedComment.{BufferedComment}
 use Rattle.ecma_state.specs.declared.kept.Kept.{Kept}
 use Rattle.ecma_pieces.proofs.CoveredLemmas.{steps_may_be_covered}
 use Rattle.ecma_options.specs.Begin.{settings, whole}

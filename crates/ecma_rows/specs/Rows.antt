@@ -10,9 +10,9 @@ use Rattle.ecma_token.specs.Kinds.{kind_of}
 use Rattle.ecma_token.specs.View.{ErrorView, SpannedView, TokenView, plain_token, refused_template, error_token, refusal_of}
 use Rattle.ecma_token.specs.declared.token.Token.{Token, Word, Template', Str, Regex, Num, BigInt, JSXText, Ok', Err'}
 use Rattle.ecma_state.specs.Session.{Session, kept_back}
-use Rattle.ecma_state.specs.declared.comments_buffer.BufferedComment.{BufferedComment}
-use Rattle.ecma_state.specs.declared.comments_buffer.BufferedCommentKind.{BufferedCommentKind}
-use Rattle.ecma_state.specs.declared.comments_buffer.BufferedCommentKind.TheVariants.{Leading, Trailing}
+use Rattle.ecma_comments.specs.declared.comments_buffer.BufferedComment.{BufferedComment}
+use Rattle.ecma_comments.specs.declared.comments_buffer.BufferedCommentKind.{BufferedCommentKind}
+use Rattle.ecma_comments.specs.declared.comments_buffer.BufferedCommentKind.TheVariants.{Leading, Trailing}
 use Rattle.ecma_kinds.specs.KindNumbers.{kind_number}
 use Rattle.ecma_rows.specs.declared.tokens.TokenRow.{TokenRow}
 use Rattle.ecma_rows.specs.declared.comments.CommentRow.{CommentRow}

@@ -1,4 +1,2 @@
-pub mod ContextPairLemmas
 pub mod ErrorLemmas
 pub mod LookaheadLemmas
-pub mod SharedCommentsLemmas

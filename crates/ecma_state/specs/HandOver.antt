@@ -1,33 +1,9 @@
--- What a store is handed of the comments that have their token.
-use Rattle.std.specs.Prelude.{◌≡◌, ◌<◌, Bool, not, ◌&&◌, List, [], ◌++◌, map, length}
-use Rattle.ecma_place.specs.Comment.{Added, Side}
-use Rattle.ecma_place.specs.Comment as place
-use Rattle.ecma_state.specs.Buffers.{CommentsValue}
+-- What a store is handed of the comments of a lexer, once the end was answered.
+use Rattle.std.specs.Prelude.{◌≡◌, Bool, not, ◌&&◌, List, [], ◌++◌, map}
+use Rattle.ecma_place.specs.Comment.{Added}
 use Rattle.ecma_state.specs.Run.{state_with_comments}
 use Rattle.ecma_state.specs.Session.{LexerState}
-use Rattle.ecma_state.specs.declared.comments_buffer.BufferedComment.{BufferedComment}
-use Rattle.ecma_state.specs.declared.comments_buffer.BufferedCommentKind.{BufferedCommentKind}
-use Rattle.ecma_state.specs.declared.comments_buffer.BufferedCommentKind.TheVariants.{Leading, Trailing}
-
-abbrev pub side_of : BufferedCommentKind → Side
-side_of Leading = place.Leading
-side_of Trailing = place.Trailing
-
--- what a store is given with a comment
-abbrev pub added_of : BufferedComment → Added
-added_of c = record { side = side_of c.kind; pos = c.pos; comment = c.comment }
-
--- a store was handed the first of these comments, in order, and those behind them are kept
-pub record HandsFirst (given_old given_new : List Added) (comments kept : List BufferedComment) : Type 0 where
-  pub handed : List BufferedComment
-  pub order : comments ≡ handed ++ kept
-  pub given : given_new ≡ given_old ++ map added_of handed
-
--- a store refused a comment: those before it were handed over, and it and those behind it are kept
-pub record StopsEarly (given_old given_new : List Added) (old new : CommentsValue) : Type 0 where
-  pub first : HandsFirst given_old given_new old.comments new.comments
-  pub refused : 0 < length new.comments
-  pub waiting : new.pending_leading ≡ old.pending_leading
+pub use Rattle.ecma_comments.specs.HandOver.{side_of, added_of, HandsFirst, StopsEarly}
 
 -- the last answer was the end, and memory was never refused
 abbrev pub has_comments : LexerState → Bool

@@ -1,7 +1,3 @@
-pub mod Attachment
-pub mod Buffers
-pub mod ContextPairs
-pub mod Contexts
 pub mod Counting
 pub mod Disposition
 pub mod Errors
@@ -10,10 +6,12 @@ pub mod Mode
 pub mod Reading
 pub mod Run
 pub mod Session
-pub mod SharedComments
 pub mod State
 pub mod TokenAt
-pub mod Transition
+pub use Rattle.ecma_comments.specs.Attachment
+pub use Rattle.ecma_comments.specs.Buffers
+pub use Rattle.ecma_contexts.specs.Contexts
+pub use Rattle.ecma_contexts.specs.Transition
 pub use Rattle.ecma_place.specs.Atom
 pub use Rattle.ecma_place.specs.Cursor
 pub use Rattle.ecma_place.specs.Text

@@ -8,8 +8,8 @@ use Rattle.ecma_token.specs.declared.kind.TokenKind.{TokenKind}
 use Rattle.ecma_token.specs.declared.kind.TokenKind.TheVariants.{Template}
 use Rattle.ecma_grammar.specs.declared.gap_mode.GapMode.{GapMode}
 use Rattle.ecma_state.specs.declared.mode.Mode.{Mode}
-use Rattle.ecma_state.specs.declared.token_context.TokenContext.{TokenContext}
-use Rattle.ecma_state.specs.declared.token_context.TokenContext.TheVariants.{Tpl, JSXExpr}
+use Rattle.ecma_contexts.specs.declared.token_context.TokenContext.{TokenContext}
+use Rattle.ecma_contexts.specs.declared.token_context.TokenContext.TheVariants.{Tpl, JSXExpr}
 
 abbrev pub is_typescript : Syntax → Bool
 is_typescript (Es es) = false

@@ -6,17 +6,17 @@ use Rattle.ecma_place.specs.declared.place.BytePos.{BytePos}
 use Rattle.ecma_token.specs.View.{SpannedView, ErrorView}
 use Rattle.ecma_syntax.specs.Defaults.{no_context}
 use Rattle.ecma_syntax.specs.declared.context.Context.{Context}
-use Rattle.ecma_state.specs.Attachment.{attachment}
-use Rattle.ecma_state.specs.Contexts.{Contexts, innermost}
+use Rattle.ecma_comments.specs.Attachment.{attachment}
+use Rattle.ecma_contexts.specs.Contexts.{Contexts, innermost}
 use Rattle.ecma_state.specs.Counting.{Counted, count_step, counting, none_yet}
 use Rattle.ecma_state.specs.Disposition.{Recorded, disposed, of_module_mode, no_errors, none_recorded, with_faults, with_context}
-use Rattle.ecma_state.specs.declared.comments_buffer.BufferedComment.{BufferedComment}
+use Rattle.ecma_comments.specs.declared.comments_buffer.BufferedComment.{BufferedComment}
 use Rattle.ecma_state.specs.declared.kept.Kept.{Kept}
 use Rattle.ecma_state.specs.declared.mode.Mode.{Mode}
 use Rattle.ecma_state.specs.declared.settings.Settings.{Settings}
 use Rattle.ecma_state.specs.declared.step.Step.{Step}
 use Rattle.ecma_state.specs.declared.step.Step.TheVariants.{Read, SetCtx, SetExprAllowed, SetContexts, PopContext, Reread, Withdraw, Save, Back, TakeErrors}
-use Rattle.ecma_state.specs.declared.token_context.TokenContext.TheVariants.{BraceStmt}
+use Rattle.ecma_contexts.specs.declared.token_context.TokenContext.TheVariants.{BraceStmt}
 use Rattle.ecma_state.specs.Reading.{Reading, is_free, is_free_again, reading, reading_again}
 use Rattle.ecma_state.specs.Session.{Given, Next, Again, AtEnd, LexerState, Session, kept_in, state_value, seen_of, state_of}
 use Rattle.ecma_state.specs.State.{StateValue, around_of, behind_answer, last_slash, opened_by, previous, turned_by}

@@ -6,10 +6,10 @@ use Rattle.ecma_token.specs.View.{SpannedView}
 use Rattle.ecma_place.specs.declared.place.BytePos.{BytePos}
 use Rattle.ecma_syntax.specs.declared.context.Context.{Context}
 use Rattle.ecma_state.specs.Disposition.{Errors}
-use Rattle.ecma_state.specs.Contexts.{Contexts}
+use Rattle.ecma_contexts.specs.Contexts.{Contexts}
 use Rattle.ecma_state.specs.Errors.{ErrorsValue, errors_view}
 use Rattle.ecma_state.specs.State.{StateValue, is_shebang}
-use Rattle.ecma_state.specs.declared.comments_buffer.BufferedComment.{BufferedComment}
+use Rattle.ecma_comments.specs.declared.comments_buffer.BufferedComment.{BufferedComment}
 use Rattle.ecma_state.specs.declared.kept.Kept.{Kept}
 use Rattle.ecma_state.specs.declared.kept.Seen.{Seen}
 use Rattle.ecma_state.specs.declared.settings.Settings.{Settings}

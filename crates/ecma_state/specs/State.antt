@@ -5,13 +5,13 @@ use Rattle.ecma_token.specs.declared.kind.TokenKind.{TokenKind}
 use Rattle.ecma_syntax.specs.declared.operator.AssignOp.TheVariants.{DivAssign}
 use Rattle.ecma_syntax.specs.declared.operator.BinOpToken.TheVariants.{Div}
 use Rattle.ecma_token.specs.declared.kind.TokenKind.TheVariants.{AssignOp, BackQuote, BinOp, Shebang, Error}
-use Rattle.ecma_state.specs.Contexts.{Contexts}
-use Rattle.ecma_state.specs.Transition.{Turned, tpl_on_top, transition, turned}
-use Rattle.ecma_state.specs.declared.attachment.Around.{Around}
+use Rattle.ecma_contexts.specs.Contexts.{Contexts}
+use Rattle.ecma_contexts.specs.Transition.{Turned, tpl_on_top, transition, turned}
+use Rattle.ecma_comments.specs.declared.attachment.Around.{Around}
 use Rattle.ecma_state.specs.declared.kept.Kept.{Kept}
 use Rattle.ecma_state.specs.declared.kept.Seen.{Seen}
-use Rattle.ecma_state.specs.declared.token_context.TokenContext.TheVariants.{BraceStmt}
-use Rattle.ecma_state.specs.declared.transition.Before.{Before}
+use Rattle.ecma_contexts.specs.declared.token_context.TokenContext.TheVariants.{BraceStmt}
+use Rattle.ecma_contexts.specs.declared.transition.Before.{Before}
 
 -- What is kept of the answers
 

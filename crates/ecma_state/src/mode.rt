@@ -4,7 +4,7 @@ ghost use Rattle.ecma_state.specs.Mode.{type_mode, gap_mode, is_template, is_tpl
 ghost use Rattle.ecma_state.specs.TokenAt.{ts1085};
 
 use crate::settings::Settings;
-use crate::token_context::TokenContext;
+use ecma_contexts::TokenContext;
 use ecma_grammar::GapMode;
 use ecma_place::BytePos;
 use ecma_syntax::{Context, EsVersion, Syntax};

@@ -1,16 +1,15 @@
 //! What a lexer keeps between two reads, and what is asked of it.
 ghost use Rattle.std.specs.Prelude.{◌≡◌, ◌<◌, ◌≤◌, ◌∷◌, true, None, Some, length, IsOk, IfOk, OnOk, OnErr};
 ghost use Rattle.ecma_grammar.specs.Comments.{can_trail_line, can_trail_block};
-ghost use Rattle.ecma_state.specs.Contexts as contexts;
+ghost use Rattle.ecma_contexts.specs.Contexts as contexts;
 ghost use Rattle.ecma_state.specs.Mode.{is_tpl_element};
 ghost use Rattle.ecma_state.specs.State as state;
-ghost use Rattle.ecma_state.specs.Transition.{brace_behind, keyword_behind, paren_behind};
+ghost use Rattle.ecma_contexts.specs.Transition.{brace_behind, keyword_behind, paren_behind};
 
-use crate::attachment::Around;
 use crate::kept::{Kept, Seen};
-use crate::token_context::TokenContext;
-use crate::token_contexts::TokenContexts;
-use crate::transition::{Before, paren_behind};
+use ecma_comments::Around;
+use ecma_contexts::transition::{Before, paren_behind};
+use ecma_contexts::{TokenContext, TokenContexts};
 use ecma_place::BytePos;
 use ecma_syntax::{Keyword, Syntax, WordKind};
 use ecma_token::TokenKind;
@@ -214,7 +213,7 @@ impl State {
     }
 
     /// Changes the contexts as a token does, and remembers where it opens a template.
-    #[tactic(auto, unfolding(crate::specs::Transition::transition))]
+    #[tactic(auto, unfolding(ecma_contexts::specs::Transition::transition))]
     #[inline(always)]
     fn turn(&mut self, token: Kept) -> Result<(), AllocError>
         ensures contexts { OnOk result (self.new.contexts ≡ (state.turned_by self.old (Some token)).contexts) }

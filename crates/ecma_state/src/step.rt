@@ -1,6 +1,6 @@
 //! The steps of the layer above.
 
-use crate::token_contexts::TokenContexts;
+use ecma_contexts::TokenContexts;
 use ecma_syntax::Context;
 
 /// A step of the layer above.

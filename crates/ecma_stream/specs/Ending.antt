@@ -7,7 +7,7 @@ use Rattle.ecma_token.specs.declared.kind.TokenKind.{TokenKind}
 use Rattle.ecma_state.specs.Disposition.{Errors}
 use Rattle.ecma_state.specs.Mode.{is_tpl_element}
 use Rattle.ecma_state.specs.State.{previous}
-use Rattle.ecma_state.specs.declared.comments_buffer.BufferedComment.{BufferedComment}
+use Rattle.ecma_comments.specs.declared.comments_buffer.BufferedComment.{BufferedComment}
 use Rattle.ecma_state.specs.declared.step.Step.{Step}
 use Rattle.ecma_state.specs.declared.step.Step.TheVariants.{Read}
 use Rattle.ecma_state.specs.Session.{LexerState, Session, has_ended, kept_back}

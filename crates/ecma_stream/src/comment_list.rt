@@ -14,7 +14,7 @@ pub struct CommentList<'a> {
 
 impl<'a> Model for CommentList<'a> {
     ghost use Rattle.std.specs.Prelude.{List};
-    ghost use Rattle.ecma_state.specs.declared.comments_buffer.BufferedComment.{BufferedComment};
+    ghost use Rattle.ecma_comments.specs.declared.comments_buffer.BufferedComment.{BufferedComment};
 
     ghost Value = { List BufferedComment };
 

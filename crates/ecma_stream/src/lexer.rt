@@ -476,7 +476,7 @@ impl<'a> Tokens<'a> for Lexer<'a> {
     ghost use Rattle.std.specs.Prelude.{◌≡◌, []};
     ghost use Rattle.ecma_state.specs.Session.{value_with_contexts, lexer_state};
     ghost use Rattle.ecma_stream.specs.contracts.lexer.Lexer as lexer;
-    ghost use Rattle.ecma_state.specs.contracts.token_contexts.TokenContexts as token_contexts;
+    ghost use Rattle.ecma_contexts.specs.contracts.token_contexts.TokenContexts as token_contexts;
 
     ghost state = { lexer_state };
 

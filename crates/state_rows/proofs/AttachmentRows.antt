@@ -12,10 +12,10 @@ use Rattle.ecma_syntax.specs.declared.operator.BinOpToken.TheVariants.{Add}
 use Rattle.ecma_grammar.specs.Comments.{is_for_next}
 use Rattle.ecma_grammar.specs.Found.{span_of}
 use Rattle.ecma_state.specs.Attachment.{attachment, attached}
-use Rattle.ecma_state.specs.declared.attachment.Around.{Around}
-use Rattle.ecma_state.specs.declared.comments_buffer.BufferedComment.{BufferedComment}
-use Rattle.ecma_state.specs.declared.comments_buffer.BufferedCommentKind.{BufferedCommentKind}
-use Rattle.ecma_state.specs.declared.comments_buffer.BufferedCommentKind.TheVariants.{Leading, Trailing}
+use Rattle.ecma_comments.specs.declared.attachment.Around.{Around}
+use Rattle.ecma_comments.specs.declared.comments_buffer.BufferedComment.{BufferedComment}
+use Rattle.ecma_comments.specs.declared.comments_buffer.BufferedCommentKind.{BufferedCommentKind}
+use Rattle.ecma_comments.specs.declared.comments_buffer.BufferedCommentKind.TheVariants.{Leading, Trailing}
 
 abbrev pos : ℕ → BytePos
 pos n = record { 0 = n }

@@ -10,9 +10,9 @@ use Rattle.ecma_syntax.specs.declared.operator.BinOpToken.TheVariants.{Add, Lt, 
 use Rattle.ecma_token.specs.declared.kind.TokenKind.{TokenKind}
 use Rattle.ecma_token.specs.declared.kind.TokenKind.TheVariants.{Word, AssignOp, Arrow, BackQuote, BinOp, Colon, Comma, Dot, DollarLBrace, LBrace, LParen, MinusMinus, Num, PlusPlus, RBrace, RParen, Semi, Template}
 use Rattle.ecma_state.specs.Contexts.{Contexts}
-use Rattle.ecma_state.specs.declared.token_context.TokenContext.{TokenContext}
-use Rattle.ecma_state.specs.declared.token_context.TokenContext.TheVariants.{BraceStmt, BraceExpr, TplQuasi, ParenStmt, ParenExpr, Tpl, FnExpr, ClassExpr, JSXOpeningTag, JSXClosingTag, JSXExpr}
-use Rattle.ecma_state.specs.declared.transition.Before.{Before}
+use Rattle.ecma_contexts.specs.declared.token_context.TokenContext.{TokenContext}
+use Rattle.ecma_contexts.specs.declared.token_context.TokenContext.TheVariants.{BraceStmt, BraceExpr, TplQuasi, ParenStmt, ParenExpr, Tpl, FnExpr, ClassExpr, JSXOpeningTag, JSXClosingTag, JSXExpr}
+use Rattle.ecma_contexts.specs.declared.transition.Before.{Before}
 use Rattle.ecma_state.specs.Transition.{Turned, transition, turned, brace_block}
 
 abbrev keyword_kind : Keyword → TokenKind

@@ -1,7 +1,7 @@
 use Rattle.std.proofs.Common.{◌∙◌, Bool, List, ap, map, refl, subst, sym, true}
 use Rattle.ecma_place.specs.declared.place.BytePos.{BytePos}
 use Rattle.ecma_state.specs.Session.{LexerState, lexer_state}
-use Rattle.ecma_state.specs.declared.comments_buffer.BufferedComment.{BufferedComment}
+use Rattle.ecma_comments.specs.declared.comments_buffer.BufferedComment.{BufferedComment}
 use Rattle.ecma_slashes.specs.Rereads.{steps_to_end_by}
 use Rattle.ecma_rows.specs.Asked.{asked_view, begin, judged, read_out}
 use Rattle.ecma_rows.specs.Rows.{comment_row, comment_rows}

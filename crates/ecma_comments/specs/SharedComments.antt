@@ -1,0 +1,23 @@
+-- Lists of comments that copies share in part.
+use Rattle.std.specs.Prelude.{◌≡◌, ℕ, ◌+◌, ◌≤◌, List, length, IsTrue, Vec}
+use Rattle.std.specs.Global.{Global}
+use Rattle.std.specs.List.{All, flat_map}
+use Rattle.std.specs.declared.sync.Arc.{Arc}
+use Rattle.ecma_comments.specs.declared.comments_buffer.BufferedComment.{BufferedComment}
+
+-- a block of comments, which lists share
+abbrev pub Block : Type 0
+Block = Arc (Vec BufferedComment Global) Global
+
+abbrev pub of_blocks : List Block → List BufferedComment
+of_blocks blocks = flat_map (λ (block : Block). block.value.items) blocks
+
+-- the text of the comment is a slice of the source, so that a copy of it does not allocate
+abbrev pub IsBorrowed : BufferedComment → Type 0
+IsBorrowed c = IsTrue c.comment.text.is_borrowed
+
+-- so many comments are shared, which can be copied without memory, and behind the others there is room for them
+pub record AreShared (shared : List BufferedComment) (count others room : ℕ) : Type 0 where
+  pub borrowed : All IsBorrowed shared
+  pub counted : count ≡ length shared
+  pub fits : count + others ≤ room

@@ -1,0 +1,10 @@
+//! Comments that a lexer gathers, the tokens that they belong to, and how they are handed over to a store.
+#![tactic(auto)]
+
+pub mod attachment;
+pub mod comments_buffer;
+mod hand_over;
+mod shared_comments;
+
+pub use attachment::Around;
+pub use comments_buffer::{BufferedComment, BufferedCommentKind, CommentsBuffer};

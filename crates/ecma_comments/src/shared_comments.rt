@@ -1,0 +1,222 @@
+//! Comments in order, most of which a list and its copies share.
+ghost use Rattle.std.specs.Prelude.{◌≡◌, ◌+◌, ◌≤◌, ◌++◌, ◌∷◌, [], length, IsTrue, IfOk, IfSome, IsOk, OnOk, OnErr, vec_len, vec_capacity};
+ghost use Rattle.std.specs.List.{All};
+ghost use Rattle.ecma_comments.specs.SharedComments.{IsBorrowed, of_blocks};
+
+use crate::comments_buffer::BufferedComment;
+use std::alloc::{AllocError, Global};
+use std::marker::Model;
+use std::mem;
+use std::sync::Arc;
+
+/// How many comments make a block. A copy of a list copies fewer, and counts one owner more of each block.
+const BLOCK: usize = 64;
+
+/// Comments whose texts are borrowed. Nothing changes a block.
+type Block<'a> = Arc<Vec<BufferedComment<'a>>>;
+
+/// Comments in order. Those of the blocks are shared with copies of the list.
+#[derive(Drop)]
+pub(crate) struct SharedComments<'a> {
+    blocks: Vec<Block<'a>>,
+    /// How many comments the blocks have.
+    in_blocks: usize,
+    /// Whether the comments behind the blocks stay out of them: one owns its text, or there was no memory for a block.
+    unshared: bool,
+    /// The comments behind the blocks, with room for all, so that the list can always be taken as one `Vec`.
+    last: Vec<BufferedComment<'a>>,
+}
+
+impl<'a> Model for SharedComments<'a> {
+    ghost use Rattle.std.specs.Prelude.{List, ◌++◌, vec_len, vec_capacity};
+    ghost use Rattle.ecma_comments.specs.declared.comments_buffer.BufferedComment.{BufferedComment};
+    ghost use Rattle.ecma_comments.specs.SharedComments.{AreShared, of_blocks};
+
+    ghost Value = { List BufferedComment };
+
+    ghost view = { λ l. of_blocks l.blocks.items ++ l.last.items };
+
+    ghost invariant = { λ l. AreShared (of_blocks l.blocks.items) l.in_blocks (vec_len l.last) (vec_capacity l.last) };
+}
+
+/// Whether no comment owns its text.
+fn all_borrowed(comments: &[BufferedComment]) -> bool
+    ensures { IsTrue result → All IsBorrowed comments.now }
+{
+    'comments: for comment in comments {
+        if !comment.comment.text.is_borrowed() {
+            return false;
+        }
+    }
+    true
+}
+
+/// Adds copies of these comments, for which there is room.
+pub(crate) fn add_copies<'a>(
+    to: &mut Vec<BufferedComment<'a>>,
+    comments: &[BufferedComment<'a>],
+) -> Result<(), AllocError>
+    requires { vec_len to.old + length comments.now ≤ vec_capacity to.old }
+    ensures items { OnOk result (to.new.items ≡ to.old.items ++ comments.now) }
+    ensures capacity { vec_capacity to.new ≡ vec_capacity to.old }
+    ensures free { All IsBorrowed comments.now → IsOk result }
+{
+    let alloc = *to.allocator();
+    'comments: for comment in comments {
+        to.push_reserved(comment.copy(alloc)?);
+    }
+    Ok(())
+}
+
+/// A block of these comments, where none owns its text and there is memory for it.
+fn block_of<'a>(alloc: Global, comments: &[BufferedComment<'a>]) -> Option<Block<'a>>
+    ensures same { IfSome result (λ block. block.value.items ≡ comments.now) }
+    ensures borrowed { IfSome result (λ _. All IsBorrowed comments.now) }
+{
+    if !all_borrowed(comments) {
+        return None;
+    }
+    let mut block = Vec::with_capacity(alloc, comments.len()).ok()?;
+    add_copies(&mut block, comments).ok()?;
+    Arc::new(alloc, block).ok()
+}
+
+/// The same blocks, with one owner more of each.
+fn same_blocks<'a>(alloc: Global, blocks: &[Block<'a>]) -> Result<Vec<Block<'a>>, AllocError>
+    ensures { IfOk result (λ same. of_blocks same.items ≡ of_blocks blocks.now) }
+{
+    let mut same = Vec::with_capacity(alloc, blocks.len())?;
+    'every: for block in blocks {
+        same.push_reserved(Arc::try_clone(block)?);
+    }
+    Ok(same)
+}
+
+/// Adds the comments of these blocks, for which there is room.
+fn add_blocks<'a>(to: &mut Vec<BufferedComment<'a>>, blocks: Vec<Block<'a>>)
+    requires borrowed { All IsBorrowed (of_blocks blocks.items) }
+    requires room { vec_len to.old + length (of_blocks blocks.items) ≤ vec_capacity to.old }
+    ensures { to.new.items ≡ to.old.items ++ of_blocks blocks.entry.items }
+{
+    'every: for block in blocks {
+        // A comment whose text is borrowed is copied without memory.
+        let _ = add_copies(to, block.as_slice());
+    }
+}
+
+impl<'a> SharedComments<'a> {
+    /// No comments, which takes no memory.
+    pub(crate) fn new(alloc: Global) -> SharedComments<'a>
+        ensures { result ≡ [] }
+    {
+        SharedComments {
+            blocks: Vec::new(alloc),
+            in_blocks: 0,
+            unshared: false,
+            last: Vec::new(alloc),
+        }
+    }
+
+    /// Puts the comments behind the blocks into a block of their own, where there is memory for it.
+    fn close_block(&mut self)
+        ensures { self.new ≡ self.old }
+    {
+        let block = block_of(*self.last.allocator(), self.last.as_slice());
+        if let Some(block) = block
+            && self.blocks.push(block).is_ok()
+        {
+            self.in_blocks += self.last.len();
+            self.last.clear();
+        } else {
+            self.unshared = true;
+        }
+    }
+
+    /// Closes a block where there are enough comments for one.
+    fn share(&mut self)
+        ensures { self.new ≡ self.old }
+    {
+        if self.last.len() >= BLOCK && !self.unshared {
+            self.close_block();
+        }
+    }
+
+    /// Adds a comment.
+    ///
+    /// # Errors
+    ///
+    /// `AllocError` where there is no memory for it. Nothing is then changed.
+    pub(crate) fn push(&mut self, comment: BufferedComment<'a>) -> Result<(), AllocError>
+        ensures ok { OnOk result (self.new ≡ self.old ++ comment.entry ∷ []) }
+        ensures err { OnErr result (self.new ≡ self.old) }
+    {
+        self.share();
+        self.last.reserve(self.in_blocks + 1)?;
+        self.last.push_reserved(comment);
+        Ok(())
+    }
+
+    /// Moves comments to the end.
+    ///
+    /// # Errors
+    ///
+    /// `AllocError` where there is no memory for them. Nothing is then changed.
+    pub(crate) fn append(&mut self, others: &mut Vec<BufferedComment<'a>>) -> Result<(), AllocError>
+        ensures ok { OnOk result (self.new ≡ self.old ++ others.old.items) }
+        ensures err { OnErr result (self.new ≡ self.old) }
+    {
+        self.share();
+        self.last.reserve(self.in_blocks + others.len())?;
+        self.last.append(others)
+    }
+
+    /// The same comments.
+    ///
+    /// # Errors
+    ///
+    /// `AllocError` where there is no memory for them.
+    pub(crate) fn copy(&self) -> Result<SharedComments<'a>, AllocError>
+        ensures { IfOk result (λ copy. copy ≡ self.now) }
+    {
+        let alloc = *self.last.allocator();
+        // With room for a block more, so that the next comments don't move the room of all.
+        let more = if self.blocks.is_empty() { 0 } else { BLOCK };
+        let mut last = Vec::with_capacity(alloc, self.in_blocks + self.last.len() + more)?;
+        add_copies(&mut last, self.last.as_slice())?;
+        Ok(SharedComments {
+            blocks: same_blocks(alloc, self.blocks.as_slice())?,
+            in_blocks: self.in_blocks,
+            unshared: self.unshared,
+            last,
+        })
+    }
+
+    /// Takes the comments, which takes no memory.
+    pub(crate) fn take(&mut self) -> Vec<BufferedComment<'a>>
+        ensures taken { result.items ≡ self.old }
+        ensures left { self.new ≡ [] }
+    {
+        let alloc = *self.last.allocator();
+        let mut comments = mem::replace(&mut self.last, Vec::new(alloc));
+        let blocks = mem::replace(&mut self.blocks, Vec::new(alloc));
+        self.in_blocks = 0;
+        self.unshared = false;
+        let behind = comments.len();
+        add_blocks(&mut comments, blocks);
+        comments.rotate_left(behind);
+        comments
+    }
+
+    /// Puts comments where there are none.
+    pub(crate) fn put(&mut self, comments: Vec<BufferedComment<'a>>)
+        ensures { self.new ≡ comments.entry.items }
+    {
+        let alloc = *self.last.allocator();
+        *self = SharedComments {
+            blocks: Vec::new(alloc),
+            in_blocks: 0,
+            unshared: false,
+            last: comments,
+        };
+    }
+}

@@ -1,0 +1,4 @@
+pub mod ContextPairs
+pub mod Contexts
+pub mod Transition
+pub use Rattle.ecma_token.specs.Questions

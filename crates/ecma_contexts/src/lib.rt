@@ -1,0 +1,10 @@
+//! What encloses the place that is read: a stack of contexts, and how a token changes it.
+#![tactic(auto)]
+
+mod context_pair;
+pub mod token_context;
+pub mod token_contexts;
+pub mod transition;
+
+pub use token_context::TokenContext;
+pub use token_contexts::TokenContexts;
