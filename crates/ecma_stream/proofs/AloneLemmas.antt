@@ -9,7 +9,7 @@ use Rattle.ecma_place.specs.Text.{Text}
 use Rattle.ecma_place.proofs.RunLemmas.{first-cons}
 use Rattle.ecma_token.specs.declared.token.Radix.TheVariants.{Decimal}
 use Rattle.ecma_token.specs.declared.token.Token.{Token}
-use Rattle.ecma_grammar.proofs.PunctuatorLemmas.{first_of-none}
+use Rattle.ecma_scan.proofs.PunctuatorLemmas.{first_of-none}
 use Rattle.ecma_scan.specs.Alone.{IsSpelledBy, StandsAlone}
 use Rattle.ecma_scan.specs.Bars.{opens_bars}
 use Rattle.ecma_scan.specs.Numbers.{digit, opens_fraction, opens_number}
