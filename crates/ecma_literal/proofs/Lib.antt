@@ -7,3 +7,4 @@ pub mod PlainStrings
 pub mod TemplateFound
 pub mod TemplateLaws
 pub mod TemplatePieces
+pub mod VerbatimPieces

@@ -1,3 +1,5 @@
+pub mod PlainTemplates
+pub mod VerbatimTexts
 pub mod WrittenExpressions
 pub mod WrittenTemplates
 pub use Rattle.ecma_grammar.specs.Bars

@@ -7,4 +7,4 @@ pub mod template;
 
 pub use expression::scan_regexp;
 pub use string::{eat_plain_string, scan_string};
-pub use template::scan_template;
+pub use template::{PlainTemplate, eat_plain_template, scan_template};

@@ -10,9 +10,12 @@ ghost use Rattle.ecma_grammar.specs.Templates as templates;
 
 mod cooked;
 mod pieces;
+pub mod plain;
 mod survey;
 mod token;
+mod verbatim;
 
+pub use crate::template::plain::{PlainTemplate, eat_plain_template};
 use crate::template::survey::survey_text;
 use crate::template::token::template_token;
 use ecma_grammar::found::Found;

@@ -8,7 +8,8 @@ pub use ecma_gap::{
 };
 pub use ecma_grammar::{Blame, Found, GapMode, found, gap_mode};
 pub use ecma_literal::{
-    eat_plain_string, expression, scan_regexp, scan_string, scan_template, string, template,
+    PlainTemplate, eat_plain_string, eat_plain_template, expression, scan_regexp, scan_string,
+    scan_template, string, template,
 };
 pub use ecma_number::{eat_plain_number, number, scan_number};
 pub use ecma_punctuator::{

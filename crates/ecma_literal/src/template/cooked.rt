@@ -1,5 +1,5 @@
 //! What template text means (the standard's TV).
-ghost use Rattle.std.specs.Prelude.{◌≡◌, ◌++◌, OnOk, IfOk, encode_utf8_all, string_bytes};
+ghost use Rattle.std.specs.Prelude.{◌≡◌, ◌++◌, ◌≤◌, length, OnOk, IfOk, encode_utf8_all, string_bytes};
 ghost use Rattle.ecma_place.specs.Cursor.{rest};
 ghost use Rattle.ecma_place.specs.Text.{Text};
 ghost use Rattle.ecma_grammar.specs.Pieces.{pieces};
@@ -7,6 +7,7 @@ ghost use Rattle.ecma_grammar.specs.Templates as templates;
 ghost use Rattle.ecma_literal.specs.WrittenTemplates.{piece_of};
 
 use crate::template::pieces::{Piece, read_piece};
+use crate::template::verbatim::pass_verbatim;
 use ecma_escape::escape::push_value;
 use ecma_place::StringInput;
 use std::alloc::{AllocError, Global};
@@ -25,16 +26,29 @@ fn push_piece(cooked: &mut String, piece: Piece, spelling: &str) -> Result<(), A
     }
 }
 
+/// Moves behind the pieces at the cursor that mean what is written, and adds them.
+fn push_verbatim(cooked: &mut String, input: &mut StringInput) -> Result<(), AllocError>
+    ensures cooked { OnOk result (string_bytes cooked.new ++ encode_utf8_all (templates.cooked_text (pieces templates.template_cutter tt (rest input.new)))
+        ≡ string_bytes cooked.old ++ encode_utf8_all (templates.cooked_text (pieces templates.template_cutter tt (rest input.old)))) }
+    ensures shorter { length (rest input.new) ≤ length (rest input.old) }
+{
+    let start = input.cur_pos();
+    pass_verbatim(input);
+    cooked.push_str(input.slice(start, input.cur_pos()))
+}
+
 /// Moves over template text, up to a back quote, `${` or the end, and answers what it means.
 pub(super) fn cook_text(alloc: Global, input: &mut StringInput) -> Result<String, AllocError>
     ensures { IfOk result (λ s. string_bytes s ≡ encode_utf8_all (templates.cooked_text (pieces templates.template_cutter tt (rest input.old)))) }
 {
     let mut cooked = String::new(alloc);
+    push_verbatim(&mut cooked, input)?;
     let mut start = input.cur_pos();
     'pieces: while let Some(piece) = read_piece(input) {
         let end = input.cur_pos();
         push_piece(&mut cooked, piece, input.slice(start, end))?;
-        start = end;
+        push_verbatim(&mut cooked, input)?;
+        start = input.cur_pos();
     }
     Ok(cooked)
 }

@@ -24,7 +24,7 @@ pub(super) enum Piece {
 }
 
 /// Whether template text stops at the cursor, where this character is: at a back quote or `${`.
-fn stops(input: &StringInput, c: char) -> bool
+pub(super) fn stops(input: &StringInput, c: char) -> bool
     requires { slice_get (rest input.now) 0 ≡ Some c }
     ensures { result ≡ (c == 96 || (c == 36 && next_is 123 (drop 1 (rest input.now)))) }
 {

@@ -11,6 +11,7 @@ ghost use Rattle.ecma_escape.specs.declared.escape.Meaning.TheVariants.{Refused}
 ghost use Rattle.ecma_literal.specs.declared.template.pieces.Piece.TheVariants.{Escaped};
 
 use crate::template::pieces::{Piece, is_break, is_verbatim, read_piece};
+use crate::template::verbatim::pass_verbatim;
 use ecma_escape::escape::{Meaning, Refusal, Use, refusal_span};
 use ecma_place::{BytePos, Span, StringInput};
 
@@ -55,7 +56,7 @@ pub(super) fn survey_text(input: &mut StringInput) -> Survey
 {
     let mut survey = Survey {
         is_verbatim: true,
-        line_break: false,
+        line_break: pass_verbatim(input),
         refusal: None,
     };
     let mut start = input.cur_pos();
@@ -64,7 +65,8 @@ pub(super) fn survey_text(input: &mut StringInput) -> Survey
         survey.is_verbatim &= is_verbatim(piece);
         survey.line_break |= is_break(piece);
         survey.refusal = newer(survey.refusal, piece, start, end);
-        start = end;
+        survey.line_break |= pass_verbatim(input);
+        start = input.cur_pos();
     }
     survey
 }

@@ -12,17 +12,17 @@ slice-requires-clause-in_order c =
 pub pieces-smaller : goal.pieces-smaller
 pieces-smaller c =
     let is = piece_read c.in-Some.piece _ _ c.in-Some.ensures.value c.in-Some.ensures.moved in
-    is.shorter
+    omega (arith, is.shorter, c.push_verbatim-in-Some.ensures.shorter)
 
 pub pieces-preserved : goal.pieces-preserved
 pieces-preserved c =
     let old = c.pieces.input in
-    let now = c.read_piece.new.input in
+    let mid = c.read_piece.new.input in
     let spelling = first_text (rest old) in
     let piece = piece_of spelling c.in-Some.piece in
-    let is = piece_read c.in-Some.piece old now c.in-Some.ensures.value c.in-Some.ensures.moved in
-    let written = c.slice.ensures ∙ piece-slice c.in-Some.piece old now _ _ c.in-Some.ensures.value c.in-Some.ensures.moved c.pieces.invariant.start c.cur_pos-end.ensures in
+    let is = piece_read c.in-Some.piece old mid c.in-Some.ensures.value c.in-Some.ensures.moved in
+    let written = c.slice.ensures ∙ piece-slice c.in-Some.piece old mid _ _ c.in-Some.ensures.value c.in-Some.ensures.moved c.pieces.invariant.start c.cur_pos-end.ensures in
     record {
-      cooked = cooked_on _ _ _ piece old now is (c.in_ok-push_piece.ensures spelling written) c.pieces.invariant.cooked;
-      start = c.cur_pos-end.ensures;
+      cooked = c.in_ok-push_verbatim-2.ensures.cooked ∙ cooked_on _ _ _ piece old mid is (c.in_ok-push_piece.ensures spelling written) c.pieces.invariant.cooked;
+      start = c.cur_pos-start-in-Some.ensures;
     }
