@@ -33,6 +33,13 @@ other-opens mode flag text template number string word bars = rw (template, numb
     go true = refl
     go false = refl
 
+pub other-byte : (b k : ℕ) → (b ≡ k → ⊥) → (b == k) ≡ false
+other-byte b k other = go (b == k) refl
+  where
+    go : (is : Bool) → (b == k) ≡ is → is ≡ false
+    go true e = absurd (other (eqb-true b k e))
+    go false e = refl
+
 -- what begins a punctuator begins nothing else
 
 starts : ℕ → Bool

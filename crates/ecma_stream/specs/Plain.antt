@@ -31,6 +31,10 @@ plain_reading t behind = record { found = Some t; end_flag = t.had_line_break; f
 abbrev pub text_reading : SpannedView → Cursor → Reading
 text_reading t behind = record { found = Some t; end_flag = false; faults = []; comments = []; input = behind }
 
+-- what stands in a template is read, and a token came before
+abbrev pub ReadsText : Mode → Type 0
+ReadsText mode = (mode.shebang_allowed ≡ false) × (mode.first ≡ false) × (is_template mode.top ≡ true)
+
 -- such a text
 abbrev pub text_view : SpannedView → FoundView TokenView
 text_view t = record { value = Ok t.token; faults = []; extent = t.span; line_break = t.had_line_break }

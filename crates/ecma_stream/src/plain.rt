@@ -4,7 +4,7 @@ ghost use Rattle.ecma_place.specs.Cursor.{Cursor, HasPlace, rest, place, passed}
 ghost use Rattle.ecma_syntax.specs.declared.settings.NumberRule.{NumberRule};
 ghost use Rattle.ecma_syntax.specs.declared.settings.NumberRule.TheVariants.{Crate};
 ghost use Rattle.ecma_token.specs.View.{spanned_view, token_view};
-ghost use Rattle.ecma_scan.specs.Found.{found_at, found_view, token_behind};
+ghost use Rattle.ecma_scan.specs.Found.{found_at, found_view, span_of, token_behind};
 ghost use Rattle.ecma_scan.specs.Numbers.{number, opens_number};
 ghost use Rattle.ecma_scan.specs.Strings.{opens_string, string_literal};
 ghost use Rattle.ecma_scan.specs.Templates.{template_found, template_text};
@@ -295,6 +295,25 @@ pub fn plain_text<'a>(
         }))),
         Err(_) => Ok(None),
     }
+}
+
+/// Template text, or the sign behind that, between two places.
+#[inline(always)]
+pub fn text_between<'a>(
+    token: Token<'a>,
+    line_break: bool,
+    start: BytePos,
+    end: BytePos,
+) -> Plain<'a>
+    requires { start.0 ≤ end.0 }
+    ensures token { spanned_view result.token ≡ record { token = token_view token.entry; span = span_of start.0 end.0; had_line_break = line_break } }
+    ensures kept { IsKept result }
+{
+    with_kept(TokenAndSpan {
+        token,
+        had_line_break: line_break,
+        span: Span::new(start, end),
+    })
 }
 
 /// The gap at the cursor with which a read begins, where there is nothing to report of it but the flag.

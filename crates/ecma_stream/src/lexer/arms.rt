@@ -16,8 +16,8 @@ use crate::plain::{
     Plain, eaten_number, eaten_string, plain_alone, plain_foreign, plain_gap, plain_number,
     plain_punctuator, plain_string, with_kept, word_behind,
 };
-use crate::slot::put;
 use ecma_place::BytePos;
+use ecma_slot::put;
 use ecma_scan::{BlankGap, PunctuatorKind, eat_plain_kind};
 use ecma_syntax::{IdentKind, WordKind};
 use ecma_token::TokenAndSpan;

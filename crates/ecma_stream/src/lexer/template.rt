@@ -1,17 +1,17 @@
 //! The arm of a read in a template: its text, and the sign behind that.
-ghost use Rattle.std.specs.Prelude.{◌≡◌, ◌<◌, ◌≤◌, true, false, None, length, IsOk, OnOk, OnErr, []};
+ghost use Rattle.std.specs.Prelude.{◌≡◌, ◌<◌, ◌≤◌, ℕ, true, None, Some, length, slice_get, IsOk, OnOk, OnErr, []};
 ghost use Rattle.ecma_place.specs.Cursor.{HasPlace, rest};
-ghost use Rattle.ecma_state.specs.Mode.{is_template};
 ghost use Rattle.ecma_state.specs.Reading.{reading};
 ghost use Rattle.ecma_state.specs.Run.{at_place, is_free_read, mode_of};
 ghost use Rattle.ecma_state.specs.Session.{lexer_state};
-ghost use Rattle.ecma_stream.specs.Plain.{back_at, Gives, IsKept, IsRefused, text_reading};
+ghost use Rattle.ecma_stream.specs.Plain.{back_at, Gives, IsKept, IsRefused, ReadsText, text_reading};
 ghost use Rattle.ecma_token.specs.View.{spanned_view};
 
 use super::Lexer;
-use crate::plain::{Plain, plain_text};
-use crate::slot::put;
+use crate::plain::{Plain, plain_text, text_between};
 use ecma_place::BytePos;
+use ecma_scan::{PlainTemplate, eat_plain_template};
+use ecma_slot::put;
 use ecma_state::mode::Mode;
 use ecma_token::TokenAndSpan;
 use std::alloc::AllocError;
@@ -19,7 +19,7 @@ use std::alloc::AllocError;
 /// Whether template text is read at the cursor, and a token came before.
 #[inline(always)]
 fn reads_text(mode: &Mode) -> bool
-    ensures { result ≡ true → (mode.now.shebang_allowed ≡ false) × (mode.now.first ≡ false) × (is_template mode.now.top ≡ true) }
+    ensures { result ≡ true → ReadsText mode.now }
 {
     !mode.shebang_allowed && !mode.first && mode.is_in_template()
 }
@@ -47,6 +47,56 @@ impl<'a> Lexer<'a> {
         Ok(())
     }
 
+    /// Reads what stands in a template at the cursor, with an escape or a CR in it.
+    // A call of its own, so that the room for what is scanned is kept there alone.
+    #[inline(never)]
+    fn scanned_text_into(
+        &mut self,
+        slot: &mut Option<TokenAndSpan<'a>>,
+    ) -> Result<(), AllocError>
+        requires none { self.old.reread ≡ None }
+        requires text { ReadsText (mode_of (lexer_state self.old)) }
+        requires more { (c : ℕ) × (slice_get (rest self.old.input) 0 ≡ Some c) }
+        ensures done { OnOk result (Gives self.old self.new slot.old slot.new true) }
+        ensures refused { OnErr result (IsRefused self.old self.new slot.old slot.new) }
+        ensures free { length self.old.state.contexts < 128 → is_free_read (lexer_state self.old) ≡ true → IsOk result }
+    {
+        let mode = self.mode();
+        let before = self.input.cur_pos();
+        match plain_text(self.alloc, &mut self.input, &mode)? {
+            Some(plain) => self.give_text(slot, before, plain),
+            None => {
+                self.go_before(before);
+                self.besides_into(slot)
+            }
+        }
+    }
+
+    /// Reads what stands in a template at the cursor.
+    #[inline(never)]
+    fn template_into(&mut self, slot: &mut Option<TokenAndSpan<'a>>) -> Result<(), AllocError>
+        requires none { self.old.reread ≡ None }
+        requires text { ReadsText (mode_of (lexer_state self.old)) }
+        requires more { (c : ℕ) × (slice_get (rest self.old.input) 0 ≡ Some c) }
+        ensures done { OnOk result (Gives self.old self.new slot.old slot.new true) }
+        ensures refused { OnErr result (IsRefused self.old self.new slot.old slot.new) }
+        ensures free { length self.old.state.contexts < 128 → is_free_read (lexer_state self.old) ≡ true → IsOk result }
+    {
+        let before = self.input.cur_pos();
+        let after_template = self.mode().is_after_template();
+        match eat_plain_template(&mut self.input, after_template) {
+            PlainTemplate::Read(token, line_break) => {
+                let end = self.input.cur_pos();
+                self.give_text(slot, before, text_between(token, line_break, before, end))
+            }
+            PlainTemplate::Unterminated(_) => {
+                self.go_before(before);
+                self.besides_into(slot)
+            }
+            PlainTemplate::Other => self.scanned_text_into(slot),
+        }
+    }
+
     /// Reads what is at the cursor where `plain_gap` answers nothing: what stands in a template, else a name that begins past
     /// ASCII, or what has more to report than a token.
     #[inline(never)]
@@ -64,16 +114,9 @@ impl<'a> Lexer<'a> {
         if !reads_text(&mode) {
             return self.foreign_into(slot);
         }
-        let Some(_) = self.input.cur() else {
+        if self.input.cur().is_none() {
             return self.besides_into(slot);
-        };
-        let before = self.input.cur_pos();
-        match plain_text(self.alloc, &mut self.input, &mode)? {
-            Some(plain) => self.give_text(slot, before, plain),
-            None => {
-                self.go_before(before);
-                self.besides_into(slot)
-            }
         }
+        self.template_into(slot)
     }
 }

@@ -9,7 +9,7 @@ use Rattle.ecma_stream.specs.View.{lexer_view}
 use Rattle.ecma_stream.proofs.ArmLemmas.{at-text, has-before, moved-lexer, text-back}
 use Rattle.ecma_stream.proofs.PlainLemmas.{free-text, text-read}
 use Rattle.ecma_stream.proofs.SlashLemmas.{same-lexer}
-use Rattle.ecma_stream.proofs.lexer.Lexer.text_into.Goals as goal
+use Rattle.ecma_stream.proofs.lexer.Lexer.scanned_text_into.Goals as goal
 
 pub invariant_of-self : goal.invariant_of-self
 invariant_of-self c = same-lexer c.self.inside _ c.self.invariant c.in_err-plain.ensures.same refl refl c.self.invariant.none_pending
@@ -32,7 +32,7 @@ give_text-requires-clause-found c =
     let now = c.plain_text.new.input in
     let t = spanned_view c.in-Some-2.plain.token in
     let own : c.mode-mode.result ≡ mode_of (lexer_state (lexer_view a)) = c.mode-mode.ensures ∙ ap (λ k. mode_of (lexer_state k)) (sym c.self.view_is) in
-    let is = c.reads_text.ensures c.if-not-reads_text.false in
+    let is = (subst ReadsText (sym c.mode-mode.ensures) c.requires.text) in
     let first = sym c.in-Some.ensures.first in
     let token = rw c.in-Some-2.is at c.in_ok-plain.ensures.token in
     ap (reading (mode_of (lexer_state (lexer_view a)))) (at-text a.input now c.cur_pos-before.result _ _ c.in_ok-plain.ensures.moved c.cur_pos-before.ensures first)
@@ -60,7 +60,7 @@ pub returns-in_err-plain-clause-free : goal.returns-in_err-plain-clause-free
 returns-in_err-plain-clause-free c = λ few h.
     let a = c.self.inside in
     let own : c.mode-mode.result ≡ mode_of (lexer_state (lexer_view a)) = c.mode-mode.ensures ∙ ap (λ k. mode_of (lexer_state k)) (sym c.self.view_is) in
-    let is = c.reads_text.ensures c.if-not-reads_text.false in
+    let is = (subst ReadsText (sym c.mode-mode.ensures) c.requires.text) in
     let there : is_free_read (lexer_state (lexer_view a)) ≡ true = ap (λ k. is_free_read (lexer_state k)) c.self.view_is ∙ h in
     let none : a.reread ≡ None = ap (λ k. k.reread) c.self.view_is ∙ c.requires.none in
     let free : is_free (mode_of (lexer_state (lexer_view a))) a.input ≡ true = rw none at there in

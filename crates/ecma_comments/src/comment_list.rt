@@ -1,8 +1,8 @@
 //! A store of comments.
 ghost use Rattle.std.specs.Prelude.{◌≡◌, ◌++◌, ◌∷◌, [], OnOk, OnErr, IfErr};
 
+use crate::comments_buffer::{BufferedComment, BufferedCommentKind};
 use ecma_place::{BytePos, Comment, Comments};
-use ecma_state::{BufferedComment, BufferedCommentKind};
 use std::alloc::Global;
 use std::marker::Model;
 
@@ -59,7 +59,7 @@ impl<'a> CommentList<'a> {
 
 impl<'a> Comments<'a> for CommentList<'a> {
     ghost use Rattle.std.specs.Prelude.{map};
-    ghost use Rattle.ecma_state.specs.HandOver.{added_of};
+    ghost use Rattle.ecma_comments.specs.HandOver.{added_of};
 
     ghost added = { λ list. map added_of list };
 

@@ -1,4 +1,4 @@
-//! The slot that a token is put into. Our own, for speed.
+//! The slot that a token is read into: a token takes the place of the one before. Our own, for speed.
 ghost use Rattle.std.specs.Prelude.{◌≡◌, true, false, None, Some, IfSome};
 ghost use Rattle.ecma_token.specs.View.{token_owns_nothing};
 
@@ -6,7 +6,8 @@ use ecma_syntax::{IdentLike, Word};
 use ecma_token::{Token, TokenAndSpan};
 use std::mem;
 
-/// Whether the token in the slot may own memory. Most own none: names, keywords and punctuators.
+/// Whether the token in the slot may own memory. Most own none: names, keywords, punctuators, and texts that mean what is
+/// written.
 #[inline(always)]
 fn may_own(slot: &Option<TokenAndSpan>) -> bool
     ensures { IfSome slot.now (λ token. result ≡ false → token_owns_nothing token.token ≡ true) }
@@ -14,8 +15,12 @@ fn may_own(slot: &Option<TokenAndSpan>) -> bool
     match slot {
         Some(token) => match &token.token {
             Token::Word(Word::Ident(IdentLike::Other(name))) => !name.is_borrowed(),
+            Token::Template {
+                raw,
+                cooked: Ok(cooked),
+            } => !raw.is_borrowed() || !cooked.is_borrowed(),
+            Token::Str { value, raw } => !value.is_borrowed() || !raw.is_borrowed(),
             Token::Template { .. }
-            | Token::Str { .. }
             | Token::Regex(..)
             | Token::Num { .. }
             | Token::BigInt { .. }

@@ -1,0 +1,6 @@
+//! The slot that a token is read into.
+#![tactic(auto)]
+
+pub mod slot;
+
+pub use slot::put;
