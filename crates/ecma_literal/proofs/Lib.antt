@@ -7,4 +7,5 @@ pub mod PlainStrings
 pub mod TemplateFound
 pub mod TemplateLaws
 pub mod TemplatePieces
+pub mod PlainTemplateFound
 pub mod VerbatimPieces

@@ -187,8 +187,8 @@ passes-shorter flag old now is = omega (arith, ap length (rest-behind old now _ 
 
 -- what holds of the pieces that are left holds of all
 
-taken : (flag : Bool) (old now : Cursor) → (is : PassesVerbatim flag old now) → take (length (spelled template_cutter is.between)) (rest old) ≡ spelled template_cutter is.between
-taken flag old now is =
+pub passes-taken : (flag : Bool) (old now : Cursor) → (is : PassesVerbatim flag old now) → take (length (spelled template_cutter is.between)) (rest old) ≡ spelled template_cutter is.between
+passes-taken flag old now is =
     let front = spelled template_cutter is.between in
     let more = spelled template_cutter (pieces_at now) ++ remainder template_cutter tt (rest old) in
     let whole : front ++ more ≡ rest old =
@@ -198,7 +198,7 @@ taken flag old now is =
     ap (take (length front)) (sym whole) ∙ take_at front more (length front) refl
 
 pub passes-place : (flag : Bool) (old now : Cursor) → (is : PassesVerbatim flag old now) → place now ≡ place old + byte_len (spelled template_cutter is.between)
-passes-place flag old now is = place-passed old now _ is.moved ∙ ap (λ t. place old + byte_len t) (taken flag old now is)
+passes-place flag old now is = place-passed old now _ is.moved ∙ ap (λ t. place old + byte_len t) (passes-taken flag old now is)
 
 pub and-over : (was flag : Bool) (old now : Cursor) (all : Bool) → PassesVerbatim flag old now → (was && list_all is_verbatim (pieces_at old)) ≡ all → (was && list_all is_verbatim (pieces_at now)) ≡ all
 and-over was flag old now all is before =
@@ -249,7 +249,7 @@ pub cooked-over : (was now_cooked slice all : List ℕ) (flag : Bool) (old now :
     → was ++ encode_utf8_all (cooked_text (pieces_at old)) ≡ all → now_cooked ++ encode_utf8_all (cooked_text (pieces_at now)) ≡ all
 cooked-over was now_cooked slice all flag old now from to is e s f t before =
     let front = spelled template_cutter is.between in
-    let text : slice ≡ encode_utf8_all front = s ∙ text-passed old now (length front) from to is.moved f t ∙ ap encode_utf8_all (taken flag old now is) in
+    let text : slice ≡ encode_utf8_all front = s ∙ text-passed old now (length front) from to is.moved f t ∙ ap encode_utf8_all (passes-taken flag old now is) in
     let split : encode_utf8_all (cooked_text (pieces_at old)) ≡ encode_utf8_all front ++ encode_utf8_all (cooked_text (pieces_at now)) =
     ap (λ ps. encode_utf8_all (cooked_text ps)) is.all ∙ ap encode_utf8_all (cooked-append is.between (pieces_at now) ∙ ap (λ l. l ++ cooked_text (pieces_at now)) (same_text is.between is.verbatim))
     ∙ encodes-append front (cooked_text (pieces_at now)) in

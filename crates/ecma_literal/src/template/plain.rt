@@ -53,9 +53,11 @@ pub fn eat_plain_template<'a>(
         };
         return PlainTemplate::Read(token, line_break);
     }
-    if input.cur().is_none() {
-        return PlainTemplate::Unterminated(line_break);
+    match input.cur() {
+        None => PlainTemplate::Unterminated(line_break),
+        Some(_) => {
+            input.reset_to(start);
+            PlainTemplate::Other
+        }
     }
-    input.reset_to(start);
-    PlainTemplate::Other
 }
