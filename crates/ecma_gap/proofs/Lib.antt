@@ -1,6 +1,7 @@
 pub mod BarsLaws
 pub mod BarsLemmas
 pub mod BlankGapLemmas
+pub mod BlankRuns
 pub mod BodyLemmas
 pub mod ElementLemmas
 pub mod GapFaults

@@ -21,7 +21,7 @@ fn is_white_byte(b: u8) -> bool
 
 /// The white space character at the cursor, if there is one. Only past ASCII a character is decoded.
 #[inline(always)]
-fn white_space_at(input: &StringInput) -> Option<char>
+pub(crate) fn white_space_at(input: &StringInput) -> Option<char>
     ensures first { IfSome result (λ c. slice_get (rest input.now) 0 ≡ Some c) }
     ensures white { IfSome result (λ c. is_white_space c ≡ true) }
     ensures none { IfNone result (next_passes is_white_space (rest input.now) ≡ false) }

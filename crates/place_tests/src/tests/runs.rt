@@ -15,6 +15,11 @@ const CLASSES: &[(ByteClass, &str, &str)] = &[
     (ByteClass::Plain(Quote::Double), "a'*`\0\t ", "\"\\\r\n"),
     (ByteClass::Line, "a*/'\"\\\t ", "\r\n\u{2028}\u{2029}€"),
     (ByteClass::Block, "a/'\"\\\t ", "*\r\n\u{2028}\u{2029}€"),
+    (
+        ByteClass::Template,
+        "a{}'\"*/\0\t ",
+        "`$\\\r\n\u{2028}\u{2029}€",
+    ),
 ];
 
 const LENGTHS: &[usize] = &[0, 1, 31, 32, 33, 63, 64, 65];
@@ -74,6 +79,9 @@ fn steps_over_characters_past_ascii(rt: HostRuntime) {
         (ByteClass::Plain(Quote::Double), "aé\u{2029}€😀\"b", 13),
         (ByteClass::Line, "aé日😀\u{2028}b", 10),
         (ByteClass::Block, "aé日😀*/", 10),
+        (ByteClass::Template, "aéâ日😀`b", 12),
+        (ByteClass::Template, "aéâ日😀${b", 12),
+        (ByteClass::Template, "aéâ日😀€b", 12),
     ];
     for row in ROWS {
         let (class, text, length) = *row;
