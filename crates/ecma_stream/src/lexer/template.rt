@@ -114,9 +114,9 @@ impl<'a> Lexer<'a> {
         if !reads_text(&mode) {
             return self.foreign_into(slot);
         }
-        if self.input.cur().is_none() {
-            return self.besides_into(slot);
+        match self.input.cur() {
+            Some(_) => self.template_into(slot),
+            None => self.besides_into(slot),
         }
-        self.template_into(slot)
     }
 }
