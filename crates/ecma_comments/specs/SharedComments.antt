@@ -16,7 +16,7 @@ of_blocks blocks = flat_map (λ (block : Block). block.value.items) blocks
 abbrev pub IsBorrowed : BufferedComment → Type 0
 IsBorrowed c = IsTrue c.comment.text.is_borrowed
 
--- so many comments are shared, which can be copied without memory, and behind the others there is room for them
+-- so many comments are shared, whose copies do not allocate, and behind the others there is room for them
 pub record AreShared (shared : List BufferedComment) (count others room : ℕ) : Type 0 where
   pub borrowed : All IsBorrowed shared
   pub counted : count ≡ length shared

@@ -97,7 +97,7 @@ impl<'a> CommentsBuffer<'a> {
     /// Takes in the comments of a read, those of the gap and those in the token, each with whether it is for the next token:
     /// those that aren't come first.
     ///
-    /// No comments take no memory.
+    /// It does not allocate where there are none.
     ///
     /// # Errors
     ///

@@ -27,7 +27,7 @@ pub struct BufferedComment<'a> {
 }
 
 impl<'a> BufferedComment<'a> {
-    /// The same comment. One whose text is borrowed takes no memory.
+    /// The same comment. One whose text is borrowed does not allocate.
     ///
     /// # Errors
     ///
@@ -72,7 +72,7 @@ impl<'a> Model for CommentsBuffer<'a> {
 }
 
 impl<'a> CommentsBuffer<'a> {
-    /// No comments, which takes no memory.
+    /// No comments, which does not allocate.
     pub fn new(alloc: Global) -> CommentsBuffer<'a>
         ensures { result ≡ record { comments = []; pending_leading = [] } }
     {
@@ -107,7 +107,7 @@ impl<'a> CommentsBuffer<'a> {
         Ok(())
     }
 
-    /// Takes the comments that have their token, in the order in which they were added, which takes no memory.
+    /// Takes the comments that have their token, in the order in which they were added, which does not allocate.
     pub fn take_comments(&mut self) -> Vec<BufferedComment<'a>>
         ensures taken { result.items ≡ self.old.comments }
         ensures left { self.new ≡ record self.old { comments = [] } }
@@ -115,7 +115,7 @@ impl<'a> CommentsBuffer<'a> {
         self.comments.take()
     }
 
-    /// Takes the comments that wait for the next token, in the order in which they were added, which takes no memory.
+    /// Takes the comments that wait for the next token, in the order in which they were added, which does not allocate.
     pub fn take_pending_leading(&mut self) -> Vec<BufferedComment<'a>>
         ensures taken { result.items ≡ self.old.pending_leading }
         ensures left { self.new ≡ record self.old { pending_leading = [] } }
@@ -141,7 +141,7 @@ impl<'a> CommentsBuffer<'a> {
         })
     }
 
-    /// Puts the comments that wait behind those that have their token, which takes no memory where none waits.
+    /// Puts the comments that wait behind those that have their token, which does not allocate where none waits.
     ///
     /// # Errors
     ///

@@ -44,7 +44,7 @@ pub(crate) fn give_from_last<'a, C: Comments<'a>>(
 {
     'comments: while let Some(comment) = comments.pop() {
         if let Err(refused) = give(comment, to) {
-            // It takes no memory: the room that the comment left is still there.
+            // It does not allocate: the room that the comment left is still there.
             comments.push_reserved(refused);
             return Err(AllocError);
         }

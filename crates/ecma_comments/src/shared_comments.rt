@@ -1,5 +1,5 @@
 //! Comments in order, most of which a list and its copies share.
-ghost use Rattle.std.specs.Prelude.{◌≡◌, ◌+◌, ◌≤◌, ◌++◌, ◌∷◌, [], length, IsTrue, IfOk, IfSome, IsOk, OnOk, OnErr, vec_len, vec_capacity};
+ghost use Rattle.std.specs.Prelude.{◌≡◌, ◌+◌, ◌≤◌, ◌++◌, ◌∷◌, [], length, IsTrue, IfOk, IsOk, OnOk, OnErr, vec_len, vec_capacity};
 ghost use Rattle.std.specs.List.{All};
 ghost use Rattle.ecma_comments.specs.SharedComments.{IsBorrowed, of_blocks};
 
@@ -15,14 +15,23 @@ const BLOCK: usize = 64;
 /// Comments whose texts are borrowed. Nothing changes a block.
 type Block<'a> = Arc<Vec<BufferedComment<'a>>>;
 
+/// When the comments behind the blocks are next put into a block.
+#[derive(Clone, Copy)]
+enum NextBlock {
+    /// Once there are so many.
+    At(usize),
+    /// Not before all are taken: one owns its text, and to take it out of a block would allocate.
+    Never,
+}
+
 /// Comments in order. Those of the blocks are shared with copies of the list.
 #[derive(Drop)]
 pub(crate) struct SharedComments<'a> {
     blocks: Vec<Block<'a>>,
     /// How many comments the blocks have.
     in_blocks: usize,
-    /// Whether the comments behind the blocks stay out of them: one owns its text, or there was no memory for a block.
-    unshared: bool,
+    /// When those behind the blocks come into one; until then each copy of the list copies them.
+    next_block: NextBlock,
     /// The comments behind the blocks, with room for all, so that the list can always be taken as one `Vec`.
     last: Vec<BufferedComment<'a>>,
 }
@@ -68,17 +77,13 @@ pub(crate) fn add_copies<'a>(
     Ok(())
 }
 
-/// A block of these comments, where none owns its text and there is memory for it.
-fn block_of<'a>(alloc: Global, comments: &[BufferedComment<'a>]) -> Option<Block<'a>>
-    ensures same { IfSome result (λ block. block.value.items ≡ comments.now) }
-    ensures borrowed { IfSome result (λ _. All IsBorrowed comments.now) }
+/// A block of these comments.
+fn block_of<'a>(alloc: Global, comments: &[BufferedComment<'a>]) -> Result<Block<'a>, AllocError>
+    ensures { IfOk result (λ block. block.value.items ≡ comments.now) }
 {
-    if !all_borrowed(comments) {
-        return None;
-    }
-    let mut block = Vec::with_capacity(alloc, comments.len()).ok()?;
-    add_copies(&mut block, comments).ok()?;
-    Arc::new(alloc, block).ok()
+    let mut block = Vec::with_capacity(alloc, comments.len())?;
+    add_copies(&mut block, comments)?;
+    Ok(Arc::new(alloc, block)?)
 }
 
 /// The same blocks, with one owner more of each.
@@ -99,44 +104,50 @@ fn add_blocks<'a>(to: &mut Vec<BufferedComment<'a>>, blocks: Vec<Block<'a>>)
     ensures { to.new.items ≡ to.old.items ++ of_blocks blocks.entry.items }
 {
     'every: for block in blocks {
-        // A comment whose text is borrowed is copied without memory.
+        // The copy of a comment whose text is borrowed does not allocate.
         let _ = add_copies(to, block.as_slice());
     }
 }
 
 impl<'a> SharedComments<'a> {
-    /// No comments, which takes no memory.
+    /// No comments, which does not allocate.
     pub(crate) fn new(alloc: Global) -> SharedComments<'a>
         ensures { result ≡ [] }
     {
         SharedComments {
             blocks: Vec::new(alloc),
             in_blocks: 0,
-            unshared: false,
+            next_block: NextBlock::At(BLOCK),
             last: Vec::new(alloc),
         }
     }
 
-    /// Puts the comments behind the blocks into a block of their own, where there is memory for it.
+    /// Puts the comments behind the blocks into a block of their own, where none owns its text. A block that is refused
+    /// changes nothing that any call answers: it only leaves the comments unshared until the next full block.
     fn close_block(&mut self)
         ensures { self.new ≡ self.old }
     {
+        if !all_borrowed(self.last.as_slice()) {
+            self.next_block = NextBlock::Never;
+            return;
+        }
         let block = block_of(*self.last.allocator(), self.last.as_slice());
-        if let Some(block) = block
+        if let Ok(block) = block
             && self.blocks.push(block).is_ok()
         {
             self.in_blocks += self.last.len();
             self.last.clear();
-        } else {
-            self.unshared = true;
         }
+        self.next_block = NextBlock::At(self.last.len() + BLOCK);
     }
 
     /// Closes a block where there are enough comments for one.
     fn share(&mut self)
         ensures { self.new ≡ self.old }
     {
-        if self.last.len() >= BLOCK && !self.unshared {
+        if let NextBlock::At(enough) = self.next_block
+            && self.last.len() >= enough
+        {
             self.close_block();
         }
     }
@@ -186,12 +197,12 @@ impl<'a> SharedComments<'a> {
         Ok(SharedComments {
             blocks: same_blocks(alloc, self.blocks.as_slice())?,
             in_blocks: self.in_blocks,
-            unshared: self.unshared,
+            next_block: self.next_block,
             last,
         })
     }
 
-    /// Takes the comments, which takes no memory.
+    /// Takes the comments, which does not allocate.
     pub(crate) fn take(&mut self) -> Vec<BufferedComment<'a>>
         ensures taken { result.items ≡ self.old }
         ensures left { self.new ≡ [] }
@@ -200,7 +211,7 @@ impl<'a> SharedComments<'a> {
         let mut comments = mem::replace(&mut self.last, Vec::new(alloc));
         let blocks = mem::replace(&mut self.blocks, Vec::new(alloc));
         self.in_blocks = 0;
-        self.unshared = false;
+        self.next_block = NextBlock::At(BLOCK);
         let behind = comments.len();
         add_blocks(&mut comments, blocks);
         comments.rotate_left(behind);
@@ -215,7 +226,7 @@ impl<'a> SharedComments<'a> {
         *self = SharedComments {
             blocks: Vec::new(alloc),
             in_blocks: 0,
-            unshared: false,
+            next_block: NextBlock::At(BLOCK),
             last: comments,
         };
     }

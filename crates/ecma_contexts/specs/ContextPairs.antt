@@ -56,8 +56,8 @@ inside (Some c) around = c ∷ around
 abbrev pub contexts_of : Option TokenContext → Option TokenContext → List ContextPair → Contexts
 contexts_of top under pairs = inside top (inside under (unpaired pairs))
 
--- there is room for 63 pairs without memory, the pairs are so few that all contexts can be counted, and where there is no
--- innermost context there is none
+-- there is room for 63 pairs without an allocation, the pairs are so few that all contexts can be counted, and where there
+-- is no innermost context there is none
 pub record IsStack (top under : Option TokenContext) (pairs : List ContextPair) (capacity : ℕ) : Type 0 where
   pub room : 63 ≤ capacity
   pub few : length pairs ≤ 2 ^ 62

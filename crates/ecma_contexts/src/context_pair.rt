@@ -5,7 +5,8 @@ ghost use Rattle.ecma_contexts.specs.ContextPairs.{context_at, inner_of, number_
 use crate::token_context::TokenContext;
 
 /// Two contexts, one inside the other, in one byte: sixteen times the number of the inner one, and that of the outer.
-// A list of steps has room for the contexts of a stack in each step: by two in a byte it is a third of what it is by one in two.
+// A step of a list of steps holds a whole stack of contexts, so that its size is that of the stack: two contexts in a byte
+// make it a third as large as one context in two bytes.
 #[derive(Clone, Copy, Default)]
 pub(crate) struct ContextPair {
     code: u8,

@@ -13,7 +13,7 @@ const MOST_PAIRS: usize = 4_611_686_018_427_387_904;
 
 /// What encloses the place that is read: a stack of contexts, which contracts see as a list, the innermost first.
 ///
-/// Up to 128 contexts take no memory.
+/// Up to 128 contexts do not allocate.
 #[derive(Drop)]
 pub struct TokenContexts {
     // The innermost, where there is one: most questions are of it.
@@ -37,7 +37,7 @@ impl Model for TokenContexts {
 }
 
 impl TokenContexts {
-    /// No contexts, which takes no memory.
+    /// No contexts, which does not allocate.
     pub fn new(alloc: Global) -> TokenContexts
         ensures { result ≡ [] }
     {
@@ -109,7 +109,7 @@ impl TokenContexts {
         popped
     }
 
-    /// Puts a context inside the others. Up to 128 contexts take no memory.
+    /// Puts a context inside the others. Up to 128 contexts do not allocate.
     ///
     /// # Errors
     ///
@@ -136,7 +136,7 @@ impl TokenContexts {
         Ok(())
     }
 
-    /// The same contexts. Up to 128 take no memory.
+    /// The same contexts. Up to 128 do not allocate.
     ///
     /// # Errors
     ///

@@ -38,7 +38,7 @@ fn copies<'a>(alloc: Global, errors: &[Error<'a>]) -> Result<Vec<Error<'a>>, All
 }
 
 impl<'a> ErrorList<'a> {
-    /// No errors, which takes no memory.
+    /// No errors, which does not allocate.
     pub fn new(alloc: Global) -> ErrorList<'a>
         ensures { result ≡ [] }
     {
@@ -82,7 +82,7 @@ impl<'a> ErrorList<'a> {
         }
     }
 
-    /// Moves the errors of another list to the end of this one, which takes no memory where there are none.
+    /// Moves the errors of another list to the end of this one, which does not allocate where there are none.
     ///
     /// # Errors
     ///
@@ -100,7 +100,7 @@ impl<'a> ErrorList<'a> {
         self.errors.append(&mut other.errors)
     }
 
-    /// The same errors, which takes memory for each.
+    /// The same errors, which allocates for each.
     ///
     /// # Errors
     ///

@@ -35,7 +35,7 @@ impl<'a> Model for ErrorLists<'a> {
 
 #[tactic(auto, using(crate::proofs::ErrorLemmas::views))]
 impl<'a> ErrorLists<'a> {
-    /// No errors, which takes no memory.
+    /// No errors, which does not allocate.
     pub fn new(alloc: Global) -> ErrorLists<'a>
         ensures { errors_view result ≡ dispose.no_errors }
     {
@@ -45,7 +45,7 @@ impl<'a> ErrorLists<'a> {
         }
     }
 
-    /// The same errors, which takes memory for each.
+    /// The same errors, which allocates for each.
     ///
     /// # Errors
     ///
@@ -153,7 +153,7 @@ impl<'a> ErrorLists<'a> {
 
     /// Takes in the faults of a read: those of the gap, and then those of the token.
     ///
-    /// It takes no memory where there are none.
+    /// It does not allocate where there are none.
     ///
     /// # Errors
     ///
@@ -189,7 +189,7 @@ impl<'a> ErrorLists<'a> {
         mem::replace(&mut self.recorded, ErrorList::new(alloc))
     }
 
-    /// Takes in a new context, which takes no memory outside of modules, nor where nothing waits.
+    /// Takes in a new context, which does not allocate outside of modules, nor where nothing waits.
     ///
     /// # Errors
     ///

@@ -38,14 +38,14 @@ impl Model for State {
 }
 
 impl State {
-    /// The state before the first read of a text that starts at `start`, which takes no memory.
+    /// The state before the first read of a text that starts at `start`, which does not allocate.
     ///
     /// It is the same whatever the syntax is, since JSX isn't read.
     pub fn new(alloc: Global, _syntax: Syntax, start: BytePos) -> State
         ensures { result ≡ state.started start }
     {
         let mut contexts = TokenContexts::new(alloc);
-        // One context takes no memory, so this is never refused.
+        // One context does not allocate, so this is never refused.
         let _ = contexts.push(TokenContext::BraceStmt);
         State {
             contexts,
@@ -247,7 +247,7 @@ impl State {
         Ok(())
     }
 
-    /// Takes in a token that is answered. Fewer than 128 contexts take no memory.
+    /// Takes in a token that is answered. Fewer than 128 contexts do not allocate.
     ///
     /// # Errors
     ///
@@ -263,7 +263,7 @@ impl State {
         Ok(())
     }
 
-    /// Takes in an answer: a token, or the end with the flag before it. The end takes no memory, nor do fewer than 128
+    /// Takes in an answer: a token, or the end with the flag before it. The end does not allocate, nor do fewer than 128
     /// contexts.
     ///
     /// # Errors
@@ -284,7 +284,7 @@ impl State {
         }
     }
 
-    /// The same state. Up to 128 contexts take no memory.
+    /// The same state. Up to 128 contexts do not allocate.
     ///
     /// # Errors
     ///
