@@ -36,7 +36,7 @@ item-over old new item (inr (given, plain, left)) gives =
   where
     go : (item : Item) → ReadItem old item new → (item ≡ None) × IsOver new
     go None reads = (refl, read-over old new given plain reads)
-    go (Some (Err error)) (refused, kept, before) = absurd (before plain left)
+    go (Some (Err error)) is = absurd (is.more plain left)
     go (Some (Ok token)) (found, moved) =
         let l = lexer_state old in
         let none : (reading_of l).found ≡ None = ap (λ slash. (reading_from slash l).found) plain ∙ ap (λ r. r.found) (reading-end (mode_of l) old.input left) in

@@ -1,5 +1,5 @@
 -- What a lexer gives as an iterator.
-use Rattle.std.specs.Prelude.{◌≡◌, ◌+◌, [], true, false, Bool, Option, Some, None, Result, Ok, Err}
+use Rattle.std.specs.Prelude.{◌≡◌, ◌+◌, ◌<◌, [], length, true, false, Bool, Option, Some, None, Result, Ok, Err}
 use Rattle.std.specs.Iterator.{Count, at_most, endless}
 use Rattle.std.specs.declared.alloc.AllocError.{AllocError}
 use Rattle.ecma_place.specs.Cursor.{rest}
@@ -7,16 +7,25 @@ use Rattle.ecma_place.specs.declared.place.BytePos.{BytePos}
 use Rattle.ecma_token.specs.View.{spanned_view}
 use Rattle.ecma_token.specs.declared.token.TokenAndSpan.{TokenAndSpan}
 use Rattle.ecma_stream.specs.Ending.{most_tokens}
-use Rattle.ecma_state.specs.Run.{reading_of, state_behind}
+use Rattle.ecma_stream.specs.View.{IsGivenAs}
+use Rattle.ecma_state.specs.Run.{is_free_read, reading_of, state_behind}
 use Rattle.ecma_state.specs.Session.{LexerValue, LexerState, lexer_state}
 
--- where memory was not refused before: the token or the end that a read answers, or that memory is refused, which it is
--- not at the end where no slash is read again
+-- A read is refused memory: what the caller gave and set is as it was, and so are the errors. It is not refused where it
+-- allocates nothing, nor at the end, where no slash is read again.
+pub record IsRefusedRead (old new : LexerValue) : Type 0 where
+  pub refused : new.refused ≡ true
+  pub kept : new.errors ≡ old.errors
+  pub given : IsGivenAs old new
+  pub wanted : length old.state.contexts < 128 → is_free_read (lexer_state old) ≡ true → ⊥
+  pub more : old.reread ≡ None → rest old.input ≡ [] → ⊥
+
+-- where memory was not refused before: the token or the end that a read answers, or that memory is refused
 abbrev pub ReadItem : LexerValue → Option (Result TokenAndSpan AllocError) → LexerValue → Type 0
 ReadItem old None new = ((reading_of (lexer_state old)).found ≡ None) × (lexer_state new ≡ state_behind (lexer_state old) (reading_of (lexer_state old)))
 ReadItem old (Some (Ok token)) new =
     ((reading_of (lexer_state old)).found ≡ Some (spanned_view token)) × (lexer_state new ≡ state_behind (lexer_state old) (reading_of (lexer_state old)))
-ReadItem old (Some (Err error)) new = (new.refused ≡ true) × (new.errors ≡ old.errors) × (old.reread ≡ None → rest old.input ≡ [] → ⊥)
+ReadItem old (Some (Err error)) new = IsRefusedRead old new
 
 -- a refusal comes once: behind it there is nothing
 abbrev pub ItemIf : Bool → LexerValue → Option (Result TokenAndSpan AllocError) → LexerValue → Type 0

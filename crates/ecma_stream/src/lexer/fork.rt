@@ -111,6 +111,7 @@ impl<'a> Lexer<'a> {
             b':' => self.alone_into::<b':'>(slot, before, gap),
             b'.' if stands_alone(&self.input, b'.') => self.alone_into::<b'.'>(slot, before, gap),
             b'=' if stands_alone(&self.input, b'=') => self.alone_into::<b'='>(slot, before, gap),
+            b'.' | b'=' => self.other_into(slot, before, gap),
             b'"' | b'\'' => self.string_into(slot, before, gap),
             b'0'..=b'9' => self.number_into(slot, before, gap),
             _ => self.operator_into(slot, before, gap),
