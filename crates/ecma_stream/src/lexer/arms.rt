@@ -17,8 +17,8 @@ use crate::plain::{
     plain_punctuator, plain_string, with_kept, word_behind,
 };
 use ecma_place::BytePos;
-use ecma_slot::put;
 use ecma_scan::{BlankGap, PunctuatorKind, eat_plain_kind};
+use ecma_slot::put;
 use ecma_syntax::{IdentKind, WordKind};
 use ecma_token::TokenAndSpan;
 use std::alloc::AllocError;

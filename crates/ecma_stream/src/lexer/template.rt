@@ -50,10 +50,7 @@ impl<'a> Lexer<'a> {
     /// Reads what stands in a template at the cursor, with an escape or a CR in it.
     // A call of its own, so that the room for what is scanned is kept there alone.
     #[inline(never)]
-    fn scanned_text_into(
-        &mut self,
-        slot: &mut Option<TokenAndSpan<'a>>,
-    ) -> Result<(), AllocError>
+    fn scanned_text_into(&mut self, slot: &mut Option<TokenAndSpan<'a>>) -> Result<(), AllocError>
         requires none { self.old.reread ≡ None }
         requires text { ReadsText (mode_of (lexer_state self.old)) }
         requires more { (c : ℕ) × (slice_get (rest self.old.input) 0 ≡ Some c) }

@@ -28,6 +28,22 @@ const MORE_TEXTS: &[&str] = &[
     "`",
     "x=function(){}",
     "} function",
+    "a/*x*/+b\nc",
+    "/'/ a",
+    "a 1__2",
+    "a+b",
+    "a?.b",
+    "`${)x`",
+    "0b1 2",
+    "1n2",
+    "3\\u0061",
+    "0_1",
+    "08_1",
+    "1_0",
+    "0_",
+    "a\n--> \nb",
+    "'",
+    "\"",
 ];
 
 /// No text has more bytes.

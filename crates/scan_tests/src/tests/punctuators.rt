@@ -1,7 +1,7 @@
 //! Punctuators and the shebang: which stands at the cursor, or that none does.
 use super::written::{check, write_sought_token};
 use ecma_place::{BytePos, StringInput};
-use ecma_scan::{scan_punct, scan_shebang};
+use ecma_scan::{alone_kind, eat_punctuator, scan_punct, scan_shebang, stands_alone};
 use std::alloc::{AllocError, Global};
 use std::process::Abort;
 use std::test::Fail;
@@ -147,6 +147,43 @@ fn reads_no_punctuator(rt: HostRuntime) -> Result<(), Fail> {
     let mut input = StringInput::new(".5", BytePos(4));
     let written = punct_at(rt.alloc(), &mut input, false);
     check(&rt, ".5", written, "4..4 nothing")
+}
+
+/// The characters of two bytes that are ASCII.
+fn pairs(alloc: Global) -> Result<Vec<String>, AllocError> {
+    let mut pairs = Vec::new(alloc);
+    for first in '\0'..='\u{7f}' {
+        for second in '\0'..='\u{7f}' {
+            let mut pair = String::new(alloc);
+            pair.push(first)?;
+            pair.push(second)?;
+            pairs.push(pair).map_err(|_| AllocError)?;
+        }
+    }
+    Ok(pairs)
+}
+
+/// Whether what is said to stand alone is what is read there, and is one character.
+fn stands_as_read(pair: &str, first: u8) -> bool {
+    let input = StringInput::new(pair, BytePos(0));
+    match alone_kind(first) {
+        Some(kind) if stands_alone(&input, first) => {
+            let mut input = StringInput::new(pair, BytePos(0));
+            eat_punctuator(&mut input, false) == Some(kind) && input.cur_pos() == BytePos(1)
+        }
+        _ => true,
+    }
+}
+
+#[test]
+fn what_stands_alone_is_read_alone(rt: HostRuntime) -> Result<(), Fail> {
+    let pairs = pairs(rt.alloc())?;
+    for pair in &pairs {
+        let first = *pair.as_bytes().first().ok_or("no character")?;
+        assert!(rt; stands_as_read(pair.as_str(), first), "{pair:?}");
+    }
+    drop(pairs);
+    Ok(())
 }
 
 /// Writes what is found of the shebang at the cursor.
