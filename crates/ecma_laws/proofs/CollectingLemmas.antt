@@ -19,8 +19,8 @@ use Rattle.ecma_state.specs.Attachment.{attachment, for_next, of_next, of_previo
 use Rattle.ecma_laws.specs.Collecting.{CollectingChangesNothing, CommentsAreKept, comments_found, count, found_by, uncollecting, without_comments}
 use Rattle.ecma_state.specs.Reading.{Reading, behind_gap, gap_in, reading, reading_behind, reading_code, reading_if, spanned, stands_shebang}
 use Rattle.ecma_state.specs.Contexts.{Contexts}
-use Rattle.ecma_state.specs.Counting.{counting}
-use Rattle.ecma_state.specs.Run.{act_on, acted_on, mode_of, popped_from, reading_from, reading_of, reread_from, start_of}
+use Rattle.ecma_state.specs.Counting.{Counted, count_step, counting, none_yet}
+use Rattle.ecma_state.specs.Run.{act, act_on, acted_on, answer_behind, answer_in, answers_behind, mode_of, popped_from, reading_from, reading_of, reread_from, start_of}
 use Rattle.ecma_state.specs.Session.{Session, kept_in, state_value, seen_of, state_of}
 use Rattle.ecma_state.specs.State.{around_of, last_slash}
 use Rattle.ecma_state.specs.TokenAt.{comments_in, lookahead, placed, read_opened, token_at, token_comments, token_found}
@@ -315,5 +315,51 @@ fold-bare s [] = refl
 fold-bare s (step ∷ steps) =
     fold-bare (act_on s step) steps ∙ ap (λ t. fold act_on t steps) (act-bare s step)
 
+-- and the same is answered
+
+popped-answer : (s : Session) (contexts : Contexts) → (popped_from s contexts).answer ≡ (popped_from (without_comments s) contexts).answer
+popped-answer s [] = refl
+popped-answer s (top ∷ below) = refl
+
+reread-answer : (s : Session) (slash : Option BytePos) → (reread_from s slash).answer ≡ (reread_from (without_comments s) slash).answer
+reread-answer s None = refl
+reread-answer s (Some p) = refl
+
+answer-bare : (s : Session) (step : Step) → (act s step).answer ≡ (act (without_comments s) step).answer
+answer-bare s Read = ap answer_in (either-without s).found
+answer-bare s (SetCtx context) = refl
+answer-bare s (SetExprAllowed allowed) = refl
+answer-bare s (SetContexts contexts) = refl
+answer-bare s PopContext = popped-answer s s.contexts
+answer-bare s Reread = reread-answer s (last_slash (seen_of s.past))
+answer-bare s Withdraw = refl
+answer-bare s TakeErrors = refl
+answer-bare s Save = refl
+answer-bare s (Back n) = refl
+
+-- by a step that counts, behind others
+counted-bare : (begin : Session) (steps : List Step) (step : Step) → (act (fold act_on begin steps) step).answer ≡ (act (fold act_on (without_comments begin) steps) step).answer
+counted-bare begin steps step = answer-bare (fold act_on begin steps) step ∙ ap (λ t. (act t step).answer) (fold-bare begin steps)
+
+behind-bare : (begin : Session) (c : Counted) (step : Step) → answer_behind begin c step ≡ answer_behind (without_comments begin) c step
+behind-bare begin c Save = refl
+behind-bare begin c (Back n) = refl
+behind-bare begin c Read = counted-bare begin c.steps Read
+behind-bare begin c (SetCtx context) = counted-bare begin c.steps (SetCtx context)
+behind-bare begin c (SetExprAllowed allowed) = counted-bare begin c.steps (SetExprAllowed allowed)
+behind-bare begin c (SetContexts contexts) = counted-bare begin c.steps (SetContexts contexts)
+behind-bare begin c PopContext = counted-bare begin c.steps PopContext
+behind-bare begin c Reread = counted-bare begin c.steps Reread
+behind-bare begin c Withdraw = counted-bare begin c.steps Withdraw
+behind-bare begin c TakeErrors = counted-bare begin c.steps TakeErrors
+
+answers-bare : (begin : Session) (c : Counted) (steps : List Step) → answers_behind begin c steps ≡ answers_behind (without_comments begin) c steps
+answers-bare begin c [] = refl
+answers-bare begin c (step ∷ steps) =
+    ap (λ answer. answer ∷ answers_behind begin (count_step c step) steps) (behind-bare begin c step)
+    ∙ ap (λ answers. answer_behind (without_comments begin) c step ∷ answers) (answers-bare begin (count_step c step) steps)
+
 pub collecting_changes_nothing : CollectingChangesNothing
-collecting_changes_nothing settings input steps = fold-bare (start_of settings input) (counting steps)
+collecting_changes_nothing settings input steps =
+    let begin = start_of settings input in
+    record { answers = answers-bare begin none_yet steps; comes_to = fold-bare begin (counting steps) }

@@ -45,6 +45,7 @@ use Rattle.ecma_state.specs.declared.lookahead.Lookahead.TheVariants as opens
 use Rattle.ecma_dispatch.proofs.PlacedKinds.{placed-kind, value-kind}
 use Rattle.ecma_dispatch.proofs.ReadingLemmas.{placed-faults}
 use Rattle.ecma_laws.specs.FreeReads.{MeansItself, ReadsAreFree, spelling_at, spelling_from, turns_meaning}
+use Rattle.ecma_laws.specs.FreeTexts.{ExpressionIsFree, NumberIsFree, StringIsFree, TemplateIsFree, WordIsFree, is_backslash, is_turned_in, turned_in}
 
 -- Pieces without such a character
 
@@ -81,19 +82,7 @@ pieces-fine cutter bad fine is keeps s text h =
     let c = cut cutter is s text in
     all-fine cutter bad fine is keeps s (pieces cutter s text) c.0 c.2 h
 
--- What is written of a token has such a character, where it is no error
-
-abbrev turned_in : Result TokenView ErrorView → Text → Bool
-turned_in (Ok token) spelling = list_any (turns_meaning (kind_of token)) spelling
-turned_in (Err error) spelling = false
-
-abbrev is_turned_in : Scanned TokenView → Bool
-is_turned_in s = turned_in s.value s.spelling
-
 -- Strings and words: a piece is no escape
-
-abbrev is_backslash : ℕ → Bool
-is_backslash c = c == 92
 
 abbrev is_plain : Piece → Bool
 is_plain piece = not (is_escaped piece)
@@ -126,10 +115,9 @@ borrowed-atom : (ps : List Piece) → list_all is_plain ps ≡ true → (atom_of
 borrowed-atom ps h = rw (plain-any ps h) refl
 
 -- a string
-string-free : (text : Text) → is_ok (string_literal text).value ≡ true → is_turned_in (string_literal text) ≡ false
-    → is_borrowed (string_literal text).value ≡ true
-string-free [] ok h = refl
-string-free (quote ∷ text) ok h = go (ending quote (remainder (string_cutter quote) tt text)) ok h
+pub string_is_free : StringIsFree
+string_is_free [] ok h = refl
+string_is_free (quote ∷ text) ok h = go (ending quote (remainder (string_cutter quote) tt text)) ok h
   where
     ps : List Piece
     ps = string_pieces quote text
@@ -147,9 +135,8 @@ string-free (quote ∷ text) ok h = go (ending quote (remainder (string_cutter q
     go (BadEscape spelling error) ok h = cc
 
 -- a name
-name-free : (text : Text) → is_ok (identifier_name text).value ≡ true → list_any is_backslash (identifier_name text).spelling ≡ false
-    → is_borrowed_name (identifier_name text).value ≡ true
-name-free text ok h = go (words.word_ending (remainder word_cutter true text)) ok h
+pub name_is_free : WordIsFree
+name_is_free text ok h = go (words.word_ending (remainder word_cutter true text)) ok h
   where
     go : (end : words.WordEnding) → is_ok (found_name (word_pieces text) end).value ≡ true → list_any is_backslash (found_name (word_pieces text) end).spelling ≡ false
         → is_borrowed_name (found_name (word_pieces text) end).value ≡ true
@@ -189,9 +176,8 @@ template-keeps = record { keeps = λ s c cs piece e h. go c cs piece (c == 96 ||
     go c cs piece false false false h e = let same : templates.Plain c ≡ piece = cc in ap is_verbatim (sym same)
 
 -- the text of a template
-template-free : (after : Bool) (text : Text) → is_ok (template_text after text).value ≡ true → is_turned_in (template_text after text) ≡ false
-    → list_all is_verbatim (pieces template_cutter tt text) ≡ true
-template-free after text ok h = go after (pieces template_cutter tt text) (template_end (remainder template_cutter tt text)) refl ok h
+pub template_is_free : TemplateIsFree
+template_is_free after text ok h = go after (pieces template_cutter tt text) (template_end (remainder template_cutter tt text)) refl ok h
   where
     fine : (ps : List TemplatePiece) → pieces template_cutter tt text ≡ ps → list_any is_turned (spelled template_cutter ps) ≡ false → list_all is_verbatim ps ≡ true
     fine ps e h =
@@ -231,10 +217,17 @@ number-free legacy rule text ok h = go (refusal rule parts (behind_number parts 
     go (Some error) ok h = cc
     go None ok h = kinds (is_big_number parts) h
 
+unsaid : (b : Bool) → not b ≡ true → b ≡ false
+unsaid true h = cc
+unsaid false h = refl
+
+pub number_is_free : NumberIsFree
+number_is_free legacy rule text ok h = unsaid (list_any is_separator (number legacy rule text).spelling) (number-free legacy rule text ok h)
+
 -- Regular expressions
 
-expression-free : (text : Text) → is_ok (regular_expression text).value ≡ true → is_turned_in (regular_expression text) ≡ false → is_borrowed (regular_expression text).value ≡ true
-expression-free text ok h = go (next_is 47 behind) ok h
+pub expression_is_free : ExpressionIsFree
+expression_is_free text ok h = go (next_is 47 behind) ok h
   where
     inner : Text
     inner = drop 1 text
@@ -257,7 +250,7 @@ expression-free text ok h = go (next_is 47 behind) ok h
     flagged : (b : Bool) → is_ok (closed_expression body (cond b (identifier_name (drop 1 behind)) no_flags)).value ≡ true
         → is_turned_in (closed_expression body (cond b (identifier_name (drop 1 behind)) no_flags)) ≡ false
         → is_borrowed (closed_expression body (cond b (identifier_name (drop 1 behind)) no_flags)).value ≡ true
-    flagged true ok h = borrowed (identifier_name (drop 1 behind)) (name-free (drop 1 behind)) ok h
+    flagged true ok h = borrowed (identifier_name (drop 1 behind)) (name_is_free (drop 1 behind)) ok h
     flagged false ok h = refl
 
     go : (b : Bool) → is_ok (cond b (closed_expression body (flags (drop 1 behind))) (open_expression inner)).value ≡ true
@@ -270,10 +263,10 @@ expression-free text ok h = go (next_is 47 behind) ok h
 
 asks-none : (o : Lookahead) (mode : Mode) (text : Text) → is_ok (read_opened o mode text).value ≡ true → is_turned_in (read_opened o mode text) ≡ false
     → asks_for_none o text (read_opened o mode text) ≡ true
-asks-none opens.Template mode text ok h = template-free (is_tpl_element mode.previous) text ok h
+asks-none opens.Template mode text ok h = template_is_free (is_tpl_element mode.previous) text ok h
 asks-none opens.Number mode text ok h = number-free (ts1085 mode) mode.settings.numbers text ok h
-asks-none opens.String mode text ok h = string-free text ok h
-asks-none opens.Word mode text ok h = name-free text (name-ok mode text ok) (word-turned (words.word mode.context text).value (words.word mode.context text).spelling ok h)
+asks-none opens.String mode text ok h = string_is_free text ok h
+asks-none opens.Word mode text ok h = name_is_free text (name-ok mode text ok) (word-turned (words.word mode.context text).value (words.word mode.context text).spelling ok h)
 asks-none opens.Bars mode text ok h = cc
 asks-none opens.Other mode text ok h = refl
 
@@ -346,7 +339,7 @@ again-free flag here faults means =
     let kind = value-kind (place here) s.value in
     let ok = no-error s.value (ap is_error (sym kind) ∙ means.0) in
     let turned = not-turned s.value s.spelling (ap (λ k. list_any (turns_meaning k) s.spelling) (sym kind) ∙ means.1) in
-    ap (λ b. b && is_empty s.faults) (expression-free (rest here) ok turned)
+    ap (λ b. b && is_empty s.faults) (expression_is_free (rest here) ok turned)
     ∙ ap is_empty (map-none (fault_behind (place here)) s.faults faults)
 
 pub reads_are_free : ReadsAreFree

@@ -2,6 +2,7 @@ pub mod CollectingLemmas
 pub mod DeterminedLemmas
 pub mod EmptyLemmas
 pub mod FewLemmas
+pub mod FreeGaps
 pub mod FreeLemmas
 pub mod GapTiling
 pub mod GoingBack

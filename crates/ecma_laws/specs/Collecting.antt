@@ -3,7 +3,7 @@ use Rattle.std.specs.Prelude.{ℕ, ◌≡◌, Bool, false, List, [], ◌∷◌, 
 use Rattle.ecma_place.specs.Cursor.{Cursor}
 use Rattle.ecma_place.specs.declared.comment.Comment.{Comment}
 use Rattle.ecma_state.specs.Counting.{counting}
-use Rattle.ecma_state.specs.Run.{act_on, reading_of, session, start_of}
+use Rattle.ecma_state.specs.Run.{act_on, reading_of, run, session, start_of}
 use Rattle.ecma_state.specs.Session.{Session, state_of}
 use Rattle.ecma_state.specs.declared.settings.Settings.{Settings}
 use Rattle.ecma_state.specs.declared.step.Step.{Step}
@@ -40,11 +40,15 @@ count passes items = length (filter passes items)
 
 -- Laws
 
--- Collecting comments changes no token, flag or error, nor anything else but the comments.
+-- Where comments are collected the steps answer what they answer where none is, and the run comes to a session that differs in
+-- nothing but the comments.
+pub record IsSameButCollected (settings : Settings) (input : Cursor) (steps : List Step) : Type 0 where
+  pub answers : run settings input steps ≡ run (uncollecting settings) input steps
+  pub comes_to : without_comments (session settings input steps) ≡ session (uncollecting settings) input steps
+
+-- Collecting comments changes no answer, token, flag or error, nor anything else but the comments.
 abbrev pub CollectingChangesNothing : Type 0
-CollectingChangesNothing =
-    (settings : Settings) (input : Cursor) (steps : List Step)
-    → without_comments (session settings input steps) ≡ session (uncollecting settings) input steps
+CollectingChangesNothing = (settings : Settings) (input : Cursor) (steps : List Step) → IsSameButCollected settings input steps
 
 -- Each comment that was found is kept once: whatever is asked of a comment, as many of those that are kept answer it as of
 -- those that were found.

@@ -3,6 +3,7 @@ pub mod EmptyTokens
 pub mod Excursion
 pub mod FewTokens
 pub mod FreeReads
+pub mod FreeTexts
 pub mod NothingBehind
 pub mod Order
 pub mod Tiling

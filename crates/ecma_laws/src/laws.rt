@@ -81,7 +81,7 @@ pub fn nested_excursions_are_undone()
     ensures { NestedExcursionsAreUndone }
 {}
 
-/// Collecting comments changes no token, flag or error, nor anything else but the comments.
+/// Collecting comments changes no answer, token, flag or error, nor anything else but the comments.
 pub fn collecting_changes_nothing()
     ensures { CollectingChangesNothing }
 {}

@@ -51,7 +51,7 @@ fn push_head(out: &mut Vec<u8>, buffered: &BufferedComment) -> Result<(), AllocE
     let span = buffered.comment.span;
     out.extend_from_slice(side_name(buffered.kind).as_bytes())?;
     out.push(b' ')?;
-    push_number(out, buffered.pos.0)?;
+    push_number(out, buffered.pos.0 as usize)?;
     out.push(b' ')?;
     push_pair(out, span.lo.0, span.hi.0)?;
     out.extend_from_slice(form_name(buffered.comment.kind).as_bytes())?;

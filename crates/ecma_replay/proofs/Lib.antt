@@ -1,3 +1,4 @@
+pub mod GatheredLemmas
 pub mod KeptLemmas
 pub mod ReplayLemmas
 pub mod ReplayTiling

@@ -165,19 +165,6 @@ impl<'a> Branch<'a> {
         Ok(())
     }
 
-    /// Reads, and keeps the token that is answered.
-    pub fn read(&mut self, kept: &mut KeptTree) -> Result<Answer<'a>, AllocError>
-        ensures acts { (s : Session) → IsAt kept.old s self.old → IfOk result (λ answer. Acts kept.new (act s Step.Read) answer self.new) }
-        ensures grows { OnOk result (Grows kept.old kept.new) }
-    {
-        let mut slot = None;
-        self.read_into(kept, &mut slot)?;
-        match slot {
-            Some(token) => Ok(Answer::Token(token)),
-            None => Ok(Answer::End),
-        }
-    }
-
     pub fn set_ctx(&mut self, context: Context) -> Result<Answer<'a>, AllocError>
         ensures { (kept : List Entry) (s : Session) → IsAt kept s self.old → IfOk result (λ answer. Acts kept (act s (Step.SetCtx context)) answer self.new) }
     {

@@ -1,5 +1,5 @@
 //! A lexer that takes the steps of a list, with the places that it may go back to.
-ghost use Rattle.std.specs.Prelude.{◌++◌, ◌∷◌, [], List, IfOk, OnOk};
+ghost use Rattle.std.specs.Prelude.{◌≡◌, ◌++◌, ◌∷◌, [], List, IfOk, OnOk};
 ghost use Rattle.ecma_state.specs.Session.{Session};
 ghost use Rattle.ecma_state.specs.Run.{start_of};
 ghost use Rattle.ecma_replay.specs.Playing.{Responds, Stands, answer_of};
@@ -72,14 +72,15 @@ impl<'a> Course<'a> {
         }
     }
 
-    /// Takes a step.
-    // Never inlined: callers take reads, which most steps are, by `read_into`, so that few steps come this way.
+    /// Takes a step that is no read.
+    // Never inlined: most steps are reads, which are taken by `read_into`, so that few come this way.
     #[inline(never)]
     pub fn respond(&mut self, step: &Step) -> Result<Answer<'a>, AllocError>
+        requires { step.now ≡ Step.Read → ⊥ }
         ensures { (begin : Session) (xs : List Step) → Stands begin xs self.old → IfOk result (λ answer. Responds begin xs step.now answer self.new) }
     {
         match step {
-            Step::Read => self.branch.read(&mut self.kept),
+            Step::Read => unreachable!(),
             Step::SetCtx(context) => self.branch.set_ctx(*context),
             Step::SetExprAllowed(allowed) => Ok(self.branch.set_expr_allowed(*allowed)),
             Step::SetContexts(contexts) => self.branch.set_contexts(contexts),
@@ -128,13 +129,6 @@ impl<'a> Course<'a> {
             saves: _,
         } = self;
         let kept = kept.into_vec(alloc, branch.kept)?;
-        let (errors, comments, ended) = branch.lexer.into_parts();
-        Ok(Gathered {
-            kept,
-            errors: errors.recorded,
-            waiting: errors.waiting,
-            comments,
-            ended,
-        })
+        Ok(Gathered::of(kept, branch.lexer))
     }
 }

@@ -1,8 +1,15 @@
 //! What steps came to, without what each of them answered.
+ghost use Rattle.std.specs.Prelude.{◌≡◌, List};
+ghost use Rattle.ecma_replay.specs.Replay.{Gathers};
+ghost use Rattle.ecma_state.specs.Counting.{counting};
+ghost use Rattle.ecma_state.specs.Run.{act_all};
+ghost use Rattle.ecma_state.specs.Session.{Session, kept_tokens, lexer_state, state_of};
+ghost use Rattle.ecma_state.specs.declared.step.Step.{Step};
 
 use ecma_state::comments_buffer::BufferedComment;
 use ecma_state::error_list::ErrorList;
 use ecma_state::kept::Kept;
+use ecma_stream::lexer::Lexer;
 
 /// What steps came to ([`gather`](crate::runner::gather)): what a [`Replay`](crate::Replay) holds besides the answers.
 #[derive(Drop)]
@@ -17,4 +24,21 @@ pub struct Gathered<'a> {
     pub comments: Vec<BufferedComment<'a>>,
     /// Whether the last read that counts answered the end.
     pub ended: bool,
+}
+
+impl<'a> Gathered<'a> {
+    /// The tokens that were kept, with what the lexer that read them has besides.
+    pub fn of(kept: Vec<Kept>, lexer: Lexer<'a>) -> Gathered<'a>
+        ensures { (begin s : Session) (steps : List Step) → act_all begin (counting steps) ≡ s → state_of s ≡ lexer_state lexer.entry → kept.items ≡ kept_tokens s
+            → Gathers begin steps result }
+    {
+        let (errors, comments, ended) = lexer.into_parts();
+        Gathered {
+            kept,
+            errors: errors.recorded,
+            waiting: errors.waiting,
+            comments,
+            ended,
+        }
+    }
 }

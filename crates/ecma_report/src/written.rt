@@ -7,16 +7,8 @@ ghost use Rattle.ecma_report.specs.Rows as row_specs;
 
 use crate::report::{More, Row};
 use ecma_positions::Position;
-use itoa::Buffer;
+use ecma_stdio::push_number;
 use std::alloc::AllocError;
-
-/// Adds a number in decimal digits.
-fn push_number(out: &mut Vec<u8>, number: usize) -> Result<(), AllocError>
-    ensures { OnOk result (out.new.items ≡ out.old.items ++ decimal number) }
-{
-    let mut buffer = Buffer::new();
-    out.extend_from_slice(buffer.format(number).as_bytes())
-}
 
 /// Whether a byte of a JSON string has to be written as an escape.
 fn needs_escape(byte: u8) -> bool

@@ -16,7 +16,7 @@ const PAIR: usize = 2 * (MOST_DIGITS + 1);
 /// # Errors
 ///
 /// `AllocError` where there is no memory.
-pub fn push_number(out: &mut Vec<u8>, number: u32) -> Result<(), AllocError>
+pub fn push_number(out: &mut Vec<u8>, number: usize) -> Result<(), AllocError>
     ensures { OnOk result (out.new.items ≡ out.old.items ++ decimal number) }
 {
     let mut buffer = Buffer::new();

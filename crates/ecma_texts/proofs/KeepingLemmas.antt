@@ -6,10 +6,10 @@ use Rattle.std.proofs.lemmas.Grind.{reverse_onto}
 use Rattle.ecma_place.specs.Cursor.{Cursor}
 use Rattle.ecma_place.specs.declared.place.BytePos.{BytePos}
 use Rattle.ecma_syntax.specs.declared.context.Context.{Context}
-use Rattle.ecma_token.specs.View.{SpannedView, error_view}
+use Rattle.ecma_token.specs.View.{SpannedView}
 use Rattle.ecma_state.specs.Counting.{counting}
 use Rattle.ecma_state.specs.Run.{act_all, act_on, given_in, reading_of, reread_from, start_of}
-use Rattle.ecma_state.specs.Session.{LexerState, Past, Session, has_ended, kept_back, kept_of, kept_tokens, seen_of, state_of}
+use Rattle.ecma_state.specs.Session.{LexerState, Past, Session, kept_back, kept_of, kept_tokens, seen_of, state_of}
 use Rattle.ecma_state.specs.State.{last_slash}
 use Rattle.ecma_state.specs.declared.kept.Kept.{Kept}
 use Rattle.ecma_state.specs.declared.settings.Settings.{Settings}
@@ -18,8 +18,6 @@ use Rattle.ecma_state.specs.declared.step.Step.TheVariants.{Read}
 use Rattle.ecma_slashes.specs.Rereads.{ReadsBy, SlashRule, StepsOn, behind_by, entered, found_by, last_read, meets_expression, read_steps, steps_by, steps_to_end_by, text_steps_by}
 use Rattle.ecma_slashes.proofs.RunLemmas.{SoFar, so-far-end, so-far-next, so-far-start, text-counts}
 use Rattle.ecma_slashes.proofs.TokenLemmas.{met-slash}
-use Rattle.ecma_replay.specs.Replay.{Gathers}
-use Rattle.ecma_replay.specs.declared.gathered.Gathered.{Gathered}
 use Rattle.ecma_texts.specs.Keeping.{KeepsOn}
 use Rattle.ecma_texts.specs.ReadingOut.{kept_found}
 
@@ -129,16 +127,3 @@ kept-end rule begun kept now l next so_far on =
 pub text-run : (rule : SlashRule) (settings : Settings) (context : Context) (input : Cursor)
     → act_all (start_of settings input) (counting (text_steps_by rule settings context input)) ≡ act_all (entered settings context input) (steps_to_end_by rule (entered settings context input))
 text-run rule settings context input = ap (act_all (start_of settings input)) (text-counts rule settings context input)
-
--- what was kept, with the errors and comments that a lexer shows there, is what was gathered of steps that come there
-pub gathers-at : (begin : Session) (steps : List Step) (s : Session) (r : Gathered) (l : LexerState) → act_all begin (counting steps) ≡ s → l ≡ state_of s
-    → r.kept.items ≡ kept_tokens s → map error_view r.errors ≡ l.errors.recorded → map error_view r.waiting ≡ l.errors.waiting → r.comments.items ≡ l.comments → r.ended ≡ l.state.seen.ended
-    → Gathers begin steps r
-gathers-at begin steps s r l run shows kept errors waiting comments ended =
-    record {
-      kept = kept ∙ ap kept_tokens (sym run);
-      errors = errors ∙ ap (λ x. x.errors.recorded) shows ∙ ap (λ x. x.errors.recorded) (sym run);
-      waiting = waiting ∙ ap (λ x. x.errors.waiting) shows ∙ ap (λ x. x.errors.waiting) (sym run);
-      comments = comments ∙ ap (λ x. x.comments) shows ∙ ap (λ x. x.comments) (sym run);
-      ended = ended ∙ ap (λ x. x.state.seen.ended) shows ∙ ap (λ x. has_ended x.past) (sym run);
-    }

@@ -45,6 +45,10 @@ counts-one : (b : Bool) → rereads (read_steps b) ≡ one_if b
 counts-one true = refl
 counts-one false = refl
 
+-- the steps of one more token
+pub rereads-on : (rule : SlashRule) (s : Session) (steps : List Step) → rereads (steps ++ steps_by rule s) ≡ rereads steps + one_if (meets_expression rule s)
+rereads-on rule s steps = count-append steps (steps_by rule s) ∙ ap (λ n. rereads steps + n) (counts-one (meets_expression rule s))
+
 pub some-map : {A B : Type 0} → (f : A → B) (o : Option A) → is_some (option_map f o) ≡ is_some o
 some-map f None = refl
 some-map f (Some x) = refl
@@ -62,8 +66,7 @@ reads_on-on rule s steps old new found again more l plain so reads twice told ke
       tells =
           record {
             kept = keeps ∙ ap (λ ks. ks ++ kept_found found) so.kept ∙ ap (λ o. kept_tokens s ++ kept_found o) reads.finds ∙ sym (keeps-behind rule s plain);
-            rereads = counted ∙ ap (λ n. n + one_if again) so.rereads ∙ ap (λ b. rereads steps + one_if b) twice
-                ∙ ap (λ n. rereads steps + n) (sym (counts-one (meets_expression rule s))) ∙ sym (count-append steps (steps_by rule s));
+            rereads = counted ∙ ap (λ n. n + one_if again) so.rereads ∙ ap (λ b. rereads steps + one_if b) twice ∙ sym (rereads-on rule s steps);
             refusals = refuses ∙ ap (λ es. es ++ refusal_found found) so.refusals ∙ ap (λ o. refusals s ++ refusal_found o) reads.finds ∙ sym (refusals-behind rule s plain);
           };
     }

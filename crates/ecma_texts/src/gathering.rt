@@ -1,13 +1,11 @@
 //! What is kept of a text that is read to its end.
-ghost use Rattle.std.specs.Prelude.{◌≡◌, ◌+◌, ◌<◌, ◌^◌, List, true, None, length, IfOk, OnOk};
+ghost use Rattle.std.specs.Prelude.{◌≡◌, ◌+◌, ◌<◌, ◌^◌, true, None, length, IfOk, OnOk};
 ghost use Rattle.std.specs.Str.{chars};
 ghost use Rattle.ecma_replay.specs.Replay.{Gathers};
 ghost use Rattle.ecma_slashes.specs.ByFlag.{text_steps};
 ghost use Rattle.ecma_slashes.specs.Rereads.{entered, is_in_order, rule_of, steps_to_end_by, text_steps_by};
-ghost use Rattle.ecma_state.specs.Counting.{counting};
 ghost use Rattle.ecma_state.specs.Run.{act_all, start_of};
 ghost use Rattle.ecma_state.specs.Session.{Session, kept_tokens, lexer_state, state_of};
-ghost use Rattle.ecma_state.specs.declared.step.Step.{Step};
 ghost use Rattle.ecma_stream.specs.Ending.{most_tokens};
 ghost use Rattle.ecma_texts.specs.Keeping.{KeepsOn};
 
@@ -88,21 +86,6 @@ pub(crate) fn begun<'a>(
     Ok(lexer)
 }
 
-/// The tokens that were kept, with what the lexer that read them has besides.
-pub(crate) fn gathered<'a>(kept: Vec<Kept>, lexer: Lexer<'a>) -> Gathered<'a>
-    ensures { (begin s : Session) (steps : List Step) → act_all begin (counting steps) ≡ s → state_of s ≡ lexer_state lexer.entry → kept.items ≡ kept_tokens s
-        → Gathers begin steps result }
-{
-    let (errors, comments, ended) = lexer.into_parts();
-    Gathered {
-        kept,
-        errors: errors.recorded,
-        waiting: errors.waiting,
-        comments,
-        ended,
-    }
-}
-
 /// What [`gather`](ecma_replay::gather) tells of the steps by which a text that starts at a place is read to its end in a
 /// context ([`steps_by`](ecma_slashes::steps_by)), by one reading and with no list of steps. Our own.
 ///
@@ -128,7 +111,7 @@ pub fn gather_by<'a>(
     let mut lexer = begun(alloc, settings, context, source, start)?;
     let mut kept = Vec::new(alloc);
     keep_to_end(&mut kept, &mut lexer, slashes)?;
-    Ok(gathered(kept, lexer))
+    Ok(Gathered::of(kept, lexer))
 }
 
 /// The same by the flag ([`steps_by_flag`](ecma_slashes::steps_by_flag)). Our own.

@@ -5,4 +5,4 @@ mod gathering;
 mod reading_out;
 
 pub use gathering::{gather_by, gather_by_flag, keep_to_end};
-pub use reading_out::{ReadOut, read_out};
+pub use reading_out::{ReadOut, read_out, refusal_in};

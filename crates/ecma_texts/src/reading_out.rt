@@ -9,7 +9,7 @@ ghost use Rattle.ecma_stream.specs.Ending.{most_tokens};
 ghost use Rattle.ecma_slashes.specs.Rereads.{is_in_order, rule_of, steps_to_end_by, text_steps_by};
 ghost use Rattle.ecma_texts.specs.ReadingOut.{ReadsOn, IsReadSoFar, IsReadOut, kept_found, one_if, refusal_found, refusals_in};
 
-use crate::gathering::{begun, gathered};
+use crate::gathering::begun;
 use ecma_place::BytePos;
 use ecma_replay::Gathered;
 use ecma_slashes::{Slashes, read_telling};
@@ -40,8 +40,8 @@ struct ReadSoFar<'a> {
     refusals: Vec<Error<'a>>,
 }
 
-/// The error of a token that is one, which is taken out of the slot.
-fn refusal_in<'a>(slot: &mut Option<TokenAndSpan<'a>>) -> Option<Error<'a>>
+/// The error of a token that is one, which is taken out of the slot. What the slot then holds is not said. Our own.
+pub fn refusal_in<'a>(slot: &mut Option<TokenAndSpan<'a>>) -> Option<Error<'a>>
     ensures { refusals_in result ≡ refusal_found (option_map spanned_view slot.old) }
 {
     // Most tokens are none, and stay where they are.
@@ -161,7 +161,7 @@ pub fn read_out<'a>(
         refusals,
     } = read_rest(alloc, &mut lexer, slashes)?;
     Ok(ReadOut {
-        gathered: gathered(kept, lexer),
+        gathered: Gathered::of(kept, lexer),
         rereads,
         refusals,
     })

@@ -1,5 +1,6 @@
 //! Laws of regular expressions.
 ghost use Rattle.ecma_scan.specs.Expressions.{ExpressionIsRead, ExpressionIsPieces, BodyTiles, ExpressionIsFront, ExpressionIsLocal, FirstSlashIsLocal, ExpressionBeginsNoGap};
+ghost use Rattle.ecma_laws.specs.FreeTexts.{ExpressionIsFree};
 
 /// A slash, pieces of a regular expression and a slash are read as these pieces, with the flags behind them.
 pub fn expression_is_read()
@@ -36,4 +37,9 @@ pub fn first_slash_is_local()
 /// What begins no element of a gap, and is read cleanly as a regular expression, begins none in front of any text.
 pub fn expression_begins_no_gap()
     ensures { ExpressionBeginsNoGap }
+{}
+
+/// A regular expression that is not refused and has no backslash borrows its body and flags: nothing is allocated for it.
+pub fn expression_is_free()
+    ensures { ExpressionIsFree }
 {}

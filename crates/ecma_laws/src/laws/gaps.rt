@@ -4,6 +4,7 @@ ghost use Rattle.ecma_scan.specs.Comments.{SemicolonFollows, CommentsLieInOrder}
 ghost use Rattle.ecma_scan.specs.Gaps.{ElementsAreRuled, GapTiles, GapIsFront, FlagIsBehind, CommentBodyIsFirst, NoElement, NothingIsTheGap, SpaceIsTheGap, LineFeedIsTheGap, GapFaultsMove};
 ghost use Rattle.ecma_scan.specs.Shebangs.{ShebangIsLocal, ShebangBeginsNoGap};
 ghost use Rattle.ecma_scan.specs.Telling.{ElementsTell, OpeningFaultIsNext};
+ghost use Rattle.ecma_laws.specs.FreeTexts.{GapIsFree};
 
 /// The elements of a text are as the rules of gaps say, and are the only ones that are so.
 pub fn elements_are_ruled()
@@ -93,4 +94,10 @@ pub fn shebang_is_local()
 /// No shebang begins an element of a gap.
 pub fn shebang_begins_no_gap()
     ensures { ShebangBeginsNoGap }
+{}
+
+/// A gap of white space, and of closed comments where none is collected, has no fault and tells of no comment: nothing is
+/// allocated for it.
+pub fn gap_is_free()
+    ensures { GapIsFree }
 {}

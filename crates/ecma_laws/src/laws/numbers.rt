@@ -1,5 +1,6 @@
 //! Laws of numbers.
 ghost use Rattle.ecma_scan.specs.Numbers.{NumberTiles, NumberIsSome, NumberHasItsForm, NumberIsRead, SeparatorIsFaulty, NumberIsLocal, CleanByBothRules, WholeFits, NumberBeginsNoGap};
+ghost use Rattle.ecma_laws.specs.FreeTexts.{NumberIsFree};
 
 /// The parts of a number in a row are a front of the text.
 pub fn number_tiles()
@@ -45,4 +46,9 @@ pub fn whole_fits()
 /// No number begins an element of a gap.
 pub fn number_begins_no_gap()
     ensures { NumberBeginsNoGap }
+{}
+
+/// A number that is not refused and means what is written has no separator: without a fault nothing is allocated for it.
+pub fn number_is_free()
+    ensures { NumberIsFree }
 {}

@@ -1,5 +1,6 @@
 //! Laws of strings.
 ghost use Rattle.ecma_scan.specs.Strings.{StringTiles, StringIsPieces, StringIsFront, StringIsLocal, StringBeginsNoGap};
+ghost use Rattle.ecma_laws.specs.FreeTexts.{StringIsFree};
 
 /// The pieces of a string and what follows them are the text behind its quote, and no piece begins what follows.
 pub fn string_tiles()
@@ -24,4 +25,9 @@ pub fn string_is_local()
 /// No string begins an element of a gap.
 pub fn string_begins_no_gap()
     ensures { StringBeginsNoGap }
+{}
+
+/// A string that is not refused and has no backslash borrows its value: without a fault nothing is allocated for it.
+pub fn string_is_free()
+    ensures { StringIsFree }
 {}

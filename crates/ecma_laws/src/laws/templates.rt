@@ -1,5 +1,6 @@
 //! Laws of template text.
 ghost use Rattle.ecma_scan.specs.Templates.{TemplateTiles, TemplateIsPieces, TemplateIsFront, TemplateIsLocal, TemplateIsEnded, TemplateMarksAreLocal, TemplateGoesOn, CookedIsRaw};
+ghost use Rattle.ecma_laws.specs.FreeTexts.{TemplateIsFree};
 
 /// The pieces of template text and what follows them are the text, and no piece begins what follows.
 pub fn template_tiles()
@@ -39,4 +40,9 @@ pub fn template_goes_on()
 /// Template text without escapes and CR means what is written, and borrows it.
 pub fn cooked_is_raw()
     ensures { CookedIsRaw }
+{}
+
+/// Template text that is not refused and has no backslash and no CR stands for itself: nothing is allocated for it.
+pub fn template_is_free()
+    ensures { TemplateIsFree }
 {}

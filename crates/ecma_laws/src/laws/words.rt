@@ -1,6 +1,7 @@
 //! Laws of words and escapes.
 ghost use Rattle.ecma_scan.specs.Escapes.{EscapeIsFront, EscapeIsSettled};
 ghost use Rattle.ecma_scan.specs.Words.{WordTiles, WordIsPieces, WordIsFront, WordIsLocal, NameIsLocal, WordIsItsRow, PlainWordIsItsRow, WordBeginsNoGap};
+ghost use Rattle.ecma_laws.specs.FreeTexts.{WordIsFree};
 
 /// What is written of an escape is a front of the text at its backslash.
 pub fn escape_is_front()
@@ -50,4 +51,9 @@ pub fn plain_word_is_its_row()
 /// No word begins an element of a gap.
 pub fn word_begins_no_gap()
     ensures { WordBeginsNoGap }
+{}
+
+/// A word that is not refused and has no backslash borrows its text: nothing is allocated for it.
+pub fn word_is_free()
+    ensures { WordIsFree }
 {}

@@ -16,4 +16,4 @@ returns c =
     let stands = sym c.in_ok-lexer.ensures.shows in
     let kept = c.in_ok-keep_to_end.ensures.kept first stands c.new-kept.ensures.items in
     let shows = c.in_ok-keep_to_end.ensures.after first stands c.new-kept.ensures.items in
-    c.gathered.ensures (start_of settings text) (act_all first (steps_to_end_by rule first)) (text_steps_by rule settings c.args.context text) (text-run rule settings c.args.context text) (sym shows) kept
+    c.of.ensures (start_of settings text) (act_all first (steps_to_end_by rule first)) (text_steps_by rule settings c.args.context text) (text-run rule settings c.args.context text) (sym shows) kept

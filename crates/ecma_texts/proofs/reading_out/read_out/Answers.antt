@@ -25,7 +25,7 @@ returns c =
     let shows = c.in_ok-kept.ensures.after first stands refl in
     let run = text-run rule settings context text in
     record {
-      gathers = c.gathered.ensures (start_of settings text) (act_all first (steps_to_end_by rule first)) (text_steps_by rule settings context text) run (sym shows) told.kept;
+      gathers = c.of.ensures (start_of settings text) (act_all first (steps_to_end_by rule first)) (text_steps_by rule settings context text) run (sym shows) told.kept;
       rereads = told.rereads ∙ sym (text-rereads rule settings context text);
       refusals = told.refusals ∙ ap refusals (sym run);
     }

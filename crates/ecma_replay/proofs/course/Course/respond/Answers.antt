@@ -1,16 +1,12 @@
 use Rattle.std.proofs.Common.{refl}
-use Rattle.ecma_state.specs.declared.step.Step.TheVariants.{Read, SetCtx, SetExprAllowed, SetContexts, PopContext, Reread, Withdraw, TakeErrors}
-use Rattle.ecma_replay.proofs.ReplayLemmas.{counts_pop_context, counts_read, counts_reread, counts_set_contexts, counts_set_ctx, counts_set_expr_allowed, counts_take_errors, counts_withdraw, step_responds, step_responds_ok}
+use Rattle.ecma_state.specs.declared.step.Step.TheVariants.{SetCtx, SetExprAllowed, SetContexts, PopContext, Reread, Withdraw, TakeErrors}
+use Rattle.ecma_replay.proofs.ReplayLemmas.{counts_pop_context, counts_reread, counts_set_contexts, counts_set_ctx, counts_set_expr_allowed, counts_take_errors, counts_withdraw, step_responds, step_responds_ok}
 use Rattle.ecma_replay.proofs.KeptLemmas.{stays, stays_ok}
 use Rattle.ecma_replay.proofs.course.Course.respond.Goals as goal
 
-pub returns-in-Read : goal.returns-in-Read
-returns-in-Read c =
-    step_responds_ok Read c.args.step.now c.in-Read.is counts_read c.args.self.now _ _ c.read.result c.self.view_is refl c.read.ensures.grows c.read.ensures.acts
-
 pub returns-in-SetCtx : goal.returns-in-SetCtx
 returns-in-SetCtx c =
-    step_responds_ok (SetCtx c.in-SetCtx.context) c.args.step.now c.in-SetCtx.is (counts_set_ctx c.in-SetCtx.context) c.args.self.now _ _ c.set_ctx.result c.self-in-SetCtx.view_is refl (stays_ok c.set_ctx.result _) (c.set_ctx.ensures _)
+    step_responds_ok (SetCtx c.in-SetCtx.context) c.args.step.now c.in-SetCtx.is (counts_set_ctx c.in-SetCtx.context) c.args.self.now _ _ c.set_ctx.result c.self.view_is refl (stays_ok c.set_ctx.result _) (c.set_ctx.ensures _)
 
 pub returns-in-SetExprAllowed : goal.returns-in-SetExprAllowed
 returns-in-SetExprAllowed c =

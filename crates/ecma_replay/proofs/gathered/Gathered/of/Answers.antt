@@ -1,8 +1,8 @@
 use Rattle.std.proofs.Common.{◌∙◌, ap, sym}
 use Rattle.ecma_state.specs.Errors.{errors_view}
 use Rattle.ecma_state.specs.Session.{lexer_state}
-use Rattle.ecma_texts.proofs.KeepingLemmas.{gathers-at}
-use Rattle.ecma_texts.proofs.gathering.gathered.Goals as goal
+use Rattle.ecma_replay.proofs.GatheredLemmas.{gathers-at}
+use Rattle.ecma_replay.proofs.gathered.Gathered.of.Goals as goal
 
 pub returns : goal.returns
 returns c = λ begin s steps run shows keeps.

@@ -1,0 +1,13 @@
+use Rattle.std.proofs.Common.{◌∙◌, ap, map, refl, reverse, subst, sym}
+use Rattle.std.proofs.lemmas.List.{reverse-reverse}
+use Rattle.ecma_state.specs.Counting.{counting}
+use Rattle.ecma_state.specs.Run.{act_all}
+use Rattle.ecma_replay.specs.Playing.{IsAt, Stands}
+use Rattle.ecma_replay.proofs.course.Course.finish.Goals as goal
+
+pub returns : goal.returns
+returns c = λ begin xs stands.
+    let shown = subst (Stands begin xs) (sym c.self.view_is) stands in
+    let at = subst (IsAt c.self.inside.kept (act_all begin (counting xs))) (sym c.branch.view_is) shown.branch in
+    c.of.ensures begin (act_all begin (counting xs)) xs refl (sym at.state)
+    (sym (reverse-reverse c.in_ok-kept.kept.items) ∙ ap reverse (c.in_ok-kept.ensures ∙ at.kept))
