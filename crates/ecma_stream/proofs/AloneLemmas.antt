@@ -1,5 +1,5 @@
 -- Punctuators of one character, and the first character of a word: what they open.
-use Rattle.std.proofs.Common.{◌≡◌, ℕ, ◌<◌, ◌≤◌, ⊥, Bool, true, false, ◌&&◌, ◌||◌, ◌==◌, [], ◌∷◌, length, take, drop, Some, slice_get, refl, sym, ap, subst, ◌∙◌, eqb-true, true≢false, arith, nat_lt}
+use Rattle.std.proofs.Common.{◌≡◌, ℕ, ◌<◌, ◌≤◌, Bool, true, false, ◌&&◌, ◌||◌, ◌==◌, [], ◌∷◌, length, take, drop, Some, slice_get, refl, sym, ap, subst, ◌∙◌, eqb-true, true≢false, arith, nat_lt}
 use Rattle.std.proofs.Math.Bool.{and-false}
 use Rattle.std.proofs.lemmas.Bool.{and_parts}
 use Rattle.std.proofs.lemmas.Bool.Decides.{nat_tests}
@@ -15,7 +15,7 @@ use Rattle.ecma_scan.specs.Bars.{opens_bars}
 use Rattle.ecma_scan.specs.Numbers.{digit, opens_fraction, opens_number}
 use Rattle.ecma_scan.specs.Strings.{opens_string}
 use Rattle.ecma_scan.specs.Words.{opens_word}
-use Rattle.ecma_scan.specs.Punctuators.{begins_more, first_of, is_lone, longest, punctuator_in, punctuators, spells}
+use Rattle.ecma_scan.specs.Punctuators.{begins_more, count_behind, first_of, is_lone, longest, punctuator_in, punctuators, spells}
 use Rattle.ecma_scan.specs.PunctuatorKinds.{kind_token}
 use Rattle.ecma_scan.specs.declared.punctuator_kind.PunctuatorKind.{PunctuatorKind}
 use Rattle.ecma_state.specs.Mode.{is_template}
@@ -80,12 +80,12 @@ no-fraction c cs is = go (opens_fraction (c ∷ cs)) is.1 refl
     go true e f = cc
 
 two-bars : (cs : Text) (token : Token) → first_of punctuators (124 ∷ 124 ∷ cs) ≡ Some (spells (124 ∷ []) token) → ⊥
-two-bars [] token e = cc
-two-bars (d ∷ ds) token e = go (d == 61) refl e
+two-bars [] token e = let more : 1 ≡ 0 = ap count_behind e in omega (arith, more)
+two-bars (d ∷ ds) token e = go (d == 61) refl
   where
-    go : (x : Bool) → (d == 61) ≡ x → first_of punctuators (124 ∷ 124 ∷ d ∷ ds) ≡ Some (spells (124 ∷ []) token) → ⊥
-    go true f e = rw f at e
-    go false f e = rw f at e
+    go : (x : Bool) → (d == 61) ≡ x → ⊥
+    go true f = let more : 2 ≡ 0 = ap count_behind (rw f at e) in omega (arith, more)
+    go false f = let more : 1 ≡ 0 = ap count_behind (rw f at e) in omega (arith, more)
 
 no-bars : (c : ℕ) (cs : Text) → SpelledAs c (c ∷ cs) → opens_bars (c ∷ cs) ≡ false
 no-bars c [] is = and-false (c == 124)

@@ -206,3 +206,11 @@ pub text-back : (a : Inside) (l : LexerValue) (before : BytePos) (now : Cursor) 
     → back_at before (lexer_view (record a { input = now })) ≡ l
 text-back a l before now n c shows e moved first =
     ap (λ (i : Cursor). let k : LexerValue = record (lexer_view a) { input = i } in k) (at-text a.input now before n c moved e first) ∙ shows
+
+-- what stands first for a lexer that is seen from outside does so for what it holds
+pub first-at : (a : Inside) (l : LexerValue) {c : ℕ} → lexer_view a ≡ l → slice_get (rest l.input) 0 ≡ Some c → slice_get (rest a.input) 0 ≡ Some c
+first-at a l shows first = ap (λ k. slice_get (rest k.input) 0) shows ∙ first
+
+-- a lexer whose cursor stays
+pub same-back : (a : Inside) (l : LexerValue) (now : Cursor) → lexer_view a ≡ l → now ≡ a.input → lexer_view (record a { input = now }) ≡ l
+same-back a l now shows same = ap (λ (i : Cursor). let k : LexerValue = record (lexer_view a) { input = i } in k) same ∙ shows

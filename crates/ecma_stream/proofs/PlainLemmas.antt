@@ -10,7 +10,7 @@ use Rattle.ecma_place.specs.declared.comment.Comment.{Comment}
 use Rattle.ecma_place.specs.declared.place.Span.{Span}
 use Rattle.ecma_place.proofs.MoveLemmas.{span-passed}
 use Rattle.ecma_syntax.specs.declared.word.Word.{Word}
-use Rattle.ecma_token.specs.View.{SpannedView, plain_token, token_view}
+use Rattle.ecma_token.specs.View.{SpannedView, TokenView, plain_token, token_view}
 use Rattle.ecma_token.specs.declared.token.Token as token
 use Rattle.ecma_place.proofs.CursorLemmas.{ascii-is}
 use Rattle.ecma_gap.proofs.BlankGapLemmas.{told}
@@ -28,7 +28,8 @@ use Rattle.ecma_scan.specs.Strings.{string_literal}
 use Rattle.ecma_scan.specs.Templates.{template_found, template_text}
 use Rattle.ecma_scan.specs.Words.{word}
 use Rattle.ecma_state.specs.Mode.{gap_mode, is_template, is_tpl_element, keeps_space, passes_space, type_mode}
-use Rattle.ecma_stream.specs.Plain.{IsPlain, StandsPlain, plain_reading, plain_view, text_reading, text_view}
+use Rattle.ecma_scan.specs.PlainTemplates.{found_between}
+use Rattle.ecma_stream.specs.Plain.{IsPlain, ReadsText, StandsPlain, plain_reading, plain_view, text_reading, text_view}
 use Rattle.ecma_state.specs.Reading.{Reading, gap_in, is_free, is_free_behind, is_free_code, reading, reading_if, reading_token, token_reading}
 use Rattle.ecma_state.specs.Run.{mode_of, reading_from, reading_of}
 use Rattle.ecma_state.specs.Session.{LexerValue, lexer_state}
@@ -281,6 +282,17 @@ text-read mode input now c t none new template first found moved =
         ap (λ b. let g : GapView = record { line_break = b; comments = comments_at (place input) (gap_mode mode) (rest input); faults = gap_faults_at (place input) (gap_mode mode) (rest input) } in g) gap.line_break
         ∙ ap (λ cs. let g : GapView = record { line_break = false; comments = cs; faults = gap_faults_at (place input) (gap_mode mode) (rest input) } in g) gap.comments
         ∙ ap (λ fs. let g : GapView = record { line_break = false; comments = []; faults = fs } in g) gap.faults
+
+-- the same of what is passed at once
+pub eaten-text : (mode : Mode) (input now : Cursor) (c : ℕ) (after flag : Bool) (token : TokenView) (t : SpannedView) (low high : ℕ) → ReadsText mode → after ≡ is_tpl_element mode.previous
+    → slice_get (rest input) 0 ≡ Some c
+    → ((opened : ℕ) → (template_found opened (place input) (template_text after (rest input)) ≡ found_between input now (Ok token) flag) × (now ≡ passed (length (template_text after (rest input)).spelling) input))
+    → t ≡ record { token = token; had_line_break = flag; span = span_of low high } → low ≡ place input → high ≡ place now → reading mode input ≡ text_reading t now
+eaten-text mode input now c after flag token t low high is same first found view from to =
+    let eaten = found mode.opened.0 in
+    let spelled = subst (λ (b : Bool). template_found mode.opened.0 (place input) (template_text b (rest input)) ≡ found_between input now (Ok token) flag) same eaten.0 in
+    let moved = subst (λ (b : Bool). now ≡ passed (length (template_text b (rest input)).spelling) input) same eaten.1 in
+    text-read mode input now c t is.0 is.1 is.2 first (rw (view, from, to) spelled) moved
 
 -- such a read takes no memory where the text takes none
 pub free-text : (mode : Mode) (input : Cursor) (c : ℕ) → mode.shebang_allowed ≡ false → mode.first ≡ false → is_template mode.top ≡ true → slice_get (rest input) 0 ≡ Some c

@@ -4,9 +4,9 @@ use Rattle.ecma_token.specs.View.{spanned_view}
 use Rattle.ecma_state.specs.Reading.{is_free, reading}
 use Rattle.ecma_state.specs.Run.{is_free_read, mode_of}
 use Rattle.ecma_state.specs.Session.{LexerValue, lexer_state}
-use Rattle.ecma_stream.specs.Plain.{Gives}
+use Rattle.ecma_stream.specs.Plain.{Gives, ReadsText}
 use Rattle.ecma_stream.specs.View.{lexer_view}
-use Rattle.ecma_stream.proofs.ArmLemmas.{at-text, has-before, moved-lexer, text-back}
+use Rattle.ecma_stream.proofs.ArmLemmas.{at-text, first-at, has-before, moved-lexer, text-back}
 use Rattle.ecma_stream.proofs.PlainLemmas.{free-text, text-read}
 use Rattle.ecma_stream.proofs.SlashLemmas.{same-lexer}
 use Rattle.ecma_stream.proofs.lexer.Lexer.scanned_text_into.Goals as goal
@@ -23,38 +23,38 @@ give_text-requires-clause-place c = has-before c.self.inside.input c.plain_text.
 pub go_before-requires-clause-place : goal.go_before-requires-clause-place
 go_before-requires-clause-place c = has-before c.self.inside.input c.plain_text.new.input _ _ c.in_ok-plain.ensures.moved c.cur_pos-before.ensures
 
-pub invariant_of-self-in-Some-2 : goal.invariant_of-self-in-Some-2
-invariant_of-self-in-Some-2 c = moved-lexer c.self.inside c.plain_text.new.input _ c.self.invariant c.in_ok-plain.ensures.moved
+pub invariant_of-self-in-Some : goal.invariant_of-self-in-Some
+invariant_of-self-in-Some c = moved-lexer c.self.inside c.plain_text.new.input _ c.self.invariant c.in_ok-plain.ensures.moved
 
 pub give_text-requires-clause-found : goal.give_text-requires-clause-found
 give_text-requires-clause-found c =
     let a = c.self.inside in
     let now = c.plain_text.new.input in
-    let t = spanned_view c.in-Some-2.plain.token in
+    let t = spanned_view c.in-Some.plain.token in
     let own : c.mode-mode.result ≡ mode_of (lexer_state (lexer_view a)) = c.mode-mode.ensures ∙ ap (λ k. mode_of (lexer_state k)) (sym c.self.view_is) in
     let is = (subst ReadsText (sym c.mode-mode.ensures) c.requires.text) in
-    let first = sym c.in-Some.ensures.first in
-    let token = rw c.in-Some-2.is at c.in_ok-plain.ensures.token in
+    let first = first-at c.self.inside c.args.self.now c.self.view_is c.requires.more.1 in
+    let token = rw c.in-Some.is at c.in_ok-plain.ensures.token in
     ap (reading (mode_of (lexer_state (lexer_view a)))) (at-text a.input now c.cur_pos-before.result _ _ c.in_ok-plain.ensures.moved c.cur_pos-before.ensures first)
     ∙ ap (λ m. reading m a.input) (sym own)
     ∙ text-read c.mode-mode.result a.input now _ t is.0 is.1 is.2 first token c.in_ok-plain.ensures.moved
 
-pub returns-in-Some-2-clause-done : goal.returns-in-Some-2-clause-done
-returns-in-Some-2-clause-done c =
-    let back = text-back c.self.inside c.args.self.now c.cur_pos-before.result c.plain_text.new.input _ _ c.self.view_is c.cur_pos-before.ensures c.in_ok-plain.ensures.moved (sym c.in-Some.ensures.first) in
+pub returns-in-Some-clause-done : goal.returns-in-Some-clause-done
+returns-in-Some-clause-done c =
+    let back = text-back c.self.inside c.args.self.now c.cur_pos-before.result c.plain_text.new.input _ _ c.self.view_is c.cur_pos-before.ensures c.in_ok-plain.ensures.moved (first-at c.self.inside c.args.self.now c.self.view_is c.requires.more.1) in
     subst (λ (k : LexerValue). OnOk c.give_text.result (Gives k c.give_text.new.self c.args.slot.now c.give_text.new.slot true)) back c.give_text.ensures.done
 
 pub returns-in-None-clause-done : goal.returns-in-None-clause-done
 returns-in-None-clause-done c =
-    let back = text-back c.self.inside c.args.self.now c.cur_pos-before.result c.plain_text.new.input _ _ c.self.view_is c.cur_pos-before.ensures c.in_ok-plain.ensures.moved (sym c.in-Some.ensures.first) in
-    subst (λ (k : LexerValue). OnOk c.besides_into-in-None.result (Gives k c.besides_into-in-None.new.self c.args.slot.now c.besides_into-in-None.new.slot true)) (c.go_before.ensures ∙ back)
-    c.besides_into-in-None.ensures.done
+    let back = text-back c.self.inside c.args.self.now c.cur_pos-before.result c.plain_text.new.input _ _ c.self.view_is c.cur_pos-before.ensures c.in_ok-plain.ensures.moved (first-at c.self.inside c.args.self.now c.self.view_is c.requires.more.1) in
+    subst (λ (k : LexerValue). OnOk c.besides_into.result (Gives k c.besides_into.new.self c.args.slot.now c.besides_into.new.slot true)) (c.go_before.ensures ∙ back)
+    c.besides_into.ensures.done
 
 pub returns-in-None-clause-free : goal.returns-in-None-clause-free
 returns-in-None-clause-free c =
-    let back = text-back c.self.inside c.args.self.now c.cur_pos-before.result c.plain_text.new.input _ _ c.self.view_is c.cur_pos-before.ensures c.in_ok-plain.ensures.moved (sym c.in-Some.ensures.first) in
-    subst (λ (k : LexerValue). length k.state.contexts < 128 → is_free_read (lexer_state k) ≡ true → IsOk c.besides_into-in-None.result) (c.go_before.ensures ∙ back)
-    c.besides_into-in-None.ensures.free
+    let back = text-back c.self.inside c.args.self.now c.cur_pos-before.result c.plain_text.new.input _ _ c.self.view_is c.cur_pos-before.ensures c.in_ok-plain.ensures.moved (first-at c.self.inside c.args.self.now c.self.view_is c.requires.more.1) in
+    subst (λ (k : LexerValue). length k.state.contexts < 128 → is_free_read (lexer_state k) ≡ true → IsOk c.besides_into.result) (c.go_before.ensures ∙ back)
+    c.besides_into.ensures.free
 
 pub returns-in_err-plain-clause-free : goal.returns-in_err-plain-clause-free
 returns-in_err-plain-clause-free c = λ few h.
@@ -64,5 +64,5 @@ returns-in_err-plain-clause-free c = λ few h.
     let there : is_free_read (lexer_state (lexer_view a)) ≡ true = ap (λ k. is_free_read (lexer_state k)) c.self.view_is ∙ h in
     let none : a.reread ≡ None = ap (λ k. k.reread) c.self.view_is ∙ c.requires.none in
     let free : is_free (mode_of (lexer_state (lexer_view a))) a.input ≡ true = rw none at there in
-    let never = c.in_err-plain.ensures.free (free-text c.mode-mode.result a.input _ is.0 is.1 is.2 (sym c.in-Some.ensures.first) (ap (λ m. is_free m a.input) own ∙ free)) in
+    let never = c.in_err-plain.ensures.free (free-text c.mode-mode.result a.input _ is.0 is.1 is.2 (first-at c.self.inside c.args.self.now c.self.view_is c.requires.more.1) (ap (λ m. is_free m a.input) own ∙ free)) in
     cc
