@@ -1,9 +1,6 @@
-//! Tests of the calls of a lexer and of the comments that it keeps.
-mod comments;
+//! Tests of the calls of a lexer: copies, depths of contexts, items, slashes that are read again, slots.
 mod copies;
 mod depths;
-mod errors;
-mod hand_over;
 mod items;
 mod rereads;
 mod slots;

@@ -10,7 +10,7 @@ mod strings;
 mod templates;
 mod words;
 
-use listings::listing::Row;
+use listing::listing::Row;
 use listings::played::listing_both_ways;
 use std::alloc::Global;
 use std::process::Abort;

@@ -2,6 +2,4 @@
 #![tactic(auto)]
 
 pub mod commands;
-pub mod listing;
 pub mod played;
-pub mod store;

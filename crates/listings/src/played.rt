@@ -1,10 +1,10 @@
 //! Listings of what is played: a replay of reads comes to what a lexer answers one by one.
 use crate::commands::{most_reads, push_reads};
-use crate::listing::{
-    self, Row, contexts_of, flags, syntax, write_comments, write_errors, write_note, write_token,
-};
 use ecma_lexer::{Answer, Kept, Replay, Settings, Step, replay};
 use ecma_place::{BytePos, StringInput};
+use listing::listing::{
+    self, Row, contexts_of, flags, syntax, write_comments, write_errors, write_note, write_token,
+};
 use std::alloc::{AllocError, Global};
 
 /// What the steps over a text come to, which starts at a place.

@@ -1,6 +1,6 @@
 //! Copies of a lexer, and going back to one.
-use ecma_lexer::Lexer;
-use listings::listing::{
+use ecma_stream::Lexer;
+use listing::listing::{
     COLLECTING, PLAIN, Row, opened, write_next, write_note, write_recorded, write_rest,
     write_tokens,
 };

@@ -1,9 +1,10 @@
 //! How deep the contexts of a lexer are behind its tokens, and what it says of its settings.
-use ecma_lexer::{Kept, Lexer, TokenContext, Tokens};
 use ecma_place::BytePos;
+use ecma_state::{Kept, TokenContext};
+use ecma_stream::{Lexer, Tokens};
 use ecma_syntax::{EsVersion, Syntax};
 use ecma_token::TokenKind;
-use listings::listing::{FROM_SEVEN, PLAIN, opened, write_next, write_recorded};
+use listing::listing::{FROM_SEVEN, PLAIN, opened, write_next, write_recorded};
 use std::alloc::{AllocError, Global};
 use std::process::Abort;
 use std::test::Fail;

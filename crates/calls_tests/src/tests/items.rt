@@ -1,6 +1,6 @@
 //! The lexer as an iterator.
-use ecma_lexer::Lexer;
-use listings::listing::{PLAIN, opened, write_next, write_note, write_token};
+use ecma_stream::Lexer;
+use listing::listing::{PLAIN, opened, write_next, write_note, write_token};
 use std::alloc::{AllocError, Global};
 use std::process::Abort;
 use std::test::Fail;

@@ -1,6 +1,6 @@
 //! Reading again from a slash, as a regular expression.
-use ecma_lexer::Lexer;
-use listings::listing::{PLAIN, opened, write_next, write_note, write_rest};
+use ecma_stream::Lexer;
+use listing::listing::{PLAIN, opened, write_next, write_note, write_rest};
 use std::alloc::{AllocError, Global};
 use std::process::Abort;
 use std::test::Fail;

@@ -1,7 +1,7 @@
 //! Tokens that are read into a slot.
-use ecma_lexer::Lexer;
+use ecma_stream::Lexer;
 use ecma_token::TokenAndSpan;
-use listings::listing::{PLAIN, opened, write_note, write_token};
+use listing::listing::{PLAIN, opened, write_note, write_token};
 use std::alloc::{AllocError, Global};
 use std::test::Fail;
 

@@ -1,6 +1,6 @@
 //! Rows of the lexer that collects comments: what each comment of a text belongs to.
 use super::assert_listings;
-use listings::listing::{COLLECTING, Row};
+use listing::listing::{COLLECTING, Row};
 use std::test::Fail;
 
 pub(super) const ROWS: &[Row] = &[

@@ -3,8 +3,8 @@ use super::{attached, code, errors, gaps, numbers, reader_texts, strings, templa
 use ecma_lexer::{Kept, Replay, Settings, Step};
 use ecma_place::BytePos;
 use ecma_syntax::{Context, EsSyntax, EsVersion, NumberRule, Syntax, TsSyntax};
+use listing::listing::Row;
 use listings::commands::{most_reads, push_reads};
-use listings::listing::Row;
 use listings::played::{keeps_answers, played};
 use std::alloc::{AllocError, Global};
 use std::process::Abort;

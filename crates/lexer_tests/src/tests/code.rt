@@ -1,6 +1,6 @@
 //! Rows over statements, operators and shebangs.
 use super::assert_listings;
-use listings::listing::{FROM_SEVEN, PLAIN, Row, Settings};
+use listing::listing::{FROM_SEVEN, PLAIN, Row, Settings};
 use std::test::Fail;
 
 const JSX: Settings = Settings { jsx: true, ..PLAIN };

@@ -1,6 +1,6 @@
 //! Rows over characters that begin no token.
 use super::assert_listings;
-use listings::listing::{PLAIN, Row};
+use listing::listing::{PLAIN, Row};
 use std::test::Fail;
 
 pub(super) const ROWS: &[Row] = &[

@@ -1,6 +1,6 @@
 //! Rows over gaps: white space, comments, conflict markers.
 use super::assert_listings;
-use listings::listing::{IGNORING, MODULE, PLAIN, Row, TYPES};
+use listing::listing::{IGNORING, MODULE, PLAIN, Row, TYPES};
 use std::test::Fail;
 
 pub(super) const ROWS: &[Row] = &[

@@ -1,7 +1,7 @@
 //! Rows over numbers.
 use super::assert_listings;
 use ecma_syntax::EsVersion;
-use listings::listing::{PLAIN, Row, STANDARD, STRICT, Settings, TS};
+use listing::listing::{PLAIN, Row, STANDARD, STRICT, Settings, TS};
 use std::test::Fail;
 
 /// TypeScript for a version before the fifth edition.

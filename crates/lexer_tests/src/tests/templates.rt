@@ -1,7 +1,7 @@
 //! Rows over templates, and over contexts that a text begins in.
 use super::assert_listings;
 use ecma_lexer::TokenContext;
-use listings::listing::{PLAIN, Row, Settings};
+use listing::listing::{PLAIN, Row, Settings};
 use std::test::Fail;
 
 pub(super) const ROWS: &[Row] = &[

@@ -4,7 +4,7 @@ use ecma_lexer::{Gathered, Replay, Step, TokenContext, gather, replay};
 use ecma_place::{BytePos, StringInput};
 use ecma_samples::Random;
 use ecma_syntax::Context;
-use listings::listing::contexts_of;
+use listing::listing::contexts_of;
 use replay_model::replay_by_copies;
 use std::alloc::{AllocError, Global};
 use std::process::Abort;

@@ -2,11 +2,11 @@
 use ecma_lexer::{Answer, Gathered, Kept, Replay, Settings, Step, gather};
 use ecma_place::{BytePos, StringInput};
 use ecma_syntax::{EsVersion, NumberRule, Syntax};
+use listing::listing::{write_comments, write_errors, write_note, write_token};
 use listings::commands::Command::{
     self, Allow, Back, Leave, Module, Pop, Read, Reread, Save, Take, Withdraw,
 };
 use listings::commands::steps_of;
-use listings::listing::{write_comments, write_errors, write_note, write_token};
 use listings::played::played;
 use std::alloc::{AllocError, Global};
 use std::process::Abort;

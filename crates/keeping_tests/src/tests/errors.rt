@@ -1,8 +1,8 @@
 //! What becomes of errors that wait, and of those of the layer above.
-use ecma_lexer::{Lexer, Tokens};
 use ecma_place::{BytePos, Span};
+use ecma_stream::{Lexer, Tokens};
 use ecma_token::{Error, SyntaxError};
-use listings::listing::{
+use listing::listing::{
     IGNORING, MODULE, PLAIN, opened, set_flags, write_next, write_note, write_recorded, write_rest,
 };
 use std::alloc::{AllocError, Global};

@@ -2,8 +2,8 @@
 ghost use Rattle.std.specs.Prelude.{map};
 ghost use Rattle.ecma_state.specs.HandOver.{added_of};
 
-use ecma_lexer::CommentList;
 use ecma_place::{BytePos, Comment, Comments};
+use ecma_stream::CommentList;
 use std::alloc::Global;
 
 /// A store in memory, which is full at `room` comments.

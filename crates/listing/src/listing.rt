@@ -4,10 +4,9 @@
 //! collected each comment as it is handed over, and the contexts at the end, unless they are those of a new lexer. Texts
 //! that a token or a comment holds stand in brackets, with `owned` before those that aren't borrowed.
 use crate::store::Store;
-use ecma_lexer::{
-    BufferedComment, BufferedCommentKind, Lexer, TokenContext, TokenContexts, Tokens, hand_comments,
-};
 use ecma_place::{Atom, BytePos, Span, Spanned, StringInput};
+use ecma_state::{BufferedComment, BufferedCommentKind, TokenContext, TokenContexts};
+use ecma_stream::{Lexer, Tokens, hand_comments};
 use ecma_syntax::{Context, EsSyntax, EsVersion, IdentLike, NumberRule, Syntax, TsSyntax, Word};
 use ecma_token::{Error, Token, TokenAndSpan};
 use std::alloc::{AllocError, Global};

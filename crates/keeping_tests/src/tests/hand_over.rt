@@ -1,7 +1,7 @@
 //! Comments that a lexer hands over to a store.
-use ecma_lexer::{Lexer, hand_comments};
-use listings::listing::{COLLECTING, opened, write_comments, write_next, write_note, write_tokens};
-use listings::store::Store;
+use ecma_stream::{Lexer, hand_comments};
+use listing::listing::{COLLECTING, opened, write_comments, write_next, write_note, write_tokens};
+use listing::store::Store;
 use std::alloc::AllocError;
 use std::test::Fail;
 

@@ -1,9 +1,9 @@
 //! Buffers of comments.
-use ecma_lexer::{BufferedComment, BufferedCommentKind, CommentsBuffer};
 use ecma_place::{Atom, BytePos, Comment, CommentKind, Span};
 use ecma_state::attachment::Around;
-use listings::listing::{write_comment, write_comments, write_note};
-use listings::store::Store;
+use ecma_state::{BufferedComment, BufferedCommentKind, CommentsBuffer};
+use listing::listing::{write_comment, write_comments, write_note};
+use listing::store::Store;
 use std::alloc::{AllocError, Global};
 use std::process::Abort;
 use std::test::Fail;
