@@ -1,5 +1,5 @@
 -- How many contexts a stack has.
-use Rattle.std.proofs.Common.{◌≡◌, ◌+◌, ◌*◌, ◌≤◌, ◌<◌, ◌^◌, ◌∙◌, ℕ, List, [], ◌∷◌, Option, Some, None, arith, length, ap, reverse, refl}
+use Rattle.std.proofs.Common.{◌≡◌, ◌+◌, ◌*◌, ◌∙◌, ℕ, List, [], ◌∷◌, Option, Some, None, arith, length, ap, reverse, refl}
 use Rattle.std.proofs.lemmas.List.{length-reverse}
 use Rattle.ecma_contexts.specs.ContextPairs.{contexts_of, inside, unpaired}
 use Rattle.ecma_contexts.specs.declared.context_pair.ContextPair.{ContextPair}
