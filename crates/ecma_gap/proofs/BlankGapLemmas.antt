@@ -1,6 +1,6 @@
 -- Gaps of white space alone.
 use Rattle.std.proofs.Common.{◌≡◌, ℕ, Bool, true, false, cond, ◌==◌, ◌∷◌, ◌++◌, [], length, drop, refl, sym, ap, subst, ◌∙◌, Option, Some, None, eqb-true}
-use Rattle.std.specs.Prelude.{◌||◌, ◌&&◌, IfSome, not, codes, nat_lt, option_map, replicate, slice_get}
+use Rattle.std.specs.Prelude.{◌||◌, ◌&&◌, IfSome, not, codes, option_map, replicate, slice_get}
 use Rattle.std.specs.List.{list_any, prefix_len, take_while}
 use Rattle.std.proofs.Math.Bool.{and-false}
 use Rattle.std.proofs.lemmas.Bool.{or_parts}

@@ -1,5 +1,5 @@
 -- Runs of blanks as white space that holds no line terminator.
-use Rattle.std.proofs.Common.{◌≡◌, ℕ, ◌+◌, ◌≤◌, ◌<◌, cond, Bool, true, false, List, [], ◌∷◌, drop, refl, sym, ap, ◌∙◌, arith, zero, suc, encode_utf8_all, drop-drop, ◌||◌}
+use Rattle.std.proofs.Common.{◌≡◌, ℕ, ◌+◌, ◌≤◌, ◌<◌, cond, Bool, true, false, [], ◌∷◌, drop, refl, sym, ap, ◌∙◌, arith, zero, suc, encode_utf8_all, drop-drop, ◌||◌}
 use Rattle.std.specs.List.{prefix_len, take_while, list_any}
 use Rattle.std.proofs.lemmas.List.Sums.{take_while-cons}
 use Rattle.std.proofs.lemmas.Bool.Decides.{nat_tests}

@@ -1,5 +1,5 @@
 -- What is found of template text that means what is written, and of the mark behind it.
-use Rattle.std.proofs.Common.{◌≡◌, ℕ, ◌+◌, ◌<◌, Bool, true, false, cond, ◌&&◌, ◌||◌, ◌==◌, List, [], ◌∷◌, ◌++◌, length, length-drop, take, drop, slice_get, Option, Some, None, Ok, Err, refl, sym, ap, ◌∙◌, arith, append-nil, encode_utf8_all}
+use Rattle.std.proofs.Common.{◌≡◌, ℕ, ◌+◌, ◌<◌, Bool, true, false, cond, ◌&&◌, ◌==◌, List, [], ◌∷◌, ◌++◌, length, length-drop, take, drop, slice_get, Some, None, Ok, Err, refl, sym, ap, ◌∙◌, arith, append-nil, encode_utf8_all}
 use Rattle.std.specs.List.{list_all, list_any}
 use Rattle.ecma_place.specs.Text.{Text, byte_len, slice_between}
 use Rattle.ecma_place.specs.Atom.{AtomView, borrowed_atom}
@@ -14,7 +14,7 @@ use Rattle.ecma_grammar.specs.Found.{found_at, span_of, token_behind}
 use Rattle.ecma_grammar.specs.Locality.{ends_template, is_accepted}
 use Rattle.ecma_grammar.specs.Pieces.{pieces, remainder, spelled}
 use Rattle.ecma_grammar.specs.Templates as templates
-use Rattle.ecma_grammar.specs.Templates.{TemplatePiece, TemplateEnd, AtEnd, AtBackQuote, AtDollarBrace, TemplateRole, Backslash, Itself, is_verbatim, is_break, raw_text, template_piece, template_piece_of, template_cutter, template_end, template_found, template_of, template_text, text_of, mark_of}
+use Rattle.ecma_grammar.specs.Templates.{TemplatePiece, TemplateEnd, AtEnd, AtBackQuote, AtDollarBrace, Backslash, Itself, is_verbatim, is_break, raw_text, template_piece, template_piece_of, template_cutter, template_end, template_found, template_of, template_text, text_of, mark_of}
 use Rattle.ecma_grammar.proofs.NumberFound.{front-taken}
 use Rattle.ecma_grammar.proofs.PieceLemmas.{pieces_none, pieces_more}
 use Rattle.ecma_grammar.proofs.SignLemmas.{rest-behind}

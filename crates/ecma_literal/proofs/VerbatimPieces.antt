@@ -17,7 +17,6 @@ use Rattle.ecma_place.proofs.ChunkLemmas.{chunk-run}
 use Rattle.ecma_place.proofs.MoveLemmas.{byte_len-append, place-passed}
 use Rattle.ecma_place.proofs.RunLemmas.{passed-later-by, text-passed}
 use Rattle.ecma_token.specs.View.{ErrorView}
-use Rattle.ecma_grammar.specs.Escapes.{line_end}
 use Rattle.ecma_grammar.specs.Fronts.{next_is}
 use Rattle.ecma_grammar.specs.Pieces.{pieces, remainder, spelled}
 use Rattle.ecma_grammar.specs.Templates as templates

@@ -1,6 +1,6 @@
 use Rattle.std.proofs.Common.{◌∙◌, ap, Some, sym}
 use Rattle.ecma_place.specs.Cursor.{rest}
-use Rattle.ecma_literal.proofs.VerbatimPieces.{NoneVerbatim, stop-none, backslash-none, return-none, stays}
+use Rattle.ecma_literal.proofs.VerbatimPieces.{stop-none, backslash-none, return-none, stays}
 use Rattle.ecma_literal.proofs.template.verbatim.eat_verbatim.Goals.{then-stops-via-then-stops, then-stops-via-else-stops+then-c-eq92, then-stops-via-else-stops+else-c-eq92+then-c-eq13}
 use Rattle.ecma_literal.proofs.template.verbatim.eat_verbatim.Goals as goal
 

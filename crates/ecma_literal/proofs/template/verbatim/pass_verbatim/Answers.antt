@@ -1,4 +1,3 @@
-use Rattle.std.proofs.Common.{false}
 use Rattle.ecma_literal.proofs.VerbatimPieces.{passes-on, passes-run, eaten-passes}
 use Rattle.ecma_literal.proofs.template.verbatim.pass_verbatim.Goals as goal
 
