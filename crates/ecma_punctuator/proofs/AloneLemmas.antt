@@ -1,6 +1,6 @@
 -- When a text begins with what its first character alone spells: the second character of a longer punctuator is the first
 -- again or `=`, or the `>` of `=>`.
-use Rattle.std.proofs.Common.{◌≡◌, ℕ, ◌<◌, Bool, true, false, cond, ◌||◌, ◌&&◌, ◌==◌, List, [], ◌∷◌, drop, Option, Some, None, slice_get, refl, sym, ap, subst, ◌∙◌, not, eqb-true, eq-eqb, true≢false, arith, encode_utf8_all}
+use Rattle.std.proofs.Common.{◌≡◌, ℕ, ◌<◌, Bool, true, false, ◌||◌, ◌&&◌, ◌==◌, List, [], ◌∷◌, drop, Option, Some, None, slice_get, refl, sym, ap, subst, ◌∙◌, not, eqb-true, eq-eqb, true≢false, arith, encode_utf8_all}
 use Rattle.std.specs.Prelude.{IfSome}
 use Rattle.std.specs.List.{list_all}
 use Rattle.std.specs.Char.{is_ascii, is_ascii_digit}
@@ -204,10 +204,6 @@ lone-first (p ∷ ps) c cs all lone =
 pub lone-spelled : (c : ℕ) (kind : PunctuatorKind) (text : Text) → is_lone c ≡ true → IsSpelledBy c kind → first_of punctuators (c ∷ text) ≡ Some (spells (c ∷ []) (kind_token kind))
 lone-spelled c kind text lone spelled = lone-first punctuators c text all-lone-by-rule lone ∙ sym (lone-everywhere false (c ∷ []) c refl lone) ∙ spelled false
 
-lone-stands : (c : ℕ) (cs : Text) → is_lone c ≡ true → StandsAlone (c ∷ cs)
-lone-stands c cs lone type_mode =
-    lone-everywhere type_mode (c ∷ cs) c refl lone ∙ lone-first punctuators c cs all-lone-by-rule lone ∙ sym (lone-everywhere type_mode (c ∷ []) c refl lone)
-
 pub past-ascii : (c : ℕ) → is_ascii c ≡ false → is_lone c ≡ false
 unfolding is_lone
 past-ascii c h = grind (arith, nat_tests)
@@ -216,6 +212,3 @@ pub lone-found : (c : ℕ) (found : Option PunctuatorKind) → is_lone c ≡ tru
     → IfSome found (λ kind. (text : Text) → first_of punctuators (c ∷ text) ≡ Some (spells (c ∷ []) (kind_token kind)))
 lone-found c None lone spelled = spelled
 lone-found c (Some kind) lone spelled = λ text. lone-spelled c kind text lone spelled
-
-pub lone-stands-at : (text : Text) (c : ℕ) → slice_get text 0 ≡ Some c → is_lone c ≡ true → StandsAlone text
-lone-stands-at text c first lone = subst StandsAlone (sym (first-cons text c first)) (lone-stands c (drop 1 text) lone)

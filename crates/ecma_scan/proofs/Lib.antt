@@ -1,7 +1,6 @@
 pub mod CharacterLaws
 pub mod CommentLaws
 pub mod ExpressionReading
-pub use Rattle.ecma_punctuator.proofs.AloneLemmas
 pub use Rattle.ecma_punctuator.proofs.PunctuatorLaws
 pub mod SeparationLaws
 pub use Rattle.ecma_punctuator.proofs.ShebangLaws
