@@ -1,14 +1,14 @@
 //! What is told of a text.
-ghost use Rattle.std.specs.Prelude.{◌≡◌, ◌<◌, ◌^◌, length, true, IfOk};
-ghost use Rattle.std.specs.List.{All};
+ghost use Rattle.std.specs.Prelude.{◌≡◌, ◌<◌, ◌^◌, List, length, true, IfOk};
 ghost use Rattle.std.specs.Str.{chars};
 ghost use Rattle.ecma_state.specs.Run.{start_of};
+ghost use Rattle.ecma_state.specs.declared.settings.Settings.{Settings};
+ghost use Rattle.ecma_state.specs.declared.step.Step.{Step};
 ghost use Rattle.ecma_replay.specs.Replay.{Gathers};
 ghost use Rattle.ecma_options.specs.Begin.{context, settings, whole};
 ghost use Rattle.ecma_options.specs.declared.options.Options.{Options};
 ghost use Rattle.ecma_slashes.specs.Rereads.{SlashRule, is_in_order, rule_of, text_steps_by};
-ghost use Rattle.ecma_canonical.specs.Canonical.{IsCanon};
-ghost use Rattle.ecma_canonical.specs.Joined.{StandsIn};
+ghost use Rattle.ecma_canonical.specs.Canonical.{GathersPlainly, IsCanon};
 ghost use Rattle.ecma_classes.specs.Classes.{begin};
 ghost use Rattle.ecma_pieces.specs.Covered.{MayBeCovered};
 
@@ -149,7 +149,7 @@ fn tell_whole(report: &mut Report, text: &str) -> Result<(), AllocError> {
 /// The canonical text of a text, by what was gathered of it.
 fn canon_of(alloc: Global, text: &str, gathered: &Gathered) -> Result<Canon, AllocError>
     requires fits { length text.now < 2 ^ 32 }
-    requires stand { All (StandsIn (begin 0 (chars text.now))) gathered.now.kept.items }
+    requires plain { (settings : Settings) × (steps : List Step) × GathersPlainly settings (begin 0 (chars text.now)) steps gathered.now }
     // Whatever the options are, and whichever slashes were read again.
     ensures { (options : Options) (rule : SlashRule) → Gathers (start_of (settings true options) (whole text.now)) (text_steps_by rule (settings true options) (context options) (whole text.now)) gathered.now
         → IfOk result (IsCanon (settings true options) 0 (chars text.now) (text_steps_by rule (settings true options) (context options) (whole text.now))) }
@@ -159,7 +159,7 @@ fn canon_of(alloc: Global, text: &str, gathered: &Gathered) -> Result<Canon, All
 
 fn tell_canonical(report: &mut Report, text: &str, gathered: &Gathered) -> Result<(), AllocError>
     requires fits { length text.now < 2 ^ 32 }
-    requires stand { All (StandsIn (begin 0 (chars text.now))) gathered.now.kept.items }
+    requires plain { (settings : Settings) × (steps : List Step) × GathersPlainly settings (begin 0 (chars text.now)) steps gathered.now }
 {
     match canon_of(report.alloc, text, gathered)? {
         Canon::Text(canon) => tell_whole(report, canon.as_str()),
@@ -190,7 +190,7 @@ fn tell_html(report: &mut Report, text: &str, gathered: &Gathered) -> Result<(),
 
 fn tell_face(report: &mut Report, text: &str, gathered: &Gathered) -> Result<(), AllocError>
     requires fits { length text.now < 2 ^ 32 }
-    requires stand { All (StandsIn (begin 0 (chars text.now))) gathered.now.kept.items }
+    requires plain { (settings : Settings) × (steps : List Step) × GathersPlainly settings (begin 0 (chars text.now)) steps gathered.now }
     requires covered { MayBeCovered (begin 0 (chars text.now)) gathered.now.kept.items gathered.now.comments.items }
 {
     match report.asked.face {

@@ -18,6 +18,7 @@ use crate::joined::canonical_text;
 use crate::watch::steps_are_clean;
 use ecma_place::{BytePos, StringInput};
 use ecma_replay::{Replay, replay};
+use ecma_state::error_list::ErrorList;
 use ecma_state::kept::Kept;
 use ecma_state::settings::Settings;
 use ecma_state::step::Step;
@@ -37,18 +38,18 @@ pub enum Canon {
     TooLong,
 }
 
-/// No kept token is an error.
-pub(crate) fn has_no_error(kept: &[Kept]) -> bool
+/// Whether no token is an error. Our own.
+pub fn has_no_error(kept: &[Kept]) -> bool
     ensures { result ≡ list_all (λ k. not (is_error k.kind)) kept.now }
 {
     kept.iter().all(|token| token.kind != TokenKind::Error)
 }
 
-/// Whether the run that was played came to the end, and left nothing wrong.
-fn ends_clean(played: &Replay) -> bool
-    ensures { result ≡ (played.now.ended && (list_all (λ k. not (is_error k.kind)) played.now.kept.items && (length played.now.errors == 0))) }
+/// Whether steps that kept these tokens and left these errors came to the end, and left nothing wrong.
+pub(crate) fn ends_clean(ended: bool, kept: &[Kept], errors: &ErrorList) -> bool
+    ensures { result ≡ (ended && (list_all (λ k. not (is_error k.kind)) kept.now && (length errors.now == 0))) }
 {
-    played.ended && has_no_error(played.kept.as_slice()) && played.errors.is_empty()
+    ended && has_no_error(kept) && errors.is_empty()
 }
 
 /// Whether the run that was played by these steps is clean.
@@ -57,7 +58,8 @@ fn is_clean(alloc: Global, steps: &[Step], played: &Replay) -> Result<bool, Allo
     ensures { (settings : Settings) (input : Cursor) → Replays (start_of settings input) steps.now played.now → IfOk result (λ b. b ≡ clean.is_clean settings input steps.now) }
 {
     let are_clean = steps_are_clean(alloc, steps, played.answers.as_slice())?;
-    Ok(are_clean && ends_clean(played))
+    let kept = played.kept.as_slice();
+    Ok(are_clean && ends_clean(played.ended, kept, &played.errors))
 }
 
 /// The canonical text of what a clean run keeps of a text that starts at a place.

@@ -8,5 +8,5 @@ pub mod joined;
 mod watch;
 
 pub use clean_gathered::canonical_of_gathered;
-pub use clean_text::{Canon, canonical};
+pub use clean_text::{Canon, canonical, has_no_error};
 pub use joined::canonical_text;

@@ -1,3 +1,4 @@
+pub mod CanonAgain
 pub mod Covering
 pub mod Keeping
 pub mod Replies

@@ -1,6 +1,7 @@
 -- What is written of the canonical text of a text's tokens: its bytes, and nothing behind them.
 use Rattle.std.specs.Prelude.{◌≡◌, ℕ, true, false, List, Some, Result, Ok, Err, encode_utf8_all, if◌then◌else◌, length, map, nat_lt}
-use Rattle.ecma_clean_reads.specs.Canonical.{Own, canonical_of, own_in}
+use Rattle.std.specs.Str.{IsUtf8}
+use Rattle.ecma_clean_reads.specs.Canonical.{Agree, Own, canonical_of, own_in}
 use Rattle.ecma_clean_reads.specs.Clean.{ends_clean}
 use Rattle.ecma_stream.specs.Ending.{read_out}
 use Rattle.ecma_state.specs.Session.{Session, kept_tokens}
@@ -40,3 +41,19 @@ canon_from bytes (Err fault) = Err fault
 
 abbrev pub canon_text : Options → List ℕ → List ℕ → Result (List ℕ) Fault
 canon_text options rereads bytes = canon_from bytes (unless_no_slash (session_behind false options rereads bytes))
+
+-- What is written of the canonical text of a text with these bytes is read by the same words, to tokens that agree with those
+-- of the text, and is its own canonical text.
+pub record IsReadAgain (options : Options) (rereads bytes out : List ℕ) : Type 0 where
+  pub before : Session
+  pub opened : session_behind false options rereads bytes ≡ Some before
+  pub behind : Session
+  pub again : session_behind false options rereads out ≡ Some behind
+  pub agrees : Agree (owned out (read_out behind)) (owned bytes (read_out before))
+  pub itself : canon_text options rereads out ≡ Ok out
+
+-- Laws
+
+-- So is all that is written.
+abbrev pub CanonIsRead : Type 0
+CanonIsRead = (options : Options) (rereads bytes out : List ℕ) → IsUtf8 bytes → canon_text options rereads bytes ≡ Ok out → IsReadAgain options rereads bytes out

@@ -1,35 +1,22 @@
 //! What is written of the canonical text of a text's tokens.
-ghost use Rattle.std.specs.Prelude.{◌≡◌, ◌&&◌, ◌^◌, ◌<◌, Ok, Err, not, length, string_bytes, MatchResult};
+ghost use Rattle.std.specs.Prelude.{◌≡◌, ◌&&◌, ◌^◌, ◌<◌, Ok, Err, not, length, string_bytes, IfOk, MatchResult};
 ghost use Rattle.std.specs.List.{list_all};
 ghost use Rattle.ecma_state.specs.Session.{lexer_state};
 ghost use Rattle.ecma_state.specs.State as state;
 ghost use Rattle.ecma_state.specs.TokenAt.{is_empty};
 ghost use Rattle.ecma_program.specs.CanonText as canons;
-ghost use Rattle.ecma_program.specs.CanonText.{KeepsCleanly, unless_too_long};
+ghost use Rattle.ecma_program.specs.CanonText.{IsReadAgain, KeepsCleanly, unless_too_long};
 ghost use Rattle.ecma_lines.specs.Rereads.{Fails};
 
 use crate::kept_tokens::keep_tokens;
-use ecma_canonical::canonical_text;
+use ecma_canonical::{canonical_text, has_no_error};
 use ecma_lines::rereads::open;
 use ecma_options::Options;
 use ecma_place::{BytePos, StringInput};
 use ecma_state::Kept;
 use ecma_stdio::Fault;
 use ecma_stream::{Lexer, Tokens};
-use ecma_token::TokenKind;
 use std::alloc::Global;
-
-/// Whether no token is an error.
-fn has_no_error(kept: &[Kept]) -> bool
-    ensures { result ≡ list_all (λ k. not (state.is_error k.kind)) kept.now }
-{
-    for token in kept {
-        if matches!(token.kind, TokenKind::Error) {
-            return false;
-        }
-    }
-    true
-}
 
 /// Whether no token is an error, and none is recorded.
 fn is_clean(kept: &[Kept], lexer: &mut Lexer) -> bool
@@ -86,9 +73,11 @@ pub fn canon_text(
     text: &str,
 ) -> Result<Vec<u8>, Fault>
     requires { length text.now < 2 ^ 32 }
-    ensures { MatchResult result
+    ensures told { MatchResult result
         (λ out. canons.canon_text options rereads.now text.now ≡ Ok out.items)
         (λ fault. Fails (canons.canon_text options rereads.now text.now) fault) }
+    // It is read by the same words to the same tokens, and is its own canonical text.
+    ensures again { IfOk result (λ out. IsReadAgain options rereads.now text.now out.items) }
 {
     let kept = clean_tokens(alloc, options, rereads, text)?;
     fitting(canonical_text(alloc, text, BytePos(0), &kept)?)

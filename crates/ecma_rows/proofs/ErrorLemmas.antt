@@ -6,7 +6,7 @@ use Rattle.ecma_place.specs.declared.place.Span.{Span}
 use Rattle.ecma_token.specs.View.{ErrorView}
 use Rattle.ecma_state.specs.Session.{Session}
 use Rattle.ecma_rows.specs.ErrorRows.{IsGathered, IsSaid, Sourced, all_errors, error_row, message_of, messages, rows_from, source_number, sourced}
-use Rattle.ecma_rows.specs.Rows.{token_errors}
+use Rattle.ecma_texts.specs.ReadingOut.{refusals}
 use Rattle.ecma_rows.specs.declared.errors.ErrorRow.{ErrorRow}
 use Rattle.ecma_rows.specs.declared.errors.Gathered.{Gathered}
 use Rattle.ecma_rows.specs.declared.errors.Source.{Source}
@@ -50,11 +50,11 @@ gathers es e source span message old new row said is bytes rows lo hi number fro
     }
 
 -- all were
-pub gathers-all : (s : Session) (refused recorded waiting : List ErrorView) (g : Gathered) → refused ≡ token_errors s → recorded ≡ s.errors.recorded → waiting ≡ s.errors.waiting
+pub gathers-all : (s : Session) (refused recorded waiting : List ErrorView) (g : Gathered) → refused ≡ refusals s → recorded ≡ s.errors.recorded → waiting ≡ s.errors.waiting
     → IsGathered ((sourced Token refused ++ sourced Recorded recorded) ++ sourced Waiting waiting) g → IsGathered (all_errors s) g
 gathers-all s refused recorded waiting g tokens first last is =
     let apart = append_assoc (sourced Token refused) (sourced Recorded recorded) (sourced Waiting waiting) in
     let here = ap (λ (es : List ErrorView). sourced Token es ++ (sourced Recorded recorded ++ sourced Waiting waiting)) tokens in
-    let there = ap (λ (es : List ErrorView). sourced Token (token_errors s) ++ (sourced Recorded es ++ sourced Waiting waiting)) first in
-    let end = ap (λ (es : List ErrorView). sourced Token (token_errors s) ++ (sourced Recorded s.errors.recorded ++ sourced Waiting es)) last in
+    let there = ap (λ (es : List ErrorView). sourced Token (refusals s) ++ (sourced Recorded es ++ sourced Waiting waiting)) first in
+    let end = ap (λ (es : List ErrorView). sourced Token (refusals s) ++ (sourced Recorded s.errors.recorded ++ sourced Waiting es)) last in
     subst (λ es. IsGathered es g) (apart ∙ here ∙ there ∙ end) is

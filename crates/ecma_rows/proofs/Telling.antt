@@ -1,23 +1,21 @@
 -- A loop that tells of tokens while it reads.
-use Rattle.std.proofs.Common.{◌≡◌, ◌∙◌, ◌+◌, Bool, true, false, List, [], ◌∷◌, ◌++◌, append-nil, cond, Option, Some, None, length, drop, map, reverse, refl, sym, subst, ap, arith}
+use Rattle.std.proofs.Common.{◌≡◌, ◌∙◌, ◌+◌, Bool, true, false, List, [], ◌∷◌, ◌++◌, append-nil, Option, Some, None, length, map, reverse, refl, sym, subst, ap, arith}
 use Rattle.std.specs.Prelude.{flat_map, is_some, option_map}
 use Rattle.std.proofs.lemmas.List.{length-append, map-append}
-use Rattle.std.proofs.lemmas.List.Sums.{fold-append, sum_by-append}
-use Rattle.std.proofs.lemmas.Grind.{flat_map-append, reverse_onto}
-use Rattle.ecma_place.specs.declared.place.BytePos.{BytePos}
-use Rattle.ecma_token.specs.View.{ErrorView, SpannedView, error_view, refusal_of}
-use Rattle.ecma_state.specs.Run.{act_all, act_on, given_in, reading_of, reread_from}
-use Rattle.ecma_state.specs.Session.{LexerState, Past, Session, kept_back, lexer_state, seen_of, state_of}
-use Rattle.ecma_state.specs.State.{last_slash}
+use Rattle.std.proofs.lemmas.List.Sums.{fold-append}
+use Rattle.std.proofs.lemmas.Grind.{reverse_onto}
+use Rattle.ecma_token.specs.View.{SpannedView, error_view, refusal_of}
+use Rattle.ecma_state.specs.Run.{act_all, act_on}
+use Rattle.ecma_state.specs.Session.{LexerState, Session, kept_back, lexer_state, state_of}
 use Rattle.ecma_state.specs.declared.step.Step.{Step}
-use Rattle.ecma_state.specs.declared.step.Step.TheVariants.{Read}
-use Rattle.ecma_slashes.specs.Rereads.{SlashRule, StepsOn, behind_by, found_by, is_reread, last_read, meets_expression, read_steps, rereads, steps_by, steps_to_end_by}
+use Rattle.ecma_slashes.specs.Rereads.{SlashRule, StepsOn, behind_by, found_by, rereads, steps_by, steps_to_end_by}
 use Rattle.ecma_slashes.proofs.RunLemmas.{SoFar, so-far-end, so-far-next, so-far-start}
-use Rattle.ecma_slashes.proofs.TokenLemmas.{met-slash}
+use Rattle.ecma_texts.specs.ReadingOut.{one_if, refusals, refusals_in}
 use Rattle.ecma_texts.proofs.KeepingLemmas.{kept-by, kept_with}
+use Rattle.ecma_texts.proofs.ReadingLemmas.{refusals-behind, rereads-on, some-map}
 use Rattle.ecma_rows.specs.Asked.{read_out}
-use Rattle.ecma_rows.specs.Rows.{token_errors, token_row, token_rows}
-use Rattle.ecma_rows.specs.Tally.{IsTallied, ReadsRow, TellsOn, errors_found, errors_in, one_if, rows_of}
+use Rattle.ecma_rows.specs.Rows.{token_row, token_rows}
+use Rattle.ecma_rows.specs.Tally.{IsTallied, ReadsRow, TellsOn, rows_of}
 use Rattle.ecma_rows.specs.Told.{written}
 use Rattle.ecma_rows.specs.declared.tally.ReadRow.{ReadRow}
 use Rattle.ecma_rows.specs.declared.tally.Tally.{Tally}
@@ -32,44 +30,17 @@ rows-with (Some t) ts = ap (map token_row) (reverse_onto ts t []) ∙ map-append
 pub rows-behind : (rule : SlashRule) (s : Session) → s.reread ≡ None → token_rows (behind_by rule s) ≡ token_rows s ++ rows_of (option_map token_row (found_by rule s))
 rows-behind rule s plain = ap (λ ts. map token_row (reverse ts)) (kept-by rule s plain) ∙ rows-with (found_by rule s) (kept_back s.past)
 
--- Errors
-
-errors_among : List SpannedView → List ErrorView
-errors_among ts = flat_map (λ t. refusal_of t.token) ts
-
-errors-with : (found : Option SpannedView) (ts : List SpannedView) → errors_among (reverse (kept_with found ts)) ≡ errors_among (reverse ts) ++ errors_found found
-unfolding errors_among
-errors-with None ts = sym (append-nil (errors_among (reverse ts)))
-errors-with (Some t) ts =
-    ap errors_among (reverse_onto ts t []) ∙ flat_map-append (λ (x : SpannedView). refusal_of x.token) (reverse ts) (t ∷ [])
-    ∙ ap (λ more. errors_among (reverse ts) ++ more) (append-nil (refusal_of t.token))
-
-pub errors-behind : (rule : SlashRule) (s : Session) → s.reread ≡ None → token_errors (behind_by rule s) ≡ token_errors s ++ errors_found (found_by rule s)
-unfolding errors_among
-errors-behind rule s plain = ap (λ ts. errors_among (reverse ts)) (kept-by rule s plain) ∙ errors-with (found_by rule s) (kept_back s.past)
-
 -- Counts
-
-count-append : (a b : List Step) → rereads (a ++ b) ≡ rereads a + rereads b
-count-append a b = sum_by-append (λ step. cond (is_reread step) 1 0) a b
-
-counts-one : (b : Bool) → rereads (read_steps b) ≡ one_if b
-counts-one true = refl
-counts-one false = refl
 
 rows-length : (rows : List TokenRow) (o : Option TokenRow) → length (rows ++ rows_of o) ≡ length rows + one_if (is_some o)
 rows-length rows None = ap length (append-nil rows) ∙ (let same : length rows ≡ length rows + 0 = omega arith in same)
 rows-length rows (Some row) = length-append rows (row ∷ [])
 
-some-map : {A B : Type 0} → (f : A → B) (o : Option A) → is_some (option_map f o) ≡ is_some o
-some-map f None = refl
-some-map f (Some x) = refl
-
 -- one more token was told of
 pub tells-on : (rule : SlashRule) (s : Session) (steps : List Step) (before old new : List TokenRow) (was tally : Tally) (read : ReadRow) (more : Bool) (l : LexerState)
     → s.reread ≡ None → IsTallied steps s before old was → ReadsRow rule s read l → lexer_state tally.lexer ≡ l → more ≡ is_some read.row
     → tally.tokens ≡ was.tokens + one_if (is_some read.row) → tally.rereads ≡ was.rereads + one_if read.again
-    → map error_view tally.errors.items ≡ map error_view was.errors.items ++ errors_in read.error
+    → map error_view tally.errors.items ≡ map error_view was.errors.items ++ refusals_in read.error
     → ((rows : List TokenRow) (room : List TokenRow) → was.tokens ≡ length rows → old ≡ written rows room → new ≡ written (rows ++ rows_of read.row) room)
     → TellsOn rule s steps before new tally more
 tells-on rule s steps before old new was tally read more l plain so reads shows told tokens counted kept writes =
@@ -80,9 +51,8 @@ tells-on rule s steps before old new was tally read more l plain so reads shows 
       tallied =
           record {
             tokens = tokens ∙ ap (λ n. n + one_if (is_some read.row)) so.tokens ∙ sym (rows-length (token_rows s) read.row) ∙ ap length (sym rows);
-            rereads = counted ∙ ap (λ n. n + one_if read.again) so.rereads ∙ ap (λ b. rereads steps + one_if b) reads.twice
-                ∙ ap (λ n. rereads steps + n) (sym (counts-one (meets_expression rule s))) ∙ sym (count-append steps (steps_by rule s));
-            errors = kept ∙ ap (λ es. es ++ errors_in read.error) so.errors ∙ ap (λ es. token_errors s ++ es) reads.refuses ∙ sym (errors-behind rule s plain);
+            rereads = counted ∙ ap (λ n. n + one_if read.again) so.rereads ∙ ap (λ b. rereads steps + one_if b) reads.twice ∙ sym (rereads-on rule s steps);
+            errors = kept ∙ ap (λ es. es ++ refusals_in read.error) so.errors ∙ ap (λ es. refusals s ++ es) reads.refuses ∙ sym (refusals-behind rule s plain);
             rows = writes (token_rows s) before so.tokens so.rows ∙ ap (λ rows. written rows before) (sym rows);
           };
     }
@@ -105,7 +75,7 @@ going-start rule s before tally at plain none tokens counted clean =
     let l = lexer_state tally.lexer in
     let so = so-far-start rule s [] l at plain in
     let rows : token_rows s ≡ [] = ap (λ past. map token_row (reverse (kept_back past))) none in
-    let errors : token_errors s ≡ [] = ap (λ past. flat_map (λ (t : SpannedView). refusal_of t.token) (reverse (kept_back past))) none in
+    let errors : refusals s ≡ [] = ap (λ past. flat_map (λ (t : SpannedView). refusal_of t.token) (reverse (kept_back past))) none in
     let tallied : IsTallied [] s before before tally = record { tokens = tokens ∙ sym (ap length rows); rereads = counted; errors = ap (map error_view) clean ∙ sym errors; rows = sym (ap (λ r. written r before) rows) } in
     record { steps = []; so = so; tallied = subst (λ x. IsTallied [] x before before tally) (sym (at-steps rule s [] l so)) tallied }
 

@@ -4,7 +4,7 @@ use Rattle.ecma_place.specs.declared.place.Span.{Span}
 use Rattle.ecma_token.specs.MessageView.{view_message}
 use Rattle.ecma_token.specs.View.{ErrorView}
 use Rattle.ecma_state.specs.Session.{Session}
-use Rattle.ecma_rows.specs.Rows.{token_errors}
+use Rattle.ecma_texts.specs.ReadingOut.{refusals}
 use Rattle.ecma_rows.specs.Told.{Told, Nothing, Rows, room_behind, status_of}
 use Rattle.ecma_rows.specs.declared.errors.ErrorRow.{ErrorRow}
 use Rattle.ecma_rows.specs.declared.errors.Gathered.{Gathered}
@@ -59,7 +59,7 @@ messages es = flat_map message_of es
 
 -- the errors of the tokens that are kept, those that were recorded, and those that wait for module code, each in order
 abbrev pub all_errors : Session → List Sourced
-all_errors s = sourced Token (token_errors s) ++ (sourced Recorded s.errors.recorded ++ sourced Waiting s.errors.waiting)
+all_errors s = sourced Token (refusals s) ++ (sourced Recorded s.errors.recorded ++ sourced Waiting s.errors.waiting)
 
 -- rows and messages are those of these errors
 pub record IsGathered (es : List Sourced) (gathered : Gathered) : Type 0 where

@@ -1,5 +1,5 @@
 -- Rows of tokens and comments. Their form is our own choice.
-use Rattle.std.specs.Prelude.{ℕ, ◌+◌, ◌-◌, ◌==◌, Bool, true, false, not, List, flat_map, map, reverse, length, if◌then◌else◌}
+use Rattle.std.specs.Prelude.{ℕ, ◌+◌, ◌-◌, ◌==◌, Bool, true, false, not, List, map, reverse, length, if◌then◌else◌}
 use Rattle.ecma_place.specs.declared.place.Span.{Span}
 use Rattle.ecma_place.specs.declared.comment.CommentKind.{CommentKind}
 use Rattle.ecma_place.specs.declared.comment.CommentKind.TheVariants.{Line, Block}
@@ -7,7 +7,7 @@ use Rattle.ecma_place.specs.declared.comment.Comment.{Comment}
 use Rattle.ecma_syntax.specs.Word.{word_text}
 use Rattle.ecma_syntax.specs.declared.word.Word.{Word as Word'}
 use Rattle.ecma_token.specs.Kinds.{kind_of}
-use Rattle.ecma_token.specs.View.{ErrorView, SpannedView, TokenView, plain_token, refused_template, error_token, refusal_of}
+use Rattle.ecma_token.specs.View.{SpannedView, TokenView, plain_token, refused_template, error_token}
 use Rattle.ecma_token.specs.declared.token.Token.{Token, Word, Template', Str, Regex, Num, BigInt, JSXText, Ok', Err'}
 use Rattle.ecma_state.specs.Session.{Session, kept_back}
 use Rattle.ecma_comments.specs.declared.comments_buffer.BufferedComment.{BufferedComment}
@@ -57,10 +57,6 @@ token_row t =
 -- the tokens that are kept, in order
 abbrev pub token_rows : Session → List TokenRow
 token_rows s = map token_row (reverse (kept_back s.past))
-
--- the errors of those that are one
-abbrev pub token_errors : Session → List ErrorView
-token_errors s = flat_map (λ t. refusal_of t.token) (reverse (kept_back s.past))
 
 -- Comments
 

@@ -2,10 +2,10 @@
 ghost use Rattle.std.specs.Prelude.{◌≡◌, ◌∷◌, ◌++◌, [], List, false, map, IfOk, OnOk, OnErr};
 ghost use Rattle.ecma_token.specs.View.{error_view};
 ghost use Rattle.ecma_state.specs.Session.{Session, lexer_state, state_of};
+ghost use Rattle.ecma_texts.specs.ReadingOut.{refusals};
 ghost use Rattle.ecma_rows.specs.Asked.{judged, place_at};
 ghost use Rattle.ecma_rows.specs.ErrorRows as rows;
 ghost use Rattle.ecma_rows.specs.ErrorRows.{IsGathered, IsSaid, Sourced, TellsErrors, all_errors, sourced};
-ghost use Rattle.ecma_rows.specs.Rows.{token_errors};
 ghost use Rattle.ecma_rows.specs.Told.{Rows, told_by};
 
 use crate::outcome::Answer;
@@ -111,7 +111,7 @@ impl Gathered {
 
 /// Rows and messages of the errors of what was read: of the tokens that are one, and of those that the lexer has.
 fn gather(alloc: Global, tally: Tally) -> Result<Gathered, AllocError>
-    ensures { (s : Session) → map error_view tally.entry.errors.items ≡ token_errors s → lexer_state tally.entry.lexer ≡ state_of s → IfOk result (λ gathered. IsGathered (all_errors s) gathered) }
+    ensures { (s : Session) → map error_view tally.entry.errors.items ≡ refusals s → lexer_state tally.entry.lexer ≡ state_of s → IfOk result (λ gathered. IsGathered (all_errors s) gathered) }
 {
     let Tally {
         lexer,

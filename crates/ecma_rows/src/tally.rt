@@ -1,12 +1,13 @@
 //! Rows of tokens, written while a text is read.
-ghost use Rattle.std.specs.Prelude.{◌≡◌, ◌+◌, ◌++◌, ◌<◌, ◌≤◌, ◌^◌, None, [], List, is_some, length, map, option_map, true, IfOk, OnOk};
-ghost use Rattle.ecma_token.specs.View.{error_view, spanned_view};
+ghost use Rattle.std.specs.Prelude.{◌≡◌, ◌+◌, ◌++◌, ◌<◌, ◌≤◌, ◌^◌, None, [], List, is_some, length, map, true, IfOk, OnOk};
+ghost use Rattle.ecma_token.specs.View.{error_view};
 ghost use Rattle.ecma_state.specs.Session.{Session, lexer_state, state_of};
 ghost use Rattle.ecma_state.specs.declared.step.Step.{Step};
 ghost use Rattle.ecma_stream.specs.Ending.{most_tokens};
 ghost use Rattle.ecma_slashes.specs.Rereads.{is_in_order, rule_of, steps_to_end_by};
+ghost use Rattle.ecma_texts.specs.ReadingOut.{one_if, refusals_in};
 ghost use Rattle.ecma_rows.specs.Asked.{read_out};
-ghost use Rattle.ecma_rows.specs.Tally.{IsTallied, ReadsRow, TellsOn, errors_found, errors_in, one_if, rows_of};
+ghost use Rattle.ecma_rows.specs.Tally.{IsTallied, ReadsRow, TellsOn, rows_of};
 ghost use Rattle.ecma_rows.specs.Told.{written};
 ghost use Rattle.ecma_rows.specs.declared.tokens.TokenRow.{TokenRow};
 
@@ -14,7 +15,8 @@ use crate::room::put;
 use crate::tokens::{TokenRow, token_row};
 use ecma_slashes::{Slashes, read_telling};
 use ecma_stream::Lexer;
-use ecma_token::{Error, Token, TokenAndSpan};
+use ecma_texts::refusal_in;
+use ecma_token::{Error, TokenAndSpan};
 use std::alloc::{AllocError, Global};
 
 /// A lexer, and what was read by it.
@@ -39,26 +41,6 @@ struct ReadRow<'a> {
     again: bool,
 }
 
-/// The error of a token that is one, which is taken out of the slot.
-fn error_in<'a>(slot: &mut Option<TokenAndSpan<'a>>) -> Option<Error<'a>>
-    ensures { errors_in result ≡ errors_found (option_map spanned_view slot.old) }
-{
-    // Most tokens are none, and stay where they are.
-    match slot {
-        Some(
-            TokenAndSpan {
-                token: Token::Error(_),
-                ..
-            },
-        ) => {}
-        _ => return None,
-    }
-    match slot.take()?.token {
-        Token::Error(error) => Some(error),
-        _ => None,
-    }
-}
-
 /// Reads the next token into the slot.
 fn read_row<'a>(
     lexer: &mut Lexer<'a>,
@@ -77,7 +59,7 @@ fn read_row<'a>(
         Some(token) => Some(token_row(token)),
         None => None,
     };
-    let error = error_in(slot);
+    let error = refusal_in(slot);
     Ok(ReadRow { row, error, again })
 }
 
@@ -90,7 +72,7 @@ impl<'a> Tally<'a> {
         ensures lexer { OnOk result (self.new.lexer ≡ self.old.lexer) }
         ensures rereads { OnOk result (self.new.rereads ≡ self.old.rereads + one_if read.entry.again) }
         ensures tokens { OnOk result (self.new.tokens ≡ self.old.tokens + one_if (is_some read.entry.row)) }
-        ensures errors { OnOk result (map error_view self.new.errors.items ≡ map error_view self.old.errors.items ++ errors_in read.entry.error) }
+        ensures errors { OnOk result (map error_view self.new.errors.items ≡ map error_view self.old.errors.items ++ refusals_in read.entry.error) }
         ensures rows { (rows before : List TokenRow) → self.old.tokens ≡ length rows → out.old ≡ written rows before → OnOk result (out.new ≡ written (rows ++ rows_of read.entry.row) before) }
     {
         let ReadRow { row, error, again } = read;

@@ -16,7 +16,7 @@ use Rattle.ecma_slashes.specs.Rereads.{SlashRule, TextsAreReadPlainly, all_by, b
 use Rattle.ecma_slashes.proofs.RunLemmas.{text-counts}
 use Rattle.ecma_slashes.proofs.TokenLemmas.{behind-plain}
 
-each-append : (holds : Session → Step → Bool) (s : Session) (a b : List Step) → each_step holds s a ≡ true → each_step holds (act_all s a) b ≡ true → each_step holds s (a ++ b) ≡ true
+pub each-append : (holds : Session → Step → Bool) (s : Session) (a b : List Step) → each_step holds s a ≡ true → each_step holds (act_all s a) b ≡ true → each_step holds s (a ++ b) ≡ true
 each-append holds s [] b first more = more
 each-append holds s (x ∷ xs) b first more =
     let parts = and_parts (holds s x) (each_step holds (act_on s x) xs) first in

@@ -64,7 +64,7 @@ runs_by_rule_end rule s plain =
 abbrev pub Counts : List Step → Type 0
 Counts steps = (c : Counted) → count_all c steps ≡ record c { steps = c.steps ++ steps }
 
-none-counts : Counts []
+pub none-counts : Counts []
 none-counts c = ap (λ steps. record c { steps = steps }) (sym (append-nil c.steps))
 
 read-counts : (b : Bool) → Counts (read_steps b)
@@ -72,7 +72,7 @@ unfolding count_step
 read-counts false c = refl
 read-counts true c = ap (λ steps. record c { steps = steps }) (simp append_assoc)
 
-both-count : (a b : List Step) → Counts a → Counts b → Counts (a ++ b)
+pub both-count : (a b : List Step) → Counts a → Counts b → Counts (a ++ b)
 both-count a b first more c =
     fold-append count_step c a b ∙ ap (λ d. count_all d b) (first c) ∙ more (record c { steps = c.steps ++ a }) ∙ ap (λ steps. record c { steps = steps }) (append_assoc c.steps a b)
 

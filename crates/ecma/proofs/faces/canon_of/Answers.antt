@@ -8,4 +8,4 @@ pub returns : goal.returns
 returns c = λ options rule gathers.
     let input = whole c.args.text.now in
     let plain = texts_are_read_plainly rule (settings true options) (context options) input refl in
-    c.canonical_of_gathered.ensures (settings true options) (text_steps_by rule (settings true options) (context options) input) gathers plain.clean
+    c.canonical_of_gathered.ensures (settings true options) (text_steps_by rule (settings true options) (context options) input) record { gathers = gathers; clean = plain.clean }
