@@ -8,10 +8,11 @@ use std::alloc::{AllocError, Global};
 use std::io;
 
 /// So many contexts are pushed.
-const PUSHED: usize = 200;
+const PUSHED: usize = 260;
 
 /// Parentheses, each of which opens a context.
-const PARENTHESES: &str = "((((((((((((((((((((((((((((((((((((((((((((((((((((((((((((((((((((((((((((((((((((((((((((((((((((((((((((((((((((((((((((((((((((((((((((";
+const PARENTHESES: &str =
+    "((((((((((((((((((((((((((((((((((((((((((((((((((((((((((((((((((((((((((((((((((((((((((((((((((((((((((((((((((((((((((((((((((((((((((((";
 
 /// So many of them are read before there are more contexts than take no memory: one encloses the whole text.
 const FREE: u32 = 127;

@@ -66,21 +66,17 @@ impl Listed {
 
     /// Whether these are the first comments of the list, up to this number.
     fn are_first(self, comments: &[BufferedComment], count: u32) -> bool {
-        let same_texts = comments
-            .iter()
-            .zip(0..count)
-            .all(|(buffered, number)| buffered.comment.text.as_str() == self.text(number));
+        let same_texts = comments.iter().zip(0..count).all(|(buffered, number)| buffered
+            .comment
+            .text
+            .as_str()
+            == self.text(number));
         same_texts && are_first_comments(comments, count)
     }
 }
 
 /// The text of the comment of this number, and, where that is refused, again.
-fn atom(
-    rt: &impl Print,
-    alloc: Global,
-    listed: Listed,
-    number: u32,
-) -> io::Result<Atom<'static>> {
+fn atom(rt: &impl Print, alloc: Global, listed: Listed, number: u32) -> io::Result<Atom<'static>> {
     match listed.atom(alloc, number) {
         Ok(text) => Ok(text),
         Err(_) => {
