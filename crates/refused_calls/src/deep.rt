@@ -1,10 +1,10 @@
-//! More contexts than take no memory.
+//! More contexts than are held without allocating.
 use ecma_state::{TokenContext, TokenContexts};
 use ecma_stream::Tokens;
 use refused_reads::asked::Way;
 use refused_reads::reading::step;
 use refused_reads::rows::opened;
-use std::alloc::{AllocError, Global};
+use std::alloc::Global;
 use std::io;
 
 /// So many contexts are pushed.
@@ -14,7 +14,7 @@ const PUSHED: usize = 260;
 const PARENTHESES: &str =
     "((((((((((((((((((((((((((((((((((((((((((((((((((((((((((((((((((((((((((((((((((((((((((((((((((((((((((((((((((((((((((((((((((((((((((((";
 
-/// So many of them are read before there are more contexts than take no memory: one encloses the whole text.
+/// So many of them are read before a read allocates: one context encloses the whole text, and up to 128 do not allocate.
 const FREE: u32 = 127;
 
 /// So many are read behind those.
@@ -60,7 +60,7 @@ fn play_contexts(rt: &impl Print, alloc: Global) -> io::Result<()> {
     println!(rt; "contexts {count}, same contexts {same}")
 }
 
-/// Reads parentheses, those first that take no memory.
+/// Reads parentheses, those first whose reads do not allocate.
 fn play_parentheses(rt: &impl Print, alloc: Global) -> io::Result<()> {
     println!(rt; "read of parentheses")?;
     let mut lexer = opened(alloc, PARENTHESES)?;

@@ -145,8 +145,9 @@ fn tell_buffer(
     println!(rt; "comments {}, same comments {same}", comments.len())
 }
 
-/// Adds the comments from this number on, up to another, to a buffer that has as many as make a block. The copy that is made
-/// before, and one behind, take memory, so that what is refused between them is told apart from what is refused elsewhere.
+/// Adds the comments from this number on, up to another, to a buffer that has as many as make a block. A copy is made before
+/// them, which is the answer, and one behind them: where these are refused lines say so, and what is asked for silently stands
+/// between such.
 fn share(
     rt: &impl Print,
     alloc: Global,
