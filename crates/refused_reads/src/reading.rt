@@ -10,7 +10,7 @@ use std::io;
 const READS: usize = 30;
 
 /// An equal lexer.
-fn copied<'a>(rt: &impl Print, lexer: &Lexer<'a>) -> io::Result<Lexer<'a>> {
+pub fn copied<'a>(rt: &impl Print, lexer: &Lexer<'a>) -> io::Result<Lexer<'a>> {
     match lexer.copy() {
         Ok(copy) => Ok(copy),
         Err(_) => {
@@ -47,7 +47,7 @@ fn tell_refused<'a>(
 }
 
 /// Asks for the next token, and says whether there was one. Where that is refused, a copy made before goes on.
-fn step(rt: &impl Print, alloc: Global, way: Way, lexer: &mut Lexer) -> io::Result<bool> {
+pub fn step(rt: &impl Print, alloc: Global, way: Way, lexer: &mut Lexer) -> io::Result<bool> {
     let before = copied(rt, lexer)?;
     let answer = match way.ask(lexer) {
         Ok(answer) => answer,
@@ -76,8 +76,21 @@ fn read_again(rt: &impl Print, alloc: Global, way: Way, lexer: &mut Lexer) -> io
     Ok(())
 }
 
-/// Reads to the end, and writes all that was answered, and what stands behind the tokens. Where a comment is refused, it and
-/// those behind it are handed over then.
+/// The comments of a lexer that is at the end. Where one is refused, it and those behind it are handed over then.
+pub fn handed<'a>(
+    rt: &impl Print,
+    alloc: Global,
+    lexer: &mut Lexer<'a>,
+) -> io::Result<CommentList<'a>> {
+    let mut store = CommentList::new(alloc);
+    if hand_comments(lexer, &mut store).is_err() {
+        let rest = hand_comments(lexer, &mut store)?;
+        println!(rt; "refused hand_comments: rest handed {rest}")?;
+    }
+    Ok(store)
+}
+
+/// Reads to the end, and writes all that was answered, and what stands behind the tokens.
 fn read_out(rt: &impl Print, alloc: Global, way: Way, lexer: &mut Lexer) -> io::Result<()> {
     for _ in 0..READS {
         if !step(rt, alloc, way, lexer)? {
@@ -87,12 +100,7 @@ fn read_out(rt: &impl Print, alloc: Global, way: Way, lexer: &mut Lexer) -> io::
     }
     tell_errors(rt, "recorded", lexer.take_errors().as_slice())?;
     tell_errors(rt, "waiting", lexer.module_errors())?;
-    let mut store = CommentList::new(alloc);
-    if hand_comments(lexer, &mut store).is_err() {
-        let rest = hand_comments(lexer, &mut store)?;
-        println!(rt; "refused hand_comments: rest handed {rest}")?;
-    }
-    tell_comments(rt, store.as_slice())
+    tell_comments(rt, handed(rt, alloc, lexer)?.as_slice())
 }
 
 fn play_texts(rt: &impl Print, alloc: Global, way: Way) -> io::Result<()> {
