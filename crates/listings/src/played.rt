@@ -3,7 +3,8 @@ use crate::commands::{most_reads, push_reads};
 use ecma_lexer::{Answer, Kept, Replay, Settings, Step, replay};
 use ecma_place::{BytePos, StringInput};
 use listing::listing::{
-    self, Row, contexts_of, flags, syntax, write_comments, write_errors, write_note, write_token,
+    Row, Settings as RowSettings, contexts_of, flags, syntax, write_comments, write_errors,
+    write_note, write_token,
 };
 use std::alloc::{AllocError, Global};
 
@@ -32,7 +33,7 @@ fn push_pops(steps: &mut Vec<Step>, pops: usize) -> Result<(), AllocError> {
 fn push_settings(
     alloc: Global,
     steps: &mut Vec<Step>,
-    settings: listing::Settings,
+    settings: RowSettings,
 ) -> Result<(), AllocError> {
     steps.push(Step::SetCtx(flags(settings)))?;
     if let Some(contexts) = settings.contexts {
@@ -42,11 +43,7 @@ fn push_settings(
 }
 
 /// The steps that read the text of a row to its end, and then take all contexts away.
-fn steps_of(
-    alloc: Global,
-    settings: listing::Settings,
-    text: &str,
-) -> Result<Vec<Step>, AllocError> {
+fn steps_of(alloc: Global, settings: RowSettings, text: &str) -> Result<Vec<Step>, AllocError> {
     let mut steps = Vec::new(alloc);
     push_settings(alloc, &mut steps, settings)?;
     push_reads(&mut steps, most_reads(text.len()))?;
@@ -134,11 +131,7 @@ pub fn keeps_answers(alloc: Global, found: &Replay) -> Result<bool, AllocError> 
     Ok(tokens.as_slice() == found.kept.as_slice())
 }
 
-fn play<'a>(
-    alloc: Global,
-    settings: listing::Settings,
-    text: &'a str,
-) -> Result<Replay<'a>, AllocError> {
+fn play<'a>(alloc: Global, settings: RowSettings, text: &'a str) -> Result<Replay<'a>, AllocError> {
     let read_by = Settings {
         syntax: syntax(settings),
         target: settings.target,
@@ -172,7 +165,7 @@ fn write_difference(
 fn write_played_otherwise(
     alloc: Global,
     out: &mut String,
-    settings: listing::Settings,
+    settings: RowSettings,
     text: &str,
     listed: &str,
 ) -> Result<(), AllocError> {
@@ -189,10 +182,10 @@ fn write_played_otherwise(
 /// `AllocError` where there is no memory.
 pub fn listing_both_ways(
     alloc: Global,
-    settings: listing::Settings,
+    settings: RowSettings,
     text: &str,
 ) -> Result<String, AllocError> {
-    let listed = listing::listing(alloc, settings, text)?;
+    let listed = listing::listing::listing(alloc, settings, text)?;
     let mut both = String::new(alloc);
     both.push_str(listed.as_str())?;
     write_played_otherwise(alloc, &mut both, settings, text, listed.as_str())?;
