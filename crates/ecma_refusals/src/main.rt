@@ -7,7 +7,7 @@
 mod faces;
 mod numbers;
 
-use refused_calls::{cover, deep, kept, shared, whole};
+use refused_calls::{cover, kept, whole};
 use refused_reads::{reading, told};
 use std::io;
 
@@ -15,8 +15,6 @@ fn main(rt: HostRuntime) -> io::Result<()> {
     let alloc = rt.alloc();
     reading::play(&rt, alloc)?;
     kept::play(&rt, alloc)?;
-    shared::play(&rt, alloc)?;
-    deep::play(&rt, alloc)?;
     whole::play(&rt, alloc)?;
     cover::play(&rt, alloc)?;
     faces::play(&rt, alloc)?;

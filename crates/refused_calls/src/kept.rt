@@ -1,9 +1,9 @@
-//! What a parser has a lexer keep, and buffers of comments.
+//! What a parser has a lexer keep, buffers of comments, and contexts.
 use ecma_place::{Atom, BytePos, Comment, CommentKind, Span, Spanned};
-use ecma_state::{BufferedComment, BufferedCommentKind, CommentsBuffer};
+use ecma_state::{BufferedComment, BufferedCommentKind, CommentsBuffer, TokenContext};
 use ecma_stream::{Lexer, Tokens};
 use ecma_token::{Error, SyntaxError};
-use refused_reads::rows::{module, opened};
+use refused_reads::rows::{contexts, module, opened};
 use refused_reads::told::tell_comments;
 use std::alloc::{AllocError, Global};
 use std::io;
@@ -12,7 +12,7 @@ use std::io;
 const TIMES: u32 = 6;
 
 /// The place of one of them.
-pub(crate) fn span(number: u32) -> Span {
+fn span(number: u32) -> Span {
     Span {
         lo: BytePos(number),
         hi: BytePos(number),
@@ -147,7 +147,7 @@ impl Pushed {
 }
 
 /// Whether these are the comments of so many numbers, in order.
-pub(crate) fn are_first_comments(comments: &[BufferedComment], count: u32) -> bool {
+fn are_first_comments(comments: &[BufferedComment], count: u32) -> bool {
     let in_order = comments
         .iter()
         .zip(0..count)
@@ -191,10 +191,28 @@ fn play_comments(rt: &impl Print, alloc: Global, pushed: Pushed) -> io::Result<(
     tell_comments(rt, &buffer.take_pending_leading())
 }
 
-/// Plays what a parser has a lexer keep, and buffers of comments.
+/// Adds a context to as many as take no memory.
+fn play_contexts(rt: &impl Print, alloc: Global) -> io::Result<()> {
+    println!(rt; "push of a context")?;
+    let mut contexts = contexts(alloc)?;
+    let before = contexts.len();
+    if contexts.push(TokenContext::Tpl).is_err() {
+        let same = contexts.len() == before && contexts.current() == Some(TokenContext::ParenExpr);
+        println!(rt; "refused push of a context: same contexts {same}")?;
+        contexts.push(TokenContext::Tpl)?;
+    }
+    println!(rt;
+        "contexts {}, the last {:?}",
+        contexts.len(),
+        contexts.current()
+    )
+}
+
+/// Plays what a parser has a lexer keep, buffers of comments, and contexts.
 pub fn play(rt: &impl Print, alloc: Global) -> io::Result<()> {
     play_errors(rt, alloc, Added::Error)?;
     play_errors(rt, alloc, Added::ModuleModeError)?;
     play_comments(rt, alloc, Pushed::Comment)?;
-    play_comments(rt, alloc, Pushed::PendingLeading)
+    play_comments(rt, alloc, Pushed::PendingLeading)?;
+    play_contexts(rt, alloc)
 }
