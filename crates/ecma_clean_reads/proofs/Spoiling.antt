@@ -25,7 +25,7 @@ use Rattle.ecma_clean_reads.specs.Clean.{each_step, ends_clean, is_plain_step, t
 abbrev pub is_good : Session → List Step → Bool
 is_good s steps = each_step is_plain_step s steps && (each_step takes_none s steps && ends_clean (act_all s steps))
 
--- a step that is plain and takes none counts for nothing by itself
+-- a step that is plain and allocates nothing counts for nothing by itself
 pub good-step : (s : Session) (step : Step) (steps : List Step) → is_plain_step s step ≡ true → takes_none s step ≡ true → is_good s (step ∷ steps) ≡ is_good (act_on s step) steps
 good-step s step steps plain takes =
     let after = act_on s step in

@@ -22,7 +22,7 @@ impl<'a> Model for CommentList<'a> {
 }
 
 impl<'a> CommentList<'a> {
-    /// No comments, which takes no memory.
+    /// No comments, which does not allocate.
     pub fn new(alloc: Global) -> CommentList<'a>
         ensures { result ≡ [] }
     {

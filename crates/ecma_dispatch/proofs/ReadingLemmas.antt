@@ -31,7 +31,7 @@ reading-some mode input here x gap e =
     ap (λ there. reading_behind mode (gap_in mode (place input) (rest input)) there (rest there)) (sym gap)
     ∙ reading_behind-some mode (gap_in mode (place input) (rest input)) here (rest here) x e
 
--- a read that takes no memory has no faults before the token, collects no comment, and its token takes none
+-- a read that does not allocate has no faults before the token, collects no comment, and its token does not allocate
 pub record IsFree (mode : Mode) (input : Cursor) : Type 0 where
   pub gap_faults : (gap_in mode (place input) (rest input)).faults ≡ []
   pub comments : (gap_in mode (place input) (rest input)).comments ≡ []
@@ -160,7 +160,7 @@ shebang-stands mode input t none found = go mode.shebang_allowed (opens_shebang 
     go true false none found = cc
     go true true none found = refl
 
--- where no shebang was found, none stands, the cursor stays, and what takes no memory still takes none
+-- where no shebang was found, none stands, the cursor stays, and what does not allocate still does not
 
 none-stands : (b : Bool) (t : SpannedView) → None ≡ cond b (Some t) None → b ≡ false
 none-stands true t h = cc

@@ -105,7 +105,7 @@ bars-some n mode text opens h =
     let none : None ≡ Some (bars_found_at n (found_bars n mode text)) = h ∙ ap (λ b. option_map (bars_found_at n) (cond b (Some (found_bars n mode text)) None)) opens in
     cc
 
--- What takes no memory
+-- What does not allocate
 
 pub and-parts : (a b : Bool) → (a && b) ≡ true → (a ≡ true) × (b ≡ true)
 and-parts true b h = (refl, h)

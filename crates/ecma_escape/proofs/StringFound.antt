@@ -197,7 +197,7 @@ pub literal-raw : (old far : Cursor) (from to : ℕ) → far ≡ passed (length 
     → encode_utf8_all (slice_range far.text (index_of far from) (index_of far to)) ≡ encode_utf8_all (string_literal (rest old)).spelling
 literal-raw old far from to moved f t = text-passed old far _ from to moved f t ∙ ap encode_utf8_all (literal-take (rest old))
 
--- What takes no memory
+-- What does not allocate
 
 last-some : {A : Type 0} (xs : List A) (x : A) → xs ++ (x ∷ []) ≡ [] → ⊥
 last-some [] x h = cc

@@ -301,7 +301,7 @@ fn is_word(within: Use) -> bool
 
 /// Moves behind the escape at the cursor, and answers what it stands for.
 ///
-/// A backslash is at the cursor. No memory is taken.
+/// A backslash is at the cursor. Nothing is allocated.
 pub fn read_escape(input: &mut StringInput, within: Use) -> Meaning
     requires { opens_escape (rest input.old) ≡ true }
     ensures answer { let e = escapes.escape (use_of within) (rest input.old) in
@@ -384,7 +384,7 @@ pub(crate) fn refusal_error<'a>(
     Error::new(alloc, span, refusal_kind(refusal))
 }
 
-/// Adds what an escape stands for, which is written so. An escape that stands for nothing takes no memory.
+/// Adds what an escape stands for, which is written so. An escape that stands for nothing does not allocate.
 pub fn push_value(text: &mut String, answer: Meaning, spelling: &str) -> Result<(), AllocError>
     ensures text { OnOk result (string_bytes text.new ≡ string_bytes text.old ++ answer_value spelling.now answer) }
     ensures free { answer ≡ Nothing → IsOk result }
@@ -418,7 +418,7 @@ fn push_octal_fault<'a>(
 /// Moves behind the escape at the cursor. What it stands for is added to the text, and what is wrong with it to the
 /// faults; the error of one that is refused is answered.
 ///
-/// A backslash is at the cursor, in a string or a template. An escape that stands for nothing takes no memory.
+/// A backslash is at the cursor, in a string or a template. An escape that stands for nothing does not allocate.
 pub fn push_escape<'a>(
     alloc: Global,
     input: &mut StringInput<'a>,
@@ -481,7 +481,7 @@ fn use_in(in_template: bool) -> Use
 /// a string is a fault of strict code. A refused escape is read up to where reading goes on: `\x` without two
 /// hexadecimal digits and `\u` without four, or without one to 10FFFF in braces, up to behind the digits that are
 /// there, an octal escape in a template up to behind its first digit, a backslash that ends the text with nothing more.
-/// An escape that stands for nothing takes no memory.
+/// An escape that stands for nothing does not allocate.
 ///
 /// # Errors
 ///

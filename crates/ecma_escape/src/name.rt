@@ -166,7 +166,7 @@ fn escaped_name<'a>(
     Ok(Ok(text))
 }
 
-/// Moves behind the name at the cursor, and answers its text: a slice where it holds no escape, which takes no memory.
+/// Moves behind the name at the cursor, and answers its text: a slice where it holds no escape, which does not allocate.
 fn name_text<'a>(
     alloc: Global,
     input: &mut StringInput<'a>,
@@ -191,7 +191,7 @@ fn name_text<'a>(
 /// Reads the name at the cursor (ECMA-262 IdentifierName, 12.7): part characters and escapes of code points, as many
 /// as there are, which may be none.
 ///
-/// The text is the unescaped one; it borrows from the source where the name holds no escape, which takes no memory.
+/// The text is the unescaped one; it borrows from the source where the name holds no escape, which does not allocate.
 pub fn read_name<'a>(
     alloc: Global,
     input: &mut StringInput<'a>,

@@ -70,7 +70,7 @@ fn escaped_word<'a>(
     Ok(Ok(owned_word(text)))
 }
 
-/// The word of a name over this span. A name that borrows its text takes no memory.
+/// The word of a name over this span. A name that borrows its text does not allocate.
 fn word_of_name<'a>(
     alloc: Global,
     context: &Context,
@@ -129,7 +129,7 @@ fn eat_long_kind(input: &mut StringInput) -> Option<WordKind>
 /// Moves behind the word at the cursor, where it is written with no escape, and answers its kind: that of the row of the
 /// table of words for the part characters that are there, which are passed, and are all of the word.
 ///
-/// Where a backslash follows them there is no answer. No memory is taken. Our own, for speed.
+/// Where a backslash follows them there is no answer. Nothing is allocated. Our own, for speed.
 #[inline(always)]
 pub fn eat_plain_kind(input: &mut StringInput) -> Option<WordKind>
     ensures kind { IfSome result (λ k. k ≡ word_kind (word_of (encode_utf8_all (take_while is_ident_part (rest input.old))))) }
@@ -147,7 +147,7 @@ pub fn eat_plain_kind(input: &mut StringInput) -> Option<WordKind>
 /// Moves behind the word at the cursor, where it is written with no escape, and answers it: what [`scan_word`] finds, without
 /// its extent. It is the row of the table of words for the part characters that are there, which are passed.
 ///
-/// Where a backslash follows them there is no answer. No memory is taken. Our own, for speed.
+/// Where a backslash follows them there is no answer. Nothing is allocated. Our own, for speed.
 #[inline(always)]
 pub fn eat_plain_word<'a>(input: &mut StringInput<'a>) -> Option<Word<'a>>
     ensures word { IfSome result (λ w. (context : Context) →
@@ -195,7 +195,7 @@ fn word_at<'a>(
 /// text, which an other name borrows from the source where it holds no escape. A word that is written with an escape
 /// and is reserved in the context is refused (12.7.2). An escaped character that is not allowed in a name, or not first in it,
 /// is a fault over its escape, and stays (our own choice). A refused escape refuses all from the word's start up to
-/// where reading goes on. A word without an escape takes no memory.
+/// where reading goes on. A word without an escape does not allocate.
 ///
 /// # Errors
 ///

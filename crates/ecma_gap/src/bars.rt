@@ -63,7 +63,7 @@ fn read_bars<'a>(
 }
 
 /// Reads the marker of bars at the cursor, if seven bars and a space are there: with the line, and the white space, line
-/// and block comments behind it. Where there is none the cursor stays, and nothing takes memory.
+/// and block comments behind it. Where there is none the cursor stays, and nothing allocates.
 ///
 /// The caller has seen that no token came before, or that a line terminator comes before the bars. So each comment is for
 /// the token of the bars, but a block comment before a semicolon is not.

@@ -69,7 +69,7 @@ pub(crate) fn told_at(input: &StringInput, line_break: bool) -> Option<BlankGap>
 ///
 /// Such a gap is white space, and where comments are not collected, line comments and closed block comments. Where another
 /// element may come behind it, at the end, and before a character that isn't ASCII, there is no answer, and the cursor
-/// is somewhere ahead; where comments are collected, behind the white space. No memory is taken.
+/// is somewhere ahead; where comments are collected, behind the white space. Nothing is allocated.
 #[inline(always)]
 pub fn scan_blank_gap(input: &mut StringInput, first: bool, collect: bool) -> Option<BlankGap>
     ensures gap { IfSome result (IsTold first collect input.old input.new) }

@@ -69,7 +69,7 @@ fn read_elements<'a>(
 /// Reads what comes before the next token (ECMA-262 WhiteSpace, LineTerminator and Comment, 12.2 to 12.4, and the
 /// HTML-like comments of Annex B.1.1). Conflict markers, and which spans faults have, are our own choice.
 ///
-/// The cursor is then behind the gap. A gap without faults and collected comments takes no memory.
+/// The cursor is then behind the gap. A gap without faults and collected comments does not allocate.
 ///
 /// # Errors
 ///

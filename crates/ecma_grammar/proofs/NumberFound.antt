@@ -48,7 +48,7 @@ accepted-found start ts1085 rule number refusal token mid faults extent none t m
     let stays : token ≡ token_behind start (number_token number) = t ∙ sym (token_stays start number (is_big_number number)) in
     rw (none, s, all) (ap (λ (u : TokenView). seen (Ok u) (map (fault_behind start) (part_faults rule number ++ octal_faults ts1085 number)) (span_of start (start + byte_len (number_text number)))) stays)
 
--- a number that takes no memory is not refused
+-- a number that does not allocate is not refused
 pub free-number : (ts1085 : Bool) (rule : NumberRule) (number : Number) (refusal : Option ErrorView) → list_any is_separator (found_number ts1085 rule number refusal).spelling ≡ false
     → is_accepted (found_number ts1085 rule number refusal).value ≡ true → (found_number ts1085 rule number refusal).faults ≡ []
     → (list_any is_separator (number_text number) ≡ false) × (refusal ≡ None) × ((found_number ts1085 rule number None).faults ≡ [])

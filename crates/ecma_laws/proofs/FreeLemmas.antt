@@ -38,7 +38,7 @@ use Rattle.ecma_state.specs.Mode.{gap_mode, is_tpl_element}
 use Rattle.ecma_state.specs.Reading.{behind_gap, gap_in, is_free, is_free_again, is_free_behind, is_free_code, reading, reading_again, reading_behind, reading_code, reading_if, stands_shebang}
 use Rattle.ecma_state.specs.Run.{at_place, is_free_from, mode_of, reading_from}
 use Rattle.ecma_state.specs.State.{is_error}
-use Rattle.ecma_state.specs.TokenAt.{asks_for_none, is_borrowed, is_borrowed_name, is_empty, is_free_at, lookahead, placed, read_opened, token_at, token_found, token_of, ts1085, word_token, word_value}
+use Rattle.ecma_state.specs.TokenAt.{asks_for_none, is_borrowed, is_borrowed_name, is_empty, is_free_at, lookahead, read_opened, token_at, token_found, token_of, ts1085, word_token, word_value}
 use Rattle.ecma_state.specs.declared.mode.Mode.{Mode}
 use Rattle.ecma_state.specs.declared.lookahead.Lookahead.{Lookahead}
 use Rattle.ecma_state.specs.declared.lookahead.Lookahead.TheVariants as opens

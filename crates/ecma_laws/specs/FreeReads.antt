@@ -42,7 +42,7 @@ MeansItself (Some t) spelling = (is_error (kind_of t.token) ≡ false) × (list_
 
 -- Laws
 
--- A read takes no memory where it finds no fault and no comment that is collected, and a token that means what is written
+-- A read does not allocate where it finds no fault and no comment that is collected, and a token that means what is written
 -- of it, or the end.
 abbrev pub ReadsAreFree : Type 0
 ReadsAreFree =

@@ -91,7 +91,7 @@ pub fn comments_are_kept()
     ensures { CommentsAreKept }
 {}
 
-/// A read takes no memory, where fewer than 128 contexts are on the stack, that finds no fault and no comment that is collected, and a
+/// A read does not allocate, where fewer than 128 contexts are on the stack, that finds no fault and no comment that is collected, and a
 /// token that means what is written of it: no error, with no backslash in its spelling, a number with no `_`, a template's
 /// text with no CR.
 pub fn reads_are_free()

@@ -1,5 +1,5 @@
 -- What is written of the tokens of a text: a line each. The form of the lines is our own choice.
-use Rattle.std.specs.Prelude.{ℕ, Bool, true, false, List, [], ◌∷◌, ◌++◌, Option, option_map, map, flat_map, codes, decimal, slice_range, if◌then◌else◌, ◌==◌}
+use Rattle.std.specs.Prelude.{ℕ, Bool, true, false, List, [], ◌∷◌, ◌++◌, Option, option_map, map, flat_map, codes, decimal, slice_range}
 use Rattle.ecma_word.specs.declared.word.WordKind.{WordKind}
 use Rattle.ecma_word.specs.declared.word.WordKind.TheVariants as word
 use Rattle.ecma_token.specs.declared.kind.TokenKind.{TokenKind}

@@ -109,7 +109,7 @@ fn skip_piece(input: &mut StringInput) -> bool
 }
 
 /// Moves to the slash that closes the body at the cursor, or, where none does, to the end of the line, and answers
-/// whether one does. No memory is taken.
+/// whether one does. Nothing is allocated.
 fn skip_body(input: &mut StringInput) -> bool
     ensures closed { result ≡ next_is 47 (remainder expressions.body_cutter tt (rest input.old)) }
     ensures body { result ≡ true → input.new ≡ behind_all expressions.body_cutter input.old }
@@ -234,7 +234,7 @@ fn expression_at<'a>(
 /// A character that an escape of the flags names and that is not allowed there is a fault, `InvalidIdentChar` over the
 /// escape. That flags are checked no further, and the spans of errors, are our own choice.
 ///
-/// An expression that is not refused and has no escape in its flags takes no memory.
+/// An expression that is not refused and has no escape in its flags does not allocate.
 ///
 /// # Errors
 ///

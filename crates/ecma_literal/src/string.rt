@@ -107,7 +107,7 @@ fn escaped_text<'a>(
 }
 
 /// Moves behind the pieces of a string, whose quote is just before the cursor, and answers their value: a slice where
-/// they hold no escape, which takes no memory.
+/// they hold no escape, which does not allocate.
 fn string_value<'a>(
     alloc: Global,
     input: &mut StringInput<'a>,
@@ -189,7 +189,7 @@ fn string_token<'a>(
 /// The cursor is at a quote. The value borrows from the source where the string holds no escape, the raw text
 /// always does. CR, LF or the end of the text end a string that is not closed, which is a fault from its quote on (our
 /// own choice); U+2028 and U+2029 do not. Octal escapes are faults of strict code. A refused escape refuses all from
-/// the quote up to where reading goes on. A string without an escape and without a fault takes no memory.
+/// the quote up to where reading goes on. A string without an escape and without a fault does not allocate.
 ///
 /// # Errors
 ///
@@ -225,7 +225,7 @@ pub fn scan_string<'a>(
 /// escape: its token is what [`scan_string`] finds, with nothing else to report.
 ///
 /// The cursor is at a quote. Where the string holds an escape or is not closed there is no answer, and the cursor
-/// stays. No memory is taken: value and raw text borrow from the source. Our own, for speed.
+/// stays. Nothing is allocated: value and raw text borrow from the source. Our own, for speed.
 #[inline(always)]
 pub fn eat_plain_string<'a>(input: &mut StringInput<'a>) -> Option<Token<'a>>
     requires { strings.opens_string (rest input.old) ≡ true }

@@ -44,7 +44,7 @@ fn read_mark<'a>(input: &mut StringInput) -> Token<'a>
     Token::DollarLBrace
 }
 
-/// Reads the back quote or `${` at the cursor. No memory is taken.
+/// Reads the back quote or `${` at the cursor. Nothing is allocated.
 fn scan_mark<'a>(alloc: Global, input: &mut StringInput<'a>) -> Found<'a, Token<'a>>
     requires { ends_template (rest input.old) ≡ true }
     ensures found { found_view token_view result
@@ -106,7 +106,7 @@ fn scan_text<'a>(
 /// `UnterminatedTpl`, from `opened` to the end: our own choice. There are no faults. The flag says whether a line
 /// terminator is in the text outside an escape.
 ///
-/// Text without escape, CR and refusal takes no memory.
+/// Text without escape, CR and refusal does not allocate.
 ///
 /// # Errors
 ///

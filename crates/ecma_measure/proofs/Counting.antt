@@ -4,7 +4,7 @@ use Rattle.std.specs.Prelude.{is_some}
 use Rattle.std.specs.Str.{chars}
 use Rattle.std.proofs.lemmas.Str.{encodes-chars, length-le-encodes}
 use Rattle.std.proofs.lemmas.List.{length-append}
-use Rattle.ecma_place.specs.Text.{Text, byte_len}
+use Rattle.ecma_place.specs.Text.{byte_len}
 use Rattle.ecma_token.specs.View.{SpannedView}
 use Rattle.ecma_state.specs.Session.{LexerState, state_of}
 use Rattle.ecma_stream.specs.Ending.{most_tokens, tokens_of}

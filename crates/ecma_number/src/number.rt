@@ -82,7 +82,7 @@ fn found_number<'a>(
 /// with `0` and is longer; and, of a number that is not refused, `LegacyDecimal` over the run, or `TS1085`
 /// and `LegacyOctal` over the number. Which errors there are, and their spans, is our own choice.
 ///
-/// A number without separator, refusal and fault takes no memory.
+/// A number without separator, refusal and fault does not allocate.
 ///
 /// # Errors
 ///

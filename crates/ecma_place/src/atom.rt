@@ -52,7 +52,7 @@ impl<'a> Atom<'a> {
 
     /// The same text, borrowed or owned as this one is.
     ///
-    /// A borrowed text takes no memory.
+    /// A borrowed text does not allocate.
     ///
     /// # Errors
     ///

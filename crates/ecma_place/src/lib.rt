@@ -3,7 +3,7 @@
 //! A text is a list of characters, and a place in it is the place where the text starts plus an
 //! offset in bytes. [`StringInput`] is a cursor in a text, [`Atom`] a text that is a slice of the
 //! source or owned, [`CharExt`] has the classes of characters of ECMA-262, and [`Comments`] is
-//! what comments are handed to. Only a copy of an owned text takes memory.
+//! what comments are handed to. Only a copy of an owned text allocates.
 #![tactic(auto)]
 
 pub mod atom;

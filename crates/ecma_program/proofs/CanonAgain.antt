@@ -1,5 +1,5 @@
 -- The canonical text of a text is read by the same words, to the same tokens.
-use Rattle.std.proofs.Common.{◌≡◌, ◌∙◌, ℕ, zero, suc, ◌+◌, ◌-◌, ◌≤◌, ◌^◌, Bool, true, false, not, ◌&&◌, ◌||◌, List, [], ◌∷◌, ◌++◌, append_assoc, drop, length, take, Option, Some, None, Result, Ok, Err, map, refl, reverse, sym, subst, ap, arith}
+use Rattle.std.proofs.Common.{◌≡◌, ◌∙◌, ℕ, zero, suc, ◌+◌, ◌-◌, ◌≤◌, Bool, true, false, not, ◌&&◌, ◌||◌, List, [], ◌∷◌, ◌++◌, append_assoc, drop, length, take, Option, Some, None, Result, Ok, Err, map, refl, reverse, sym, subst, ap, arith}
 use Rattle.std.specs.Prelude.{encode_utf8_all, if◌then◌else◌, is_some, nat_lt, slice_range, IfOk, MatchResult}
 use Rattle.std.specs.List.{list_all}
 use Rattle.std.specs.Str.{IsUtf8, chars}
@@ -26,8 +26,8 @@ use Rattle.ecma_state.specs.Disposition.{Errors}
 use Rattle.ecma_state.specs.declared.kept.Kept.{Kept}
 use Rattle.ecma_state.specs.declared.settings.Settings.{Settings}
 use Rattle.ecma_state.specs.declared.step.Step.{Step}
-use Rattle.ecma_state.specs.declared.step.Step.TheVariants.{Read, Reread, SetCtx, Withdraw}
-use Rattle.ecma_stream.specs.Ending.{IsReadOut, behind_reads, enough, read_out, reads}
+use Rattle.ecma_state.specs.declared.step.Step.TheVariants.{Read, Reread, SetCtx}
+use Rattle.ecma_stream.specs.Ending.{behind_reads, enough, read_out, reads}
 use Rattle.ecma_stream.specs.Slashes.{slash_answered}
 use Rattle.ecma_stream.proofs.EndingLemmas.{reads_out}
 use Rattle.ecma_stream.proofs.SlashLemmas.{again-kind, expression-no-slash}
@@ -43,7 +43,7 @@ use Rattle.ecma_options.specs.declared.options.Options.{Options}
 use Rattle.ecma_stdio.specs.declared.fault.Fault.{Fault}
 use Rattle.ecma_stdio.specs.declared.fault.Fault.TheVariants.{NotClean, TooLong}
 use Rattle.ecma_lines.specs.Rereads.{Fails, behind_rereads, rereading, session_behind, unless_no_slash}
-use Rattle.ecma_program.specs.CanonText.{CanonIsRead, IsReadAgain, canon_at, canon_from, canon_text, canonical_bytes, owned, unless_too_long}
+use Rattle.ecma_program.specs.CanonText.{CanonIsRead, IsReadAgain, canon_from, canon_text, canonical_bytes, owned, unless_too_long}
 
 -- Sessions before a read
 

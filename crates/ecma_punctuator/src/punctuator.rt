@@ -416,7 +416,7 @@ fn eat_any(input: &mut StringInput, type_mode: bool) -> Option<PunctuatorKind>
 }
 
 /// Moves behind the punctuator at the cursor, if there is one, and answers it: what [`scan_punct`] finds, without its extent.
-/// No memory is taken. Our own, for speed.
+/// Nothing is allocated. Our own, for speed.
 #[inline(always)]
 pub fn eat_punctuator(input: &mut StringInput, type_mode: bool) -> Option<PunctuatorKind>
     ensures token { option_map kind_token result ≡ token_in (punctuator_in type_mode (rest input.old)) }
@@ -441,7 +441,7 @@ fn token_of<'a>(kind: Option<PunctuatorKind>) -> Option<Token<'a>>
 
 /// Reads the punctuator at the cursor (ECMA-262 Punctuator), the longest there is, or nothing.
 ///
-/// In type mode `<` and `>` are always single. None begins at a point before a digit. A punctuator takes no memory.
+/// In type mode `<` and `>` are always single. None begins at a point before a digit. A punctuator does not allocate.
 pub fn scan_punct<'a>(
     alloc: Global,
     input: &mut StringInput<'a>,

@@ -46,7 +46,7 @@ impl Model for KeptTree {
 }
 
 impl KeptTree {
-    /// No tokens, which takes no memory.
+    /// No tokens, which does not allocate.
     pub fn new(alloc: Global) -> KeptTree
         ensures { result ≡ [] }
     {
@@ -116,7 +116,7 @@ impl<'a> Model for Branch<'a> {
 }
 
 impl<'a> Branch<'a> {
-    /// A lexer that has taken no step yet, which takes no memory.
+    /// A lexer that has taken no step yet, which does not allocate.
     pub fn new(lexer: Lexer<'a>) -> Branch<'a>
         ensures { (s : Session) → lexer_state lexer.entry ≡ state_of s → s.past ≡ [] → IsAt [] s result }
     {

@@ -39,7 +39,7 @@ impl<'a> Model for Course<'a> {
 }
 
 impl<'a> Course<'a> {
-    /// Before any step, which takes no memory.
+    /// Before any step, which does not allocate.
     pub fn new(alloc: Global, settings: &Settings, input: StringInput<'a>) -> Course<'a>
         ensures { Stands (start_of settings.now input.entry) [] result }
     {

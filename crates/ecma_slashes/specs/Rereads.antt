@@ -99,7 +99,7 @@ pub record StepsOn (rule : SlashRule) (s : Session) (before steps : List Step) (
   pub told : more ≡ is_some (found_by rule s)
   pub after : l ≡ state_of (behind_by rule s)
 
--- a read finds nothing for which memory is taken, while few contexts stand
+-- a read finds nothing for which something is allocated, while few contexts stand
 abbrev pub is_free : Session → Bool
 is_free s = nat_lt (length s.contexts) 128 && is_free_read (state_of s)
 

@@ -43,7 +43,7 @@ pub fn read_by_flag<'a>(lexer: &mut Lexer<'a>) -> Result<Option<TokenAndSpan<'a>
     ensures refused { lexer.old.refused ≡ true → (result ≡ Err alloc_error) × (lexer.new ≡ lexer.old) }
     ensures refusal { OnErr result (lexer.new.refused ≡ true) }
     ensures given { OnErr result (IsGivenAs lexer.old lexer.new) }
-    // It takes no memory where neither of its reads does.
+    // It does not allocate where neither of its reads does.
     ensures free { (s : Session) → state_of s ≡ lexer_state lexer.old → lexer.old.refused ≡ false → are_free_by by_flag s ≡ true → IsOk result }
     // Nor does the end.
     ensures ended { lexer.old.refused ≡ false → rest lexer.old.input ≡ [] → IsOk result }

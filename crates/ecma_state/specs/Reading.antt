@@ -113,7 +113,7 @@ reading_if false mode input = reading_code mode input
 abbrev pub reading : Mode → Cursor → Reading
 reading mode input = reading_if (stands_shebang mode (rest input)) mode input
 
--- a read takes no memory where nothing is wrong in the gap, no comment is collected, and the token takes none
+-- a read does not allocate where nothing is wrong in the gap, no comment is collected, and the token allocates nothing
 abbrev pub is_free_behind : Mode → Bool → Text → Bool
 is_free_behind mode flag [] = true
 is_free_behind mode flag (c ∷ cs) = is_free_at mode flag (c ∷ cs)
@@ -124,7 +124,7 @@ is_free_code mode input =
     && (is_empty (gap_in mode (place input) (rest input)).comments
     && is_free_behind mode (has_line_break (gap_mode mode) (rest input)) (rest (behind_gap mode input)))
 
--- a shebang takes none
+-- a shebang allocates nothing
 abbrev pub is_free : Mode → Cursor → Bool
 is_free mode input = stands_shebang mode (rest input) || is_free_code mode input
 

@@ -46,7 +46,7 @@ reading_from (Some slash) l = reading_again l.state.seen.flag (at_place slash l.
 abbrev pub reading_of : LexerState → Reading
 reading_of l = reading_from l.reread l
 
--- the next read takes no memory where fewer than 128 contexts stand
+-- the next read does not allocate where fewer than 128 contexts stand
 abbrev pub is_free_from : Option BytePos → LexerState → Bool
 is_free_from None l = is_free (mode_of l) l.input
 is_free_from (Some slash) l = is_free_again (rest (at_place slash l.input))

@@ -132,7 +132,7 @@ abbrev pub is_empty : {A : Type 0} → List A → Bool
 is_empty [] = true
 is_empty (item ∷ items) = false
 
--- what is read takes no memory where nothing is wrong with it and it asks for none
+-- what is read does not allocate where nothing is wrong with it and it asks for none
 abbrev pub is_free_token : Lookahead → Text → Scanned TokenView → Bool
 is_free_token opened text s = is_ok s.value && (is_empty s.faults && asks_for_none opened text s)
 

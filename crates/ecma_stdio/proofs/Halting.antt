@@ -20,7 +20,7 @@ halts_reading (Ok made) halt Made reply given why = absurd given
 halts_reading (Err other) halt Made reply given (inl failed) = subst (Halts reply) (sym (given ∙ failed)) tt
 halts_reading (Err other) halt Made reply given (inr refused) = subst (Halts reply) (sym (given ∙ refused)) (inr refl)
 
--- so does want of memory
+-- so does a refused allocation
 pub halts_refused : {A : Type 0} (result : Result A Halt) (Made : A → Type 0) (reply : Result (List ℕ) Fault)
     → IsErrAnd result (λ given. given ≡ FaultHalt OutOfMemory) → MatchResult result Made (Halts reply)
 halts_refused (Ok made) Made reply given = absurd given

@@ -13,7 +13,7 @@ Sends status text old new result =
     ((result ≡ status) × Appends old new text)
     ⊎ ((result ≡ 1) × ((count : ℕ) × (count < length text) × Appends old new (take count text)))
 
--- the reply was sent, or want of memory was, or the input could not be read and nothing went out
+-- the reply was sent, or an allocation was refused, or the input could not be read and nothing went out
 abbrev pub Answers : Result (List ℕ) Fault → Option (List ℕ) → Option (List ℕ) → ℕ → Type 0
 Answers reply old new result =
     Sends (reply_status reply) (reply_text reply) old new result

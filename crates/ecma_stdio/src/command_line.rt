@@ -7,7 +7,7 @@ use std::env::Env;
 use std::process::ExitCode;
 use std::{env, io};
 
-/// The status where the arguments can't be had: that of want of memory, the usual reason.
+/// The status where the arguments can't be had: that of a refused allocation, the usual reason.
 const NO_WORDS: u8 = 5;
 
 /// The arguments that the program was started with, its name first.

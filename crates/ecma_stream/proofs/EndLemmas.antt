@@ -175,7 +175,7 @@ pub reading-end : (mode : Mode) (input : Cursor) → rest input ≡ [] → readi
 reading-end mode input e =
     ap (λ b. reading_if b mode input) (ap (stands_shebang mode) e ∙ no-shebang mode.shebang_allowed) ∙ code-end mode input e
 
--- such a read takes no memory
+-- such a read does not allocate
 pub end-free : (mode : Mode) (input : Cursor) → rest input ≡ [] → is_free mode input ≡ true
 end-free mode input e =
     ap (λ b. b || is_free_code mode input) (ap (stands_shebang mode) e ∙ no-shebang mode.shebang_allowed)

@@ -33,7 +33,7 @@ act-end s plain e =
     ap (λ r. (acted_on s r).after) (plain-reading (state_of s) plain ∙ reading-end (mode_of (state_of s)) s.input e)
     ∙ ap (λ comments. record s { comments = comments; past = AtEnd (end_flag s) ∷ s.past }) (append-nil s.comments)
 
--- a read where nothing is left finds nothing, and takes no memory
+-- a read where nothing is left finds nothing, and does not allocate
 
 pub end_found : (l : LexerState) → l.reread ≡ None → rest l.input ≡ [] → (reading_of l).found ≡ None
 end_found l plain e = ap (λ r. r.found) (plain-reading l plain ∙ reading-end (mode_of l) l.input e)

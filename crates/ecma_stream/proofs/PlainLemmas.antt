@@ -83,7 +83,7 @@ ok-some (Ok (Some x)) P Q S p q f = f x p q
 ok-some (Ok None) P Q S p q f = tt
 ok-some (Err e) P Q S p q f = tt
 
--- a token that takes no memory, where it is known what opens it
+-- a token that does not allocate, where it is known what opens it
 pub free-opened : (mode : Mode) (flag : Bool) (text : Text) (o : Lookahead) → lookahead mode flag text ≡ o → is_free_at mode flag text ≡ true → is_free_token o text (read_opened o mode text) ≡ true
 free-opened mode flag text o is h = ap (λ x. is_free_token x text (read_opened x mode text)) (sym is) ∙ h
 
@@ -188,7 +188,7 @@ past-begins flag (d ∷ ds) c e past =
     none true = refl
     none false = refl
 
--- a read behind it takes no memory where its token takes none
+-- a read behind it does not allocate where its token does not
 pub free-plain : (mode : Mode) (old now : Cursor) (gap : BlankGap) → StandsPlain mode old now gap → is_free mode old ≡ true → is_free_at mode gap.line_break (rest now) ≡ true
 free-plain mode old now gap stands h =
     let code : is_free_code mode old ≡ true = ap (λ b. (b && opens_shebang (rest old)) || is_free_code mode old) (sym stands.given) ∙ h in
@@ -294,7 +294,7 @@ eaten-text mode input now c after flag token t low high is same first found view
     let moved = subst (λ (b : Bool). now ≡ passed (length (template_text b (rest input)).spelling) input) same eaten.1 in
     text-read mode input now c t is.0 is.1 is.2 first (rw (view, from, to) spelled) moved
 
--- such a read takes no memory where the text takes none
+-- such a read does not allocate where the text allocates nothing
 pub free-text : (mode : Mode) (input : Cursor) (c : ℕ) → mode.shebang_allowed ≡ false → mode.first ≡ false → is_template mode.top ≡ true → slice_get (rest input) 0 ≡ Some c
     → is_free mode input ≡ true → is_free_token opens.Template (rest input) (template_text (is_tpl_element mode.previous) (rest input)) ≡ true
 free-text mode input c none new template first h =

@@ -512,7 +512,7 @@ asked-lexer a b l start shows may is input reread state pending =
     told true p e = cc
     told false p e = e
 
--- what takes no memory is not faulty, and holds no comment
+-- what does not allocate is not faulty, and holds no comment
 
 pub free_read_faults : (l : LexerState) → is_free_read l ≡ true → (reading_of l).faults ≡ []
 free_read_faults l h = go l.reread h

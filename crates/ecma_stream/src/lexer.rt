@@ -69,7 +69,7 @@ impl<'a> Model for Lexer<'a> {
 }
 
 impl<'a> Lexer<'a> {
-    /// A lexer of the rest of `input`, which reads numbers by the crate's rule, and takes no memory.
+    /// A lexer of the rest of `input`, which reads numbers by the crate's rule, and does not allocate.
     ///
     /// The place of `input` is the lexer's start place. `comments` says whether comments are collected.
     pub fn new(
@@ -84,7 +84,7 @@ impl<'a> Lexer<'a> {
         Lexer::with_rule(alloc, syntax, target, input, comments, NumberRule::Crate)
     }
 
-    /// A lexer of the rest of `input` by these settings, which takes no memory. Our own.
+    /// A lexer of the rest of `input` by these settings, which does not allocate. Our own.
     ///
     /// The place of `input` is the lexer's start place.
     pub fn with_settings(alloc: Global, settings: &Settings, input: StringInput<'a>) -> Lexer<'a>
@@ -104,7 +104,7 @@ impl<'a> Lexer<'a> {
         }
     }
 
-    /// A lexer of the rest of `input`, which reads numbers by this rule, and takes no memory.
+    /// A lexer of the rest of `input`, which reads numbers by this rule, and does not allocate.
     ///
     /// The place of `input` is the lexer's start place. `comments` says whether comments are collected.
     pub fn with_rule(
@@ -390,7 +390,7 @@ impl<'a> Lexer<'a> {
     /// The next token, or nothing at the end.
     ///
     /// What else is wrong is recorded, waits or is dropped, as the context says; the comments before it are attached,
-    /// where they are collected. A read takes no memory where nothing is wrong, no comment is collected, the token's
+    /// where they are collected. A read does not allocate where nothing is wrong, no comment is collected, the token's
     /// value is its spelling, and fewer than 128 contexts are on the stack.
     ///
     /// # Errors
@@ -413,7 +413,7 @@ impl<'a> Lexer<'a> {
         ensures given { OnErr result (IsGivenAs self.old self.new) }
         ensures free { self.old.refused ≡ false → length self.old.state.contexts < 128
             → is_free_read (lexer_state self.old) ≡ true → IsOk result }
-        // The end takes no memory, where no slash is read again.
+        // The end does not allocate, where no slash is read again.
         ensures ended { self.old.refused ≡ false → self.old.reread ≡ None → rest self.old.input ≡ [] → IsOk result }
     {
         if self.refused {

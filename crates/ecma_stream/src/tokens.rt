@@ -25,7 +25,7 @@ pub trait Tokens<'a> {
     /// Sets the flags of the code that is being read.
     ///
     /// Where they say that it is a module, the errors that waited are recorded behind those that were, in order;
-    /// else, and where none waited, this takes no memory.
+    /// else, and where none waited, this does not allocate.
     ///
     /// # Errors
     ///
@@ -98,7 +98,7 @@ pub trait Tokens<'a> {
         ensures err { OnErr result (state self.new ≡ state self.old) }
         ensures back { IfErr result (λ e. e ≡ error.entry) };
 
-    /// The errors that were recorded, in order. None is recorded then; it takes no memory.
+    /// The errors that were recorded, in order. None is recorded then; it does not allocate.
     fn take_errors(&mut self) -> ErrorList<'a>
         ensures errors { map error_view result ≡ (state self.old).errors.recorded }
         ensures after { state self.new ≡ state_without_errors (state self.old) };

@@ -147,7 +147,7 @@ fn at_span<'a>(inner: Box<SyntaxError<'a>>, span: Span) -> Error<'a>
 }
 
 impl<'a> Error<'a> {
-    /// The error of this kind over `span`. It takes memory for the kind.
+    /// The error of this kind over `span`. It allocates for the kind.
     pub fn new(alloc: Global, span: Span, kind: SyntaxError<'a>) -> Result<Error<'a>, AllocError>
         ensures { IfOk result (λ e. IsErrorAt e kind.entry span) }
     {
@@ -172,7 +172,7 @@ impl<'a> Error<'a> {
         Box::into_inner(inner)
     }
 
-    /// The same error at the same place. It takes memory for the kind; want of it changes nothing.
+    /// The same error at the same place. It allocates for the kind; a refused allocation changes nothing.
     #[cycle(copy)]
     pub fn copy(&self, alloc: Global) -> Result<Error<'a>, AllocError>
         ensures { IfOk result (λ e. error_view e ≡ error_view self.now) }
@@ -195,8 +195,8 @@ impl<'a> Spanned for Error<'a> {
 }
 
 impl<'a> SyntaxError<'a> {
-    /// The same, with its texts borrowed or owned as here. Memory is taken for owned texts, lists, tokens and errors
-    /// alone; want of it changes nothing.
+    /// The same, with its texts borrowed or owned as here. Only owned texts, lists, tokens and errors
+    /// allocate; a refused allocation changes nothing.
     #[cycle(copy)]
     pub fn copy(&self, alloc: Global) -> Result<SyntaxError<'a>, AllocError>
         ensures same { IfOk result (λ kind. kind_view kind ≡ kind_view self.now) }

@@ -32,7 +32,7 @@ impl Radix {
 
 impl<'a> SyntaxError<'a> {
     /// What is wrong, in words, as `Display` writes it. A message that holds nothing that the error holds is borrowed
-    /// and takes no memory; any other is made, which can be refused.
+    /// and does not allocate; any other is made, which can be refused.
     #[tactic(auto, using(crate::proofs::MessageLemmas::message_of_view))]
     pub fn msg(&self, alloc: Global) -> Result<CowStr<'static>, AllocError>
         ensures text { IfOk result (λ text. cow_str_bytes text ≡ message self.now) }

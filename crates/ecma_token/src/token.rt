@@ -162,8 +162,8 @@ impl<'a> Token<'a> {
         }
     }
 
-    /// The same token, with its texts borrowed or owned as here. Memory is taken for owned texts and for errors alone;
-    /// want of it changes nothing.
+    /// The same token, with its texts borrowed or owned as here. Only owned texts and errors allocate;
+    /// a refused allocation changes nothing.
     #[cycle(copy)]
     pub fn copy(&self, alloc: Global) -> Result<Token<'a>, AllocError>
         ensures same { IfOk result (λ token. token_view token ≡ token_view self.now) }
@@ -362,7 +362,7 @@ pub struct TokenAndSpan<'a> {
 }
 
 impl<'a> TokenAndSpan<'a> {
-    /// The same token at the same place; memory is taken as by `Token::copy`, and want of it changes nothing.
+    /// The same token at the same place. It allocates as `Token::copy` does; a refused allocation changes nothing.
     pub fn copy(&self, alloc: Global) -> Result<TokenAndSpan<'a>, AllocError>
         ensures same { IfOk result (λ t. spanned_view t ≡ spanned_view self.now) }
         ensures free { IsTrue (owns_nothing (spanned_view self.now).token) → IsOk result }

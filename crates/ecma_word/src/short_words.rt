@@ -369,7 +369,7 @@ pub fn kind_in(chunk: &[u8; 16], length: u32) -> WordKind
     WordKind::Ident(IdentKind::Other)
 }
 
-/// What the word with this text is. It takes no memory, and compares with one row at most.
+/// What the word with this text is. It does not allocate, and compares with one row at most.
 pub(crate) fn kind_of(text: &str) -> WordKind
     ensures { result ≡ word_kind (word_of text.now) }
 {

@@ -59,7 +59,7 @@ impl WordKind {
     }
 }
 
-/// The name with this text; a text of no known name is borrowed. It takes no memory.
+/// The name with this text; a text of no known name is borrowed. It does not allocate.
 impl<'a> From<&'a str> for IdentLike<'a> {
     ghost from_gives = { λ text ident. ident ≡ ident_of text.now };
 
@@ -92,7 +92,7 @@ impl<'a> IdentLike<'a> {
         }
     }
 
-    /// The same name; memory is taken for an owned text alone.
+    /// The same name; only an owned text allocates.
     pub fn copy(&self, alloc: Global) -> Result<IdentLike<'a>, AllocError>
         ensures same { IfOk result (λ ident. ident ≡ self.now) }
         ensures free { IsTrue (ident_owns_nothing self.now) → IsOk result }
@@ -105,21 +105,21 @@ impl<'a> IdentLike<'a> {
 }
 
 impl<'a> Word<'a> {
-    /// The word with this text: a row of the table of words, else a name that borrows the text. It takes no memory.
+    /// The word with this text: a row of the table of words, else a name that borrows the text. It does not allocate.
     pub fn from_str(text: &'a str) -> Word<'a>
         ensures { result ≡ word_of text.now }
     {
         Word::of_kind(short_words::kind_of(text), text)
     }
 
-    /// What the word with this text is. It takes no memory.
+    /// What the word with this text is. It does not allocate.
     pub fn kind_of(text: &str) -> WordKind
         ensures { result ≡ word_kind (word_of text.now) }
     {
         short_words::kind_of(text)
     }
 
-    /// The word of this kind; an other name borrows the text. It takes no memory.
+    /// The word of this kind; an other name borrows the text. It does not allocate.
     #[inline(always)]
     pub fn of_kind(kind: WordKind, text: &'a str) -> Word<'a>
         ensures { result ≡ word_of_kind kind text.now }
@@ -160,7 +160,7 @@ impl<'a> Word<'a> {
         }
     }
 
-    /// The same word; memory is taken for an owned text alone.
+    /// The same word; only an owned text allocates.
     pub fn copy(&self, alloc: Global) -> Result<Word<'a>, AllocError>
         ensures same { IfOk result (λ word. word ≡ self.now) }
         ensures free { IsTrue (word_owns_nothing self.now) → IsOk result }

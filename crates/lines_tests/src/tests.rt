@@ -87,7 +87,7 @@ enum WhenFull {
 
 const PAGE: usize = 64;
 
-/// A writer that takes no memory, `most` bytes at a call and `room` in all.
+/// A writer that does not allocate, `most` bytes at a call and `room` in all.
 #[derive(Drop)]
 struct Page {
     bytes: [u8; PAGE],

@@ -1,4 +1,4 @@
-//! The other calls of the lexer that take memory, played: what a parser has it keep, lists of steps, and pieces.
+//! The other calls of the lexer that allocate, played: what a parser has it keep, lists of steps, and pieces.
 #![tactic(auto)]
 
 pub mod cover;

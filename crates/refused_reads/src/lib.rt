@@ -1,4 +1,4 @@
-//! The ways in which a token is asked for, played over texts of which something takes memory, a line for each answer.
+//! The ways in which a token is asked for, played over texts of which something allocates, a line for each answer.
 #![tactic(auto)]
 
 pub mod asked;

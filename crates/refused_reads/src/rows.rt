@@ -6,7 +6,7 @@ use ecma_syntax::{Context, EsVersion, NumberRule, Syntax};
 use std::alloc::{AllocError, Global};
 use std::io;
 
-/// Texts of which something takes memory: numbers, names, strings, templates and regular expressions whose text is not
+/// Texts of which something allocates: numbers, names, strings, templates and regular expressions whose text is not
 /// their spelling, errors that are recorded, wait or stand in a token's place, and comments.
 pub const TEXTS: &[&str] = &[
     "1__2",
@@ -54,7 +54,7 @@ pub fn module() -> Context {
     }
 }
 
-/// A lexer of the text, which takes no memory.
+/// A lexer of the text, which does not allocate.
 pub fn opened<'a>(alloc: Global, text: &'a str) -> io::Result<Lexer<'a>> {
     if !StringInput::fits(text, START) {
         return Err(io::Error::from(io::ErrorKind::InvalidInput));

@@ -51,7 +51,7 @@ pub fn tell_comments(rt: &impl Print, comments: &[BufferedComment]) -> io::Resul
     Ok(())
 }
 
-/// Writes messages that quote something, which takes memory.
+/// Writes messages that quote something, which allocates.
 pub fn play(rt: &impl Print, alloc: Global) -> io::Result<()> {
     let errors = [
         SyntaxError::UnexpectedChar { c: '\0' },

@@ -31,7 +31,7 @@ impl Model for KeptTokens {
 }
 
 impl KeptTokens {
-    /// No tokens, which takes no memory.
+    /// No tokens, which does not allocate.
     fn new(alloc: Global) -> KeptTokens
         ensures { result ≡ [] }
     {
@@ -89,7 +89,7 @@ impl<'a> Model for Player<'a> {
 }
 
 impl<'a> Player<'a> {
-    /// A lexer that has taken no step yet, which takes no memory.
+    /// A lexer that has taken no step yet, which does not allocate.
     pub fn new(alloc: Global, lexer: Lexer<'a>) -> Player<'a>
         ensures { (s : Session) → lexer_state lexer.entry ≡ state_of s → s.past ≡ [] → IsAt s result }
     {

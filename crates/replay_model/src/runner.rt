@@ -39,7 +39,7 @@ impl<'a> Model for Runner<'a> {
 }
 
 impl<'a> Runner<'a> {
-    /// Before any step, which takes no memory.
+    /// Before any step, which does not allocate.
     fn new(alloc: Global, settings: &Settings, input: StringInput<'a>) -> Runner<'a>
         ensures { Follows (start_of settings.now input.entry) [] result }
     {

@@ -46,7 +46,7 @@ fn newer(
     }
 }
 
-/// Moves over template text, up to a back quote, `${` or the end, and says what is in it. No memory is taken.
+/// Moves over template text, up to a back quote, `${` or the end, and says what is in it. Nothing is allocated.
 pub(super) fn survey_text(input: &mut StringInput) -> Survey
     ensures verbatim { result.is_verbatim ≡ list_all templates.is_verbatim (pieces templates.template_cutter tt (rest input.old)) }
     ensures line_break { result.line_break ≡ list_any templates.is_break (pieces templates.template_cutter tt (rest input.old)) }

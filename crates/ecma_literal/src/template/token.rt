@@ -15,7 +15,7 @@ use ecma_place::{Atom, StringInput};
 use ecma_token::{Error, Token};
 use std::alloc::{AllocError, Global};
 
-/// What the template text at the cursor means, of which this is written. It borrows and takes no memory where it means
+/// What the template text at the cursor means, of which this is written. It borrows and does not allocate where it means
 /// what is written.
 fn cooked_atom<'a>(
     alloc: Global,

@@ -37,7 +37,7 @@ fn without_separators(alloc: Global, text: &str) -> Result<String, AllocError>
     Ok(digits)
 }
 
-/// The ASCII text without its separators, which borrows where there is none, and then takes no memory.
+/// The ASCII text without its separators, which borrows where there is none, and then does not allocate.
 pub(super) fn digits_atom<'a>(alloc: Global, text: &'a str) -> Result<Atom<'a>, AllocError>
     requires ascii { encode_utf8_all text.now ≡ text.now }
     ensures value { IfOk result (λ a. a ≡ numbers.digits_atom text.now) }

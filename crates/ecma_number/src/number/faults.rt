@@ -93,7 +93,7 @@ fn push_separators<'a>(
     Ok(())
 }
 
-/// Adds what is wrong with a run that starts at the place, which may hold separators or not. A run without a separator takes no memory.
+/// Adds what is wrong with a run that starts at the place, which may hold separators or not. A run without a separator does not allocate.
 pub(super) fn push_run_faults<'a>(
     alloc: Global,
     faults: &mut Vec<(Blame, Error<'a>)>,
@@ -124,7 +124,7 @@ fn may_hold_separators(run: &str, rule: NumberRule) -> bool
     }
 }
 
-/// Adds what is wrong with a decimal run that begins a number at the place. A run without a separator takes no memory.
+/// Adds what is wrong with a decimal run that begins a number at the place. A run without a separator does not allocate.
 fn push_first_run_faults<'a>(
     alloc: Global,
     faults: &mut Vec<(Blame, Error<'a>)>,
@@ -256,7 +256,7 @@ fn push_decimal_faults<'a>(
 }
 
 /// Adds what is wrong with the parts of a number that starts at the place. Where they hold no separator and nothing is
-/// wrong, no memory is taken.
+/// wrong, nothing is allocated.
 pub(super) fn push_part_faults<'a>(
     alloc: Global,
     faults: &mut Vec<(Blame, Error<'a>)>,

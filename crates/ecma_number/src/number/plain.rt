@@ -126,7 +126,7 @@ fn plain_extent(bytes: &[u8]) -> Option<(usize, Option<u128>)>
 /// Each such number with at most 18 digits before its point is answered. Of any other, and of one that ends the text,
 /// there is no answer, and the cursor is where it was.
 ///
-/// The cursor is at a digit, or at a point and a digit. No memory is taken.
+/// The cursor is at a digit, or at a point and a digit. Nothing is allocated.
 #[inline(always)]
 pub fn eat_plain_number<'a>(input: &mut StringInput<'a>) -> Option<Token<'a>>
     requires { numbers.opens_number (rest input.old) ≡ true }

@@ -145,7 +145,7 @@ fn next_refusal<'a>(
 }
 
 /// Why a number that starts at the place is refused, if it is: by its parts, else by the character behind it, where the
-/// cursor is. A number that is not refused takes no memory.
+/// cursor is. A number that is not refused does not allocate.
 pub(super) fn refusal<'a>(
     alloc: Global,
     number: WrittenNumber,

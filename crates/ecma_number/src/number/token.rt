@@ -80,7 +80,7 @@ fn whole_value(number: &WrittenNumber, digits: &str) -> Option<u128>
     }
 }
 
-/// The token of a number that is not refused, by its parts and its text. Without a separator it takes no memory.
+/// The token of a number that is not refused, by its parts and its text. Without a separator it does not allocate.
 pub(super) fn number_token<'a>(
     alloc: Global,
     number: WrittenNumber<'a>,

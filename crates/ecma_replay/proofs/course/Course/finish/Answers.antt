@@ -1,4 +1,4 @@
-use Rattle.std.proofs.Common.{◌∙◌, ap, map, refl, reverse, subst, sym}
+use Rattle.std.proofs.Common.{◌∙◌, ap, refl, reverse, subst, sym}
 use Rattle.std.proofs.lemmas.List.{reverse-reverse}
 use Rattle.ecma_state.specs.Counting.{counting}
 use Rattle.ecma_state.specs.Run.{act_all}
