@@ -7,14 +7,16 @@
 mod faces;
 mod numbers;
 
-use refused_calls::{cover, kept, whole};
-use refused_reads::{reading, told};
+use refused_calls::{cover, kept, shared, whole};
+use refused_reads::{many, reading, told};
 use std::io;
 
 fn main(rt: HostRuntime) -> io::Result<()> {
     let alloc = rt.alloc();
     reading::play(&rt, alloc)?;
+    many::play(&rt, alloc)?;
     kept::play(&rt, alloc)?;
+    shared::play(&rt, alloc)?;
     whole::play(&rt, alloc)?;
     cover::play(&rt, alloc)?;
     faces::play(&rt, alloc)?;

@@ -1,6 +1,8 @@
 //! What a parser has a lexer keep, buffers of comments, and contexts.
 use ecma_place::{Atom, BytePos, Comment, CommentKind, Span, Spanned};
-use ecma_state::{BufferedComment, BufferedCommentKind, CommentsBuffer, TokenContext};
+use ecma_state::{
+    BufferedComment, BufferedCommentKind, CommentsBuffer, TokenContext, TokenContexts,
+};
 use ecma_stream::{Lexer, Tokens};
 use ecma_token::{Error, SyntaxError};
 use refused_reads::rows::{contexts, module, opened};
@@ -11,8 +13,11 @@ use std::io;
 /// So many are added that a list grows more than once.
 const TIMES: u32 = 6;
 
+/// So many contexts are added that the list of those that are not held in place grows twice.
+const MORE: usize = 20;
+
 /// The place of one of them.
-fn span(number: u32) -> Span {
+pub(crate) fn span(number: u32) -> Span {
     Span {
         lo: BytePos(number),
         hi: BytePos(number),
@@ -147,7 +152,7 @@ impl Pushed {
 }
 
 /// Whether these are the comments of so many numbers, in order.
-fn are_first_comments(comments: &[BufferedComment], count: u32) -> bool {
+pub(crate) fn are_first_comments(comments: &[BufferedComment], count: u32) -> bool {
     let in_order = comments
         .iter()
         .zip(0..count)
@@ -191,15 +196,23 @@ fn play_comments(rt: &impl Print, alloc: Global, pushed: Pushed) -> io::Result<(
     tell_comments(rt, &buffer.take_pending_leading())
 }
 
-/// Adds a context to as many as take no memory.
+/// Adds a context, and, where that is refused, again.
+fn push_context(rt: &impl Print, contexts: &mut TokenContexts) -> io::Result<()> {
+    let (before, current) = (contexts.len(), contexts.current());
+    if contexts.push(TokenContext::Tpl).is_err() {
+        let same = contexts.len() == before && contexts.current() == current;
+        println!(rt; "refused push of a context: same contexts {same}")?;
+        contexts.push(TokenContext::Tpl)?;
+    }
+    Ok(())
+}
+
+/// Adds contexts to as many as do not allocate.
 fn play_contexts(rt: &impl Print, alloc: Global) -> io::Result<()> {
     println!(rt; "push of a context")?;
     let mut contexts = contexts(alloc)?;
-    let before = contexts.len();
-    if contexts.push(TokenContext::Tpl).is_err() {
-        let same = contexts.len() == before && contexts.current() == Some(TokenContext::ParenExpr);
-        println!(rt; "refused push of a context: same contexts {same}")?;
-        contexts.push(TokenContext::Tpl)?;
+    for _ in 0..MORE {
+        push_context(rt, &mut contexts)?;
     }
     println!(rt;
         "contexts {}, the last {:?}",

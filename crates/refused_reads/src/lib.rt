@@ -2,6 +2,7 @@
 #![tactic(auto)]
 
 pub mod asked;
+pub mod many;
 pub mod reading;
 pub mod rows;
 pub mod told;

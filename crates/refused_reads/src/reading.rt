@@ -1,6 +1,6 @@
 //! Texts read to their end, and each slash again, with a copy of the lexer made before each read.
 use crate::asked::Way;
-use crate::rows::{DEEP, TEXTS, contexts, opened};
+use crate::rows::{DEEPER, TEXTS, contexts, opened};
 use crate::told::{take_told, tell_comments, tell_errors};
 use ecma_stream::{CommentList, Lexer, Tokens, hand_comments};
 use std::alloc::Global;
@@ -91,7 +91,12 @@ pub fn handed<'a>(
 }
 
 /// Reads to the end, and writes all that was answered, and what stands behind the tokens.
-fn read_out(rt: &impl Print, alloc: Global, way: Way, lexer: &mut Lexer) -> io::Result<()> {
+pub(crate) fn read_out(
+    rt: &impl Print,
+    alloc: Global,
+    way: Way,
+    lexer: &mut Lexer,
+) -> io::Result<()> {
     for _ in 0..READS {
         if !step(rt, alloc, way, lexer)? {
             break;
@@ -108,8 +113,8 @@ fn play_texts(rt: &impl Print, alloc: Global, way: Way) -> io::Result<()> {
         println!(rt; "{} {text:?}", way.name())?;
         read_out(rt, alloc, way, &mut opened(alloc, text)?)?;
     }
-    println!(rt; "{} {DEEP:?}, deep", way.name())?;
-    let mut lexer = opened(alloc, DEEP)?;
+    println!(rt; "{} {DEEPER:?}, deep", way.name())?;
+    let mut lexer = opened(alloc, DEEPER)?;
     lexer.set_token_context(contexts(alloc)?);
     read_out(rt, alloc, way, &mut lexer)
 }

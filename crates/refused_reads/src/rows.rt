@@ -30,10 +30,13 @@ pub const TEXTS: &[&str] = &[
 /// Opens two contexts more.
 pub const DEEP: &str = "((1__2)";
 
+/// Opens twenty contexts more, for which the list of those that are not held in place grows twice.
+pub const DEEPER: &str = "((((((((((((((((((((1__2)";
+
 /// Where each text starts.
 pub const START: BytePos = BytePos(0);
 
-/// So many contexts take no memory.
+/// So many contexts do not allocate.
 const FREE: usize = 128;
 
 /// By which the texts are read.
@@ -69,7 +72,7 @@ pub fn opened<'a>(alloc: Global, text: &'a str) -> io::Result<Lexer<'a>> {
     ))
 }
 
-/// As many contexts as take no memory.
+/// As many contexts as do not allocate.
 pub fn contexts(alloc: Global) -> Result<TokenContexts, AllocError> {
     let mut contexts = TokenContexts::new(alloc);
     for _ in 0..FREE {
