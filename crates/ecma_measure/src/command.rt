@@ -25,6 +25,15 @@ pub enum Answers {
     Kept,
 }
 
+/// Which slashes are read again as regular expressions.
+#[derive(Debug, Drop)]
+pub enum Rereads {
+    /// Those before which the lexer's own flag allows an expression.
+    ByFlag,
+    /// Those of the tokens with these numbers, which ascend.
+    Behind(Vec<u64>),
+}
+
 /// What is measured.
 #[derive(Debug, Drop)]
 pub struct Measure {
@@ -33,39 +42,52 @@ pub struct Measure {
     /// Whether it is read as TypeScript.
     pub typescript: bool,
     pub answers: Answers,
-    /// Behind which tokens the last one is read again as a regular expression.
-    pub rereads: Vec<u64>,
+    /// Whether comments are collected.
+    pub comments: bool,
+    pub rereads: Rereads,
+}
+
+/// Whether the first word is this one, and the words behind it; else all of them.
+fn behind<'w>(words: &'w [String], name: &str) -> (bool, &'w [String]) {
+    match words {
+        [first, more @ ..] if first.as_str() == name => (true, more),
+        _ => (false, words),
+    }
 }
 
 impl Measure {
     /// What the words ask to be measured.
     pub fn from_words(alloc: Global, words: &[String]) -> Result<Measure, Fault> {
-        let [time, times, behind @ ..] = words else {
+        let [time, times, more @ ..] = words else {
             return Err(Fault::BadWords);
         };
         if time.as_str() != "time" {
             return Err(Fault::BadWords);
         }
         let times = number(times.as_str()).ok_or(Fault::BadWords)?;
-        let (typescript, behind) = match behind {
-            [ts, behind @ ..] if ts.as_str() == "ts" => (true, behind),
-            _ => (false, behind),
-        };
-        let (answers, behind) = match behind {
-            [kept, behind @ ..] if kept.as_str() == "kept" => (Answers::Kept, behind),
-            _ => (Answers::Unseen, behind),
-        };
+        let (typescript, more) = behind(more, "ts");
+        let (kept, more) = behind(more, "kept");
+        let (comments, more) = behind(more, "comments");
         Ok(Measure {
             times,
             typescript,
-            answers,
-            rereads: rereads(alloc, behind)?,
+            answers: if kept { Answers::Kept } else { Answers::Unseen },
+            comments,
+            rereads: slashes(alloc, more)?,
         })
     }
 }
 
+/// Those of the word `flag`, or of words `reread K`.
+fn slashes(alloc: Global, words: &[String]) -> Result<Rereads, Fault> {
+    match words {
+        [flag] if flag.as_str() == "flag" => Ok(Rereads::ByFlag),
+        _ => Ok(Rereads::Behind(numbers(alloc, words)?)),
+    }
+}
+
 /// The numbers of words `reread K`, which ascend.
-fn rereads(alloc: Global, words: &[String]) -> Result<Vec<u64>, Fault> {
+fn numbers(alloc: Global, words: &[String]) -> Result<Vec<u64>, Fault> {
     let mut numbers = Vec::new(alloc);
     let mut last = 0;
     for pair in words.chunks(2) {

@@ -1,9 +1,10 @@
 //! How long it takes to read a text.
 ghost use Rattle.std.specs.Prelude.{◌^◌, ◌<◌, length};
 
-use crate::command::{Answers, Measure};
+use crate::command::{Answers, Measure, Rereads};
 use crate::count::options;
 use ecma_options::{begin, pass_next};
+use ecma_slashes::{Slashes, read_telling};
 use ecma_stdio::{Fault, Halt};
 use ecma_stream::{Lexer, Tokens};
 use ecma_token::TokenAndSpan;
@@ -89,12 +90,38 @@ fn read_out(lexer: &mut Lexer, answers: Answers, rereads: &[u64]) -> Result<u64,
     before.checked_add(behind).ok_or(Fault::TooLong)
 }
 
+/// Reads to the end, and each slash again that the lexer's flag names. Says how many tokens there are.
+fn read_out_by_flag(lexer: &mut Lexer) -> Result<u64, Fault> {
+    let mut slot = None;
+    for before in 0..u64::MAX {
+        if lexer.reads_again() {
+            return Err(Fault::NoSlash);
+        }
+        read_telling(lexer, &mut slot, Slashes::ByFlag)?;
+        if slot.is_none() {
+            return Ok(before);
+        }
+    }
+    Err(Fault::TooLong)
+}
+
 /// What was measured of a text.
 #[derive(Debug, Drop)]
 pub struct Measured {
     pub tokens: u64,
     /// How long each reading took, the shortest first.
     pub durations: Vec<Duration>,
+}
+
+/// Reads a text to its end with a new lexer, and says how many tokens there are.
+fn read_once(alloc: Global, asked: &Measure, text: &str) -> Result<u64, Fault>
+    requires { length text.now < 2 ^ 32 }
+{
+    let mut lexer = begin(alloc, asked.comments, options(asked.typescript), text)?;
+    match &asked.rereads {
+        Rereads::ByFlag => read_out_by_flag(&mut lexer),
+        Rereads::Behind(numbers) => read_out(&mut lexer, asked.answers, numbers.as_slice()),
+    }
 }
 
 /// Reads a text to its end as often as is asked for, with a new lexer each time.
@@ -110,11 +137,7 @@ pub fn measure<C: Clock>(
     let mut durations = Vec::new(alloc);
     for _ in 0..asked.times {
         let start = Instant::now(clock).map_err(|_| Halt::ReadFailed)?;
-        tokens = read_out(
-            &mut begin(alloc, false, options(asked.typescript), text)?,
-            asked.answers,
-            asked.rereads.as_slice(),
-        )?;
+        tokens = read_once(alloc, asked, text)?;
         let taken = start.elapsed(clock).map_err(|_| Halt::ReadFailed)?;
         durations
             .push(taken)

@@ -129,6 +129,10 @@ fn judges_the_words_of_measures(rt: HostRuntime) -> Result<(), Fail> {
         Row::bad(&["time", "1", "kept", "ts"]),
         Row::bad(&["time", "1", "kept", "kept"]),
         Row::bad(&["time", "1", "again", "1"]),
+        Row::bad(&["time", "1", "comments", "kept"]),
+        Row::bad(&["time", "1", "flag", "flag"]),
+        Row::bad(&["time", "1", "flag", "reread", "1"]),
+        Row::bad(&["time", "1", "reread", "1", "flag"]),
     ];
     play(&rt, rt.alloc(), &rows)
 }
@@ -157,12 +161,17 @@ fn measures(rt: HostRuntime) -> Result<(), Fail> {
     let seven = b"7 tokens 13 bytes best 13000.0 MB/s median 13000.0 MB/s\n";
     let twice = ["time", "2", "reread", "1", "reread", "5"].as_slice();
     let kept = ["time", "2", "kept", "reread", "1", "reread", "5"].as_slice();
+    let two = b"2 tokens 14 bytes best 14000.0 MB/s median 14000.0 MB/s\n";
+    let commented = ["time", "2", "ts", "kept", "comments", "flag"].as_slice();
     let rows = [
         Row::new(&["time", "3"], b"x = /a/", 0, five),
         Row::new(&["time", "2", "ts", "reread", "3"], b"x = /a/", 0, three),
         Row::new(twice, b"/a/ ; b=/=/;;", 0, seven),
         Row::new(kept, b"/a/ ; b=/=/;;", 0, seven),
         Row::new(&["time", "1", "ts", "kept"], b"x = /a/", 0, five),
+        Row::new(&["time", "1", "flag"], b"x = /a/", 0, three),
+        Row::new(&["time", "1", "comments"], b"x = /a/", 0, five),
+        Row::new(commented, b"/a/ ;// b=/=;;", 0, two),
     ];
     play(&rt, rt.alloc(), &rows)
 }

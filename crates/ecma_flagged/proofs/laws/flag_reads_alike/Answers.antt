@@ -1,0 +1,5 @@
+use Rattle.ecma_flagged.proofs.FlagLemmas.{flag_reads_alike}
+use Rattle.ecma_flagged.proofs.laws.flag_reads_alike.Goals as goal
+
+pub returns : goal.returns
+returns c = flag_reads_alike

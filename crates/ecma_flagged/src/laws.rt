@@ -1,0 +1,19 @@
+//! Laws of canonical texts where the lexer's own flag says which slashes begin regular expressions.
+ghost use Rattle.ecma_flagged.specs.ByFlag.{CanonicalByFlagIsRead, CanonicalByFlagIsShared, FlagReadsAlike};
+
+/// The canonical text of a text that is read cleanly by the flag is read by the flag by the same steps: the same slashes, by
+/// their number among the tokens, begin regular expressions.
+pub fn flag_reads_alike()
+    ensures { FlagReadsAlike }
+{}
+
+/// So it is read cleanly by the flag, under the same settings, context and start place; its tokens agree in kind, characters
+/// and flag; and it is its own canonical text.
+pub fn canonical_by_flag_is_read()
+    ensures { CanonicalByFlagIsRead }
+{}
+
+/// Two texts that are read cleanly by the flag have one canonical text exactly where their tokens agree.
+pub fn canonical_by_flag_is_shared()
+    ensures { CanonicalByFlagIsShared }
+{}
