@@ -5,10 +5,10 @@ use Rattle.ecma_syntax.specs.declared.keyword.Keyword.TheVariants as keyword
 use Rattle.ecma_syntax.specs.declared.known_ident.KnownIdent.TheVariants as known
 use Rattle.ecma_syntax.specs.declared.word.IdentKind.TheVariants as name
 use Rattle.ecma_syntax.specs.declared.word.WordKind.TheVariants as word
-use Rattle.ecma_syntax.specs.declared.operator.AssignOp.TheVariants.{Assign}
-use Rattle.ecma_syntax.specs.declared.operator.BinOpToken.TheVariants.{Add, Lt, Gt}
+use Rattle.ecma_syntax.specs.declared.operator.AssignOp.TheVariants.{Assign, DivAssign}
+use Rattle.ecma_syntax.specs.declared.operator.BinOpToken.TheVariants.{Add, Div, Lt, Gt}
 use Rattle.ecma_token.specs.declared.kind.TokenKind.{TokenKind}
-use Rattle.ecma_token.specs.declared.kind.TokenKind.TheVariants.{Word, AssignOp, Arrow, BackQuote, BinOp, Colon, Comma, Dot, DollarLBrace, LBrace, LParen, MinusMinus, Num, PlusPlus, RBrace, RParen, Semi, Template}
+use Rattle.ecma_token.specs.declared.kind.TokenKind.TheVariants.{Word, AssignOp, Arrow, BackQuote, BinOp, Colon, Comma, Dot, DollarLBrace, LBrace, LParen, MinusMinus, Num, PlusPlus, RBrace, RParen, Regex, Semi, Template}
 use Rattle.ecma_state.specs.Contexts.{Contexts}
 use Rattle.ecma_contexts.specs.declared.token_context.TokenContext.{TokenContext}
 use Rattle.ecma_contexts.specs.declared.token_context.TokenContext.TheVariants.{BraceStmt, BraceExpr, TplQuasi, ParenStmt, ParenExpr, Tpl, FnExpr, ClassExpr, JSXOpeningTag, JSXClosingTag, JSXExpr}
@@ -258,6 +258,20 @@ behind_name e contexts = refl
 
 behind_sum : (e : Bool) (contexts : Contexts) → brace_block contexts (Some (BinOp Add)) false e ≡ not e
 behind_sum e contexts = refl
+
+-- A slash leaves the contexts as they are, and an expression may begin behind it; behind a regular expression none may.
+
+behind_slash : (before : Before) (flag : Bool) (contexts : Contexts) → transition before contexts (BinOp Div) flag ≡ turned contexts true
+unfolding transition
+behind_slash before flag contexts = refl
+
+behind_slash_equals : (before : Before) (flag : Bool) (contexts : Contexts) → transition before contexts (AssignOp DivAssign) flag ≡ turned contexts true
+unfolding transition
+behind_slash_equals before flag contexts = refl
+
+behind_expression : (before : Before) (flag : Bool) (contexts : Contexts) → transition before contexts Regex flag ≡ turned contexts false
+unfolding transition
+behind_expression before flag contexts = refl
 
 -- Texts on one line
 
