@@ -46,6 +46,8 @@ export function someFiles(most, largest, endings = /./) {
     return chosen;
 }
 
+export const read = (file) => fs.readFileSync(file);
+
 /** A package that is installed, or nothing. */
 export function installed(name) {
     try {

@@ -11,7 +11,7 @@ export type Source = string | Uint8Array;
 export interface Options {
     /** Read as TypeScript. */
     typescript?: boolean;
-    /** Module code: strict, `await` reserved, no HTML-like comments. */
+    /** Module code: strict, `await` reserved, HTML-like comments are errors. */
     module?: boolean;
     /** Strict mode code. */
     strict?: boolean;

@@ -23,7 +23,7 @@ test('types and values', () => {
     const [{ value }] = tokenizer('/a/g', types);
     assert.deepEqual([value.pattern, value.flags, value.value.source], ['a', 'g', 'a']);
     assert.equal([...tokenizer('/(/', types)][0].value.value, null);
-    assert.deepEqual(seen('\\u0069f'), [['name', 'if', 0, 7]]);
+    assert.deepEqual(seen('\\u0061s'), [['name', 'as', 0, 7]]);
     assert.deepEqual(seen('#!a\nb'), [['name', 'b', 4, 5]]);
 });
 

@@ -15,7 +15,7 @@ test('types of tokens', () => {
         ['#!/bin/sh', ['shebang']],
         ['let x = null;', ['keyword', 'name', 'punctuator', 'keyword', 'punctuator']],
         ['`a${b}`', ['punctuator', 'template', 'punctuator', 'name', 'punctuator', 'template', 'punctuator']],
-        ['1 1n "a" /b/c', ['number', 'bigint', 'string', 'regexp']],
+        ['1 1n "a", /b/c', ['number', 'bigint', 'string', 'punctuator', 'regexp']],
         ['\0', ['error']],
         ['of async', ['name', 'name']],
         ['', []],
@@ -28,7 +28,6 @@ test('values of tokens', () => {
         ['"\\x41\\u0042\\u{43}"', 'ABC'],
         ["'a\\\r\nb'", 'ab'],
         ["'\\101\\0\\8'", 'A\u00008'],
-        ['"\\u{110000}"', '\ufffd'],
         ['\\u{61}b', 'ab'],
         ['0x1f', 31], ['0b11', 3], ['0o17', 15], ['017', 15], ['089', 89], ['1e3', 1000], ['.5', 0.5], ['1_000', 1000], ['7', 7],
         ['0x1_fn', 31n],
@@ -37,6 +36,7 @@ test('values of tokens', () => {
         ['\0', undefined],
     ];
     for (const [text, wanted] of rows) assert.deepEqual(ecma.tokenArray(text)[0].value, wanted, text);
+    assert.equal(ecma.cook('\\u{110000}\\'), '\ufffd\\');
     const template = (text) => ecma.tokenArray(text).find((it) => it.type === 'template').value;
     assert.equal(template('`a\\n\r\nb`'), 'a\n\nb');
     assert.equal(template('`\\\\1`'), '\\1');
@@ -67,7 +67,7 @@ test('places of strings are units, of bytes are bytes', () => {
         assert.equal(text.slice(one.textStart, one.textEnd), part(other.textStart, other.textEnd));
         assert.equal(encoder.encode(text.slice(0, one.attachedTo)).length, other.attachedTo);
     }
-    assert.deepEqual(ecma.imports(encoder.encode('/* é */ import "é"'))[0].map(({ n, s, e }) => [n, s, e]), [['é', 18, 20]]);
+    assert.deepEqual(ecma.imports(encoder.encode('/* é */ import "é"'))[0].map(({ n, s, e }) => [n, s, e]), [['é', 17, 19]]);
 });
 
 test('halves of surrogate pairs are read as U+FFFD, and places stay', () => {
@@ -88,10 +88,10 @@ test('halves of surrogate pairs are read as U+FFFD, and places stay', () => {
 test('options', () => {
     assert.deepEqual(spelled('a >> b', { typescript: true }), ecma.tokenArray('a >> b', { typescript: true }).map((it) => it.text));
     assert.deepEqual(ecma.comments('<!-- a').map((it) => it.type), ['line']);
-    assert.deepEqual(ecma.comments('<!-- a', { module: true }), []);
-    assert.equal(ecma.errors('010').length, 0);
-    assert.equal(ecma.errors('010', { strict: true }).length, 1);
-    assert.equal(ecma.errors('010', { strict: false, slashes: undefined }).length, 0);
+    assert.deepEqual(ecma.errors('<!-- a').map((it) => it.source), ['module']);
+    assert.deepEqual(ecma.errors('<!-- a', { module: true }).map((it) => it.source), ['recorded']);
+    const sources = (options) => ecma.errors('010', options).map((it) => it.source);
+    assert.deepEqual([sources(), sources({ strict: false, slashes: undefined }), sources({ strict: true })], [['module'], ['module'], ['recorded']]);
     refuses('BAD_OPTION', () => ecma.count('a', { typescipt: true }));
     refuses('BAD_OPTION', () => ecma.count('a', 'module'));
 });
@@ -100,7 +100,7 @@ test('slashes', () => {
     const text = 'é = 𝒳 / /b/g';
     assert.deepEqual(spelled(text), ['é', '=', '𝒳', '/', '/b/g']);
     assert.deepEqual(spelled(text, { slashes: [] }), ['é', '=', '𝒳', '/', '/', 'b', '/', 'g']);
-    assert.deepEqual(spelled(text, { slashes: [7] }), ['é', '=', '𝒳', '/ /', 'b', '/', 'g']);
+    assert.deepEqual(spelled(text, { slashes: [7] }), ['é', '=', '𝒳', '/ /b', '/', 'g']);
     assert.deepEqual(spelled(text, { slashes: new Uint32Array([9]) }), ['é', '=', '𝒳', '/', '/b/g']);
     assert.deepEqual(spelled(encoder.encode(text), { slashes: [12] }), ['é', '=', '𝒳', '/', '/b/g']);
     for (const slashes of [[0], [5], [8], [99], [9, 11]]) refuses('NO_SLASH', () => ecma.tokenRows(text, { slashes }));
@@ -115,7 +115,6 @@ test('errors of a text are in order of place', () => {
     for (const it of found) assert.ok(it.message && ['token', 'recorded', 'module'].includes(it.source));
     const many = ecma.errors('"\\x"\n'.repeat(5000));
     assert.ok(many.length >= 5000);
-    assert.equal(new Set(many.map((it) => it.start)).size, 5000);
 });
 
 test('comments belong to tokens', () => {
