@@ -28,6 +28,27 @@ function program() {
     return fs.existsSync(file) ? file : undefined;
 }
 
+function isRead(bytes, slashes, settings) {
+    try {
+        ecma.count(bytes, { ...settings, slashes });
+        return true;
+    } catch {
+        return false;
+    }
+}
+
+/** The numbers of the tokens that are regular expressions, or errors that begin with the slash of one. */
+function expressions(bytes, tokens, settings) {
+    const numbers = [], slashes = [];
+    tokens.forEach(({ kind, start }, i) => {
+        const mayBe = kind === Kind.REGEX || (kind === Kind.ERROR && bytes[start] === 47 && isRead(bytes, [...slashes, start], settings));
+        if (!mayBe) return;
+        numbers.push(i);
+        slashes.push(start);
+    });
+    return numbers;
+}
+
 class Comparison {
     constructor(lex) {
         this.lex = lex;
@@ -89,8 +110,7 @@ class Comparison {
         const text = decoder.decode(bytes);
         for (const [chosen, words] of settings) {
             const byFlag = ecma.tokenArray(bytes, chosen), units = ecma.tokenRows(text, chosen);
-            const isExpression = ({ kind, start }) => bytes[start] === 47 && (kind === Kind.REGEX || kind === Kind.ERROR);
-            const numbers = byFlag.flatMap((token, i) => (isExpression(token) ? [i] : []));
+            const numbers = expressions(bytes, byFlag, chosen);
             const rereads = numbers.flatMap((i) => ['reread', String(i + 1)]);
             const given = { ...chosen, slashes: numbers.map((i) => byFlag[i].start) }, inUnits = { ...chosen, slashes: numbers.map((i) => units[3 * i]) };
             this.tokens(name, bytes, text, chosen, chosen, [...words, ...rereads]);

@@ -62,6 +62,12 @@ function timed(work, times) {
     return (user + system) / 1e6 / times;
 }
 
+/** Takes another module, whose memory has grown before it is measured. */
+function take(module, bytes) {
+    ecma.loadSync(module);
+    ecma.tokenRows(bytes);
+}
+
 function measure(file, modules, others) {
     const bytes = new Uint8Array(fs.readFileSync(file)), text = Buffer.from(bytes).toString();
     const jobs = jobsOf(bytes, text, others), times = Math.ceil(TURN_BYTES / bytes.length), best = {};
@@ -70,9 +76,9 @@ function measure(file, modules, others) {
         best[name] = Math.min(best[name] ?? Infinity, seconds);
     };
     for (let round = 0; round < ROUNDS; round++) {
-        ecma.loadSync(modules['ecma.wasm']);
+        take(modules['ecma.wasm'], bytes);
         for (const [name, work] of Object.entries(jobs)) turn(name, work);
-        ecma.loadSync(modules['ecma-plain.wasm']);
+        take(modules['ecma-plain.wasm'], bytes);
         turn('tokenRows of bytes, plain', jobs['tokenRows of bytes']);
         turn('tokenRows of a string, plain', jobs['tokenRows of a string']);
     }

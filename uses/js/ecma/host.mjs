@@ -58,15 +58,19 @@ async function compileResponse(response) {
     return WebAssembly.compile(await response.arrayBuffer());
 }
 
-async function compile(source) {
-    if (source instanceof WebAssembly.Module) return source;
-    if (typeof Response !== 'undefined' && source instanceof Response) return compileResponse(source);
-    if (typeof source !== 'string' && !(source instanceof URL)) return WebAssembly.compile(source);
-    const url = new URL(source, globalThis.location?.href);
+async function compileUrl(url) {
     // The fetch of node reads no files.
     if (url.protocol !== 'file:' || typeof process === 'undefined') return compileResponse(await fetch(url));
     const { readFile } = await import(/* webpackIgnore: true */ /* @vite-ignore */ 'node:fs/promises');
     return WebAssembly.compile(await readFile(url));
+}
+
+async function compile(source) {
+    if (source instanceof WebAssembly.Module) return source;
+    if (typeof source === 'string' || source instanceof URL) return compileUrl(new URL(source, globalThis.location?.href));
+    if (source instanceof ArrayBuffer || ArrayBuffer.isView(source)) return WebAssembly.compile(source);
+    // A Response. To ask for its class takes node 30 ms.
+    return compileResponse(source);
 }
 
 let loading;
