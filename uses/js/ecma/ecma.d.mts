@@ -16,8 +16,8 @@ export interface Options {
     /** Strict mode code. */
     strict?: boolean;
     /**
-     * The places of the slashes that begin regular expressions, ascending, where you know them (a parser does). Without it they are
-     * told from the tokens before; an empty list says that there are none.
+     * The places of the slashes that begin regular expressions, ascending, where you know them (a parser does). Without it the
+     * tokens before decide; an empty list says that there are none.
      */
     slashes?: ArrayLike<number>;
 }
