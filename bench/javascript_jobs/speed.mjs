@@ -62,6 +62,11 @@ function timed(work, times) {
     return (user + system) / 1e6 / times;
 }
 
+function contents(file) {
+    const bytes = new Uint8Array(fs.readFileSync(file));
+    return { bytes, text: Buffer.from(bytes).toString() };
+}
+
 /** Takes another module, whose memory has grown before it is measured. */
 function take(module, bytes) {
     ecma.loadSync(module);
@@ -69,7 +74,7 @@ function take(module, bytes) {
 }
 
 function measure(file, modules, others) {
-    const bytes = new Uint8Array(fs.readFileSync(file)), text = Buffer.from(bytes).toString();
+    const { bytes, text } = contents(file);
     const jobs = jobsOf(bytes, text, others), times = Math.ceil(TURN_BYTES / bytes.length), best = {};
     const turn = (name, work) => {
         const seconds = timed(work, times);
@@ -93,9 +98,27 @@ function printTable(columns) {
     for (const name of names) console.log(`| ${name} | ${Object.values(columns).map((it) => it[name].toFixed(1)).join(' | ')} |`);
 }
 
-/** Of one speed over another, on each file. */
-function ratio(columns, one, other) {
-    return Object.values(columns).map((it) => (it[other] ? (it[one] / it[other]).toFixed(2) : '?')).join(', ');
+const PAIRS = [
+    ['tokenRows of a string', 'acorn'], ['tokenRows of bytes', 'acorn'], ['tokens (iterator)', 'acorn'], ['acorn.mjs', 'acorn'],
+    ['imports', 'es-module-lexer'],
+];
+
+const middle = (numbers) => numbers.sort((a, b) => a - b)[numbers.length >> 1];
+
+/** How many times as fast one job is as another: the middle of rounds in which one is timed right behind the other. */
+function ratio(jobs, one, other, times) {
+    if (!jobs[other]) return '?';
+    const ratios = Array.from({ length: ROUNDS }, () => {
+        const first = timed(jobs[one], times), second = timed(jobs[other], times), third = timed(jobs[one], times);
+        return (2 * second) / (first + third);
+    });
+    return middle(ratios).toFixed(2);
+}
+
+/** The ratios of all pairs, on a file whose jobs were run before. */
+function printRatios(file, others) {
+    const { bytes, text } = contents(file), jobs = jobsOf(bytes, text, others), times = Math.ceil(TURN_BYTES / bytes.length);
+    for (const [one, other] of PAIRS) console.log(`${path.basename(file)}: ${one} over ${other}: ${ratio(jobs, one, other, times)}`);
 }
 
 /** Runs a script in a process of its own, as often as asked, and answers the numbers that it writes, least first. */
@@ -113,8 +136,7 @@ const CALLS = `await ecma.load(); const run = (times) => { for (let i = 0; i < t
 run(100000); const begin = process.cpuUsage(); run(100000); const { user, system } = process.cpuUsage(begin); console.log((user + system) / 100000);`;
 
 function printSmall() {
-    const middle = (numbers) => numbers[numbers.length >> 1].toFixed(1);
-    console.log(`load: ${middle(inProcess(LOAD, 9))} ms; the first call behind it: ${middle(inProcess(FIRST, 9))} ms`);
+    console.log(`load: ${middle(inProcess(LOAD, 9)).toFixed(1)} ms; the first call behind it: ${middle(inProcess(FIRST, 9)).toFixed(1)} ms`);
     console.log(`a call on \`let x = 1;\`: ${inProcess(CALLS, 3)[0].toFixed(2)} microseconds`);
     for (const name of ['ecma.wasm', 'ecma-plain.wasm', 'ecma.mjs', 'host.mjs', 'imports.mjs', 'values.mjs', 'kinds.mjs', 'acorn.mjs']) {
         const bytes = fs.readFileSync(path.join(PACKAGE, name));
@@ -141,9 +163,7 @@ export async function run() {
     const files = (process.env.FILES?.split(':') ?? FILES).filter((it) => fs.existsSync(it));
     const columns = Object.fromEntries(files.map((file) => [file, measure(file, modules, others)]));
     if (files.length) printTable(columns);
-    for (const [one, other] of [['tokenRows of a string', 'acorn'], ['tokenRows of bytes', 'acorn'], ['tokens (iterator)', 'acorn'], ['acorn.mjs', 'acorn'], ['imports', 'es-module-lexer']]) {
-        console.log(`${one} over ${other}: ${ratio(columns, one, other)}`);
-    }
+    for (const file of files) printRatios(file, others);
     printSmall();
     files.forEach(printMemory);
     return 0;
