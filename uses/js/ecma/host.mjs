@@ -279,6 +279,6 @@ export function withRows(name, width, rowsFor, convert, text, options, use) {
         }
         const count = request.number;
         convert(request, at, count);
-        return use(wordsAt(at, count * width));
+        return use(wordsAt(at, count * width), request);
     });
 }

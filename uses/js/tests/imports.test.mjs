@@ -22,6 +22,15 @@ test('static imports', () => {
     for (const [text, wanted] of rows) assert.deepEqual(seen(text), [wanted], text);
 });
 
+test('places of wide strings are units', () => {
+    const text = '/* 𝒳 */ import é, { b } from "é\\u{e9}"; export { é as "𝒳" }; export let c = "é"; import("é", 𝒳); import("𝒳")';
+    assert.deepEqual(seen(text), [
+        ['éé', 'é\\u{e9}', 'import é, { b } from "é\\u{e9}"', -1, ''], ['é', '"é"', 'import("é", 𝒳)', text.indexOf('("é"'), '𝒳'[0]],
+        ['𝒳', '"𝒳"', 'import("𝒳")', text.indexOf('("𝒳"'), ''],
+    ]);
+    assert.deepEqual(exported(text), [['𝒳', 'é', '"𝒳"', 'é'], ['c', 'c', 'c', 'c']]);
+});
+
 test('calls and import.meta', () => {
     const rows = [
         ['import("a")', ['a', '"a"', 'import("a")', 6, '']],
@@ -94,5 +103,5 @@ test('long texts take time as they are long', () => {
         imports(text);
         return (performance.now() - begin) / 1000;
     };
-    for (const part of ['import(', 'import {', 'import a ', 'export let a ', 'export {', 'export let a = (', 'import {} ']) assert.ok(seconds(part.repeat(100_000)) < 5, part);
+    for (const part of ['import(', 'import {', 'import a ', 'export let a ', 'export {', 'export let a = (', 'import {} ', 'import(é']) assert.ok(seconds(part.repeat(100_000)) < 5, part);
 });
