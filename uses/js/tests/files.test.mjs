@@ -1,0 +1,114 @@
+// The files of the package: what it exports and declares, its kinds, and the ways to load it.
+import assert from 'node:assert/strict';
+import { spawnSync } from 'node:child_process';
+import fs from 'node:fs';
+import http from 'node:http';
+import path from 'node:path';
+import test from 'node:test';
+import { pathToFileURL } from 'node:url';
+import { gzipSync } from 'node:zlib';
+import * as ecma from '../ecma/ecma.mjs';
+import { PACKAGE, TOP, bytesOf, installed, refuses } from './package.mjs';
+
+const told = JSON.parse(fs.readFileSync(path.join(PACKAGE, 'package.json'), 'utf8'));
+
+test('no dependencies, no scripts', () => {
+    for (const name of ['dependencies', 'scripts', 'optionalDependencies', 'peerDependencies']) assert.equal(told[name], undefined);
+    assert.equal(told.type, 'module');
+    assert.equal(told.sideEffects, false);
+});
+
+test('what is exported is there, and declared', async () => {
+    for (const [name, target] of Object.entries(told.exports)) {
+        for (const file of typeof target === 'string' ? [target] : Object.values(target)) assert.ok(fs.existsSync(path.join(PACKAGE, file)), `${name}: ${file}`);
+    }
+    for (const name of ['ecma', 'kinds', 'acorn']) {
+        const module = await import(pathToFileURL(path.join(PACKAGE, `${name}.mjs`)));
+        const types = fs.readFileSync(path.join(PACKAGE, `${name}.d.mts`), 'utf8');
+        const values = [...types.matchAll(/^export (?:declare )?(?:function|class|const) (\w+)/gm), ...types.matchAll(/^export \{ (\w+) \}/gm)].map((it) => it[1]);
+        assert.deepEqual(Object.keys(module).sort(), values.sort(), name);
+    }
+});
+
+test('a module has at most 80 kB by gzip', () => {
+    for (const name of ['ecma.wasm', 'ecma-plain.wasm']) assert.ok(gzipSync(bytesOf(name), { level: 9 }).length <= 80_000, name);
+});
+
+test('the kinds are those of the header', () => {
+    const header = fs.readFileSync(path.join(TOP, 'uses', 'c', 'ecma_kinds.h'), 'utf8');
+    const kinds = Object.fromEntries([...header.matchAll(/^ +ECMA_(\w+) = (\d+)/gm)].map(([, name, number]) => [name, Number(number)]));
+    assert.ok(Object.keys(kinds).length > 100);
+    assert.deepEqual({ ...ecma.Kind }, kinds);
+    const types = fs.readFileSync(path.join(PACKAGE, 'kinds.d.mts'), 'utf8');
+    assert.deepEqual(Object.fromEntries([...types.matchAll(/readonly (\w+): (\d+);/g)].map(([, name, number]) => [name, Number(number)])), kinds);
+});
+
+test('by names of the package, before and behind load', async () => {
+    await installed((folder) => {
+        const script = `
+            import { Kind, count, load } from 'fintaluy';
+            import { tokenizer } from 'fintaluy/acorn';
+            import { Kind as same } from 'fintaluy/kinds';
+            let code;
+            try { count('a'); } catch (error) { code = error.code; }
+            await Promise.all([load(), load()]);
+            await load();
+            console.log(code, Kind === same, count('a b'), typeof tokenizer);`;
+        fs.writeFileSync(path.join(folder, 'script.mjs'), script);
+        const made = spawnSync(process.execPath, ['script.mjs'], { cwd: folder, encoding: 'utf8' });
+        assert.equal(made.stdout, 'NOT_LOADED true 2 function\n', made.stderr);
+    });
+});
+
+test('what can be loaded', async () => {
+    const file = pathToFileURL(path.join(PACKAGE, 'ecma.wasm')), bytes = bytesOf('ecma.wasm');
+    const response = (type) => new Response(bytes, { headers: { 'content-type': type } });
+    for (const source of [undefined, file, file.href, bytes, bytes.buffer.slice(bytes.byteOffset, bytes.byteOffset + bytes.length), new WebAssembly.Module(bytes), response('application/wasm'), response('text/plain')]) {
+        await ecma.load(source);
+        assert.equal(ecma.count('a b'), 2);
+    }
+    for (const source of [bytes, new WebAssembly.Module(bytes)]) {
+        ecma.loadSync(source);
+        assert.equal(ecma.count('a b'), 2);
+    }
+    await assert.rejects(ecma.load(new Response('', { status: 404 })), { code: 'NOT_LOADED' });
+    await assert.rejects(ecma.load(new Uint8Array([1, 2, 3])), WebAssembly.CompileError);
+    assert.equal(ecma.count('a b'), 2);
+});
+
+test('over HTTP', async () => {
+    const server = http.createServer((request, response) => {
+        response.writeHead(request.url === '/ecma.wasm' ? 200 : 404, { 'content-type': 'application/wasm' });
+        response.end(request.url === '/ecma.wasm' ? bytesOf('ecma.wasm') : '');
+    });
+    await new Promise((resolve) => server.listen(0, '127.0.0.1', resolve));
+    const at = `http://127.0.0.1:${server.address().port}`;
+    try {
+        await ecma.load(`${at}/ecma.wasm`);
+        assert.equal(ecma.count('a b'), 2);
+        await assert.rejects(ecma.load(new URL(`${at}/other.wasm`)), { code: 'NOT_LOADED' });
+    } finally {
+        server.close();
+    }
+});
+
+test('a module that stops leaves nothing behind', () => {
+    // A module with the exports of the package, whose call of count traps.
+    const good = new WebAssembly.Module(bytesOf('ecma.wasm'));
+    ecma.loadSync(good);
+    const { Instance } = WebAssembly;
+    let made = 0;
+    WebAssembly.Instance = class {
+        constructor(module) {
+            const { exports } = new Instance(module);
+            this.exports = made++ ? exports : { ...exports, ecma_js_count: () => { throw new WebAssembly.RuntimeError('unreachable'); } };
+        }
+    };
+    try {
+        ecma.loadSync(good);
+        refuses('STOPPED', () => ecma.count('a b'));
+        assert.equal(ecma.count('a b'), 2);
+    } finally {
+        WebAssembly.Instance = Instance;
+    }
+});

@@ -1,0 +1,107 @@
+// `imports`: texts of module code and what es-module-lexer's page says of them.
+import assert from 'node:assert/strict';
+import test from 'node:test';
+import { imports, load } from '../ecma/ecma.mjs';
+
+await load();
+
+const seen = (text, options) => imports(text, options)[0].map(({ n, s, e, ss, se, d, a }) => [n, text.slice(s, e), text.slice(ss, se), d, a === -1 ? '' : text.slice(a)[0]]);
+const exported = (text, options) => imports(text, options)[1].map(({ n, ln, s, e, ls, le }) => [n, ln, text.slice(s, e), ls === -1 ? '' : text.slice(ls, le)]);
+
+test('static imports', () => {
+    const rows = [
+        ['import "a"', ['a', 'a', 'import "a"', -1, '']],
+        ["import a, { b as c, default as d } from 'e'; f", ['e', 'e', "import a, { b as c, default as d } from 'e'", -1, '']],
+        ['import * as a from "b" with { type: "json" };', ['b', 'b', 'import * as a from "b" with { type: "json" }', -1, '{']],
+        ['import a from "b" assert { type: "json" }', ['b', 'b', 'import a from "b" assert { type: "json" }', -1, '{']],
+        ['import "\\x61"', ['a', '\\x61', 'import "\\x61"', -1, '']],
+        ['import type { A } from "b"', ['b', 'b', 'import type { A } from "b"', -1, '']],
+        ['export * from "a"', ['a', 'a', 'export * from "a"', -1, '']],
+        ['export { a as b } from "c"', ['c', 'c', 'export { a as b } from "c"', -1, '']],
+    ];
+    for (const [text, wanted] of rows) assert.deepEqual(seen(text), [wanted], text);
+});
+
+test('places of wide strings are units', () => {
+    const text = '/* 𝒳 */ import é, { b } from "é\\u{e9}"; export { é as "𝒳" }; export let c = "é"; import("é", 𝒳); import("𝒳")';
+    assert.deepEqual(seen(text), [
+        ['éé', 'é\\u{e9}', 'import é, { b } from "é\\u{e9}"', -1, ''], ['é', '"é"', 'import("é", 𝒳)', text.indexOf('("é"'), '𝒳'[0]],
+        ['𝒳', '"𝒳"', 'import("𝒳")', text.indexOf('("𝒳"'), ''],
+    ]);
+    assert.deepEqual(exported(text), [['𝒳', 'é', '"𝒳"', 'é'], ['c', 'c', 'c', 'c']]);
+});
+
+test('calls and import.meta', () => {
+    const rows = [
+        ['import("a")', ['a', '"a"', 'import("a")', 6, '']],
+        ['x = import( a + "b" )', [undefined, 'a + "b"', 'import( a + "b" )', 10, '']],
+        ['import("a", { with: {} })', ['a', '"a"', 'import("a", { with: {} })', 6, '{']],
+        ['import.meta.url', [undefined, 'import.meta', 'import.meta', -2, '']],
+        ['f(() => import("a"))', ['a', '"a"', 'import("a")', 14, '']],
+    ];
+    for (const [text, wanted] of rows) assert.deepEqual(seen(text), [wanted], text);
+    assert.deepEqual(seen('import(import("a"))').map(([n, inside]) => [n, inside]), [[undefined, 'import("a")'], ['a', '"a"']]);
+    for (const text of ['a.import("b")', 'class A { #import() {} }', '({ a: "import b from c" })', '// import "a"', 'f({ import: 1 })']) assert.deepEqual(seen(text), [], text);
+});
+
+test('exports', () => {
+    const rows = [
+        ['export { a as b, c }', [['b', 'a', 'b', 'a'], ['c', 'c', 'c', 'c']]],
+        ['export { a as "b c" }', [['b c', 'a', '"b c"', 'a']]],
+        ['export { a as b } from "c"', [['b', undefined, 'b', '']]],
+        ['export * as a from "b"', [['a', undefined, 'a', '']]],
+        ['export default async function* a() {}', [['default', undefined, 'default', '']]],
+        ['export default function a() {}', [['default', 'a', 'default', 'a']]],
+        ['export default class extends A {}', [['default', undefined, 'default', '']]],
+        ['export default a', [['default', undefined, 'default', '']]],
+        ['export function* a() {}', [['a', 'a', 'a', 'a']]],
+        ['export class A {}', [['A', 'A', 'A', 'A']]],
+        ['export let a = f(1, 2), b, c = [3, 4]', [['a', 'a', 'a', 'a'], ['b', 'b', 'b', 'b'], ['c', 'c', 'c', 'c']]],
+        ['export let a = 1\nb, c', [['a', 'a', 'a', 'a']]],
+        ['export const { a } = b', []],
+    ];
+    for (const [text, wanted] of rows) {
+        if (text.includes('async')) wanted[0].splice(0, 4, 'default', 'a', 'default', 'a');
+        assert.deepEqual(exported(text), wanted, text);
+    }
+    const typescript = [
+        ['export const a: Map<string, number> = b', ['a']],
+        ['export const enum A {}', ['A']], ['export enum A {}', ['A']], ['export abstract class A {}', ['A']],
+        ['export type A = B', []], ['export interface A {}', []],
+    ];
+    for (const [text, wanted] of typescript) assert.deepEqual(exported(text, { typescript: true }).map(([n]) => n), wanted, text);
+});
+
+test('facade and module syntax', () => {
+    const rows = [
+        ['', true, false], ['import "a"; export * from "b";', true, true], ['export { a }', true, true], ['export let a', false, true],
+        ['a', false, false], ['import("a")', false, false], ['import.meta', false, true], ['{}', false, false],
+    ];
+    for (const [text, facade, hasModuleSyntax] of rows) assert.deepEqual(imports(text).slice(2), [facade, hasModuleSyntax], text);
+    assert.equal(imports('import "a"', 'file.js')[0][0].n, 'a');
+});
+
+test('whatever stands there, fields are places of the text', () => {
+    const parts = ['import', 'export', '(', ')', '{', '}', ',', '"a"', 'from', '*', 'as', 'a', '.', 'meta', 'let', '=', 'default', 'function', 'with', ';', '\n', '`', '${', 'assert', 'class'];
+    let state = 1;
+    const next = (bound) => (state = (Math.imul(state, 1103515245) + 12345) >>> 0, (state >>> 8) % bound);
+    for (let i = 0; i < 20_000; i++) {
+        const text = Array.from({ length: next(12) }, () => parts[next(parts.length)]).join(' ');
+        const [found, names] = imports(text);
+        const isPlace = (it) => Number.isInteger(it) && 0 <= it && it <= text.length;
+        for (const { s, e, ss, se, d, a } of found) {
+            assert.ok([s, e, ss, se].every(isPlace) && s <= e && ss <= s && e <= se, text);
+            assert.ok((d >= -2 || isPlace(d)) && (a === -1 || isPlace(a)), text);
+        }
+        for (const { s, e, ls, le, n } of names) assert.ok(isPlace(s) && s <= e && ls <= le && typeof n === 'string', text);
+    }
+});
+
+test('long texts take time as they are long', () => {
+    const seconds = (text) => {
+        const begin = performance.now();
+        imports(text);
+        return (performance.now() - begin) / 1000;
+    };
+    for (const part of ['import(', 'import {', 'import a ', 'export let a ', 'export {', 'export let a = (', 'import {} ', 'import(é']) assert.ok(seconds(part.repeat(100_000)) < 5, part);
+});
