@@ -1,8 +1,8 @@
 // The tokens as acorn's tokenizer has them: its types, its values, its places.
 import { Kind, cook, tokenRows } from './ecma.mjs';
+import { KIND, RESPELLED } from './rows.mjs';
 import { bigIntOf, cookTemplate, numberOf, regexpOf } from './values.mjs';
 
-const KIND = 0xffff, RESPELLED = 0x20000;
 const FIRST_OPERATOR = Kind.OP_EQ_EQ, FIRST_WORD = Kind.KEYWORD_AWAIT, NAME = Kind.NAME;
 
 /** The names of acorn's types; KEYWORD_X is `_x`, and each other ASSIGN_X is `assign`. */

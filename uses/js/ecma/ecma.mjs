@@ -2,13 +2,10 @@
 import { EcmaError, NOT_CLEAN, NO_ROOM, load, loadSync, memory, room, stringAt, withRows, withText, wordsAt } from './host.mjs';
 import { Kind } from './kinds.mjs';
 import { findImports } from './imports.mjs';
+import { KIND, LINE_BREAK_BEFORE, RESPELLED, TOKEN_WIDTH } from './rows.mjs';
 import { cook, valueOf } from './values.mjs';
 
 export { EcmaError, Kind, cook, load, loadSync, memory };
-
-// Rows of tokens: start, end, kind + 65536 * flags.
-const TOKEN_WIDTH = 3;
-const LINE_BREAK_BEFORE = 0x10000, RESPELLED = 0x20000, KIND = 0xffff;
 
 /** Room for the rows of all but the densest texts; what is not written takes no memory of the machine. */
 const tokenRoom = (length) => (length >>> 3) * 3 + 64;

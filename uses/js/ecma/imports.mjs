@@ -1,9 +1,8 @@
 // What a module imports and exports, found in the rows of its tokens, with the fields of es-module-lexer. It reads the tokens once,
 // and each part of a statement a bounded number of times besides.
 import { Kind } from './kinds.mjs';
+import { KIND, LINE_BREAK_BEFORE, RESPELLED } from './rows.mjs';
 import { cook, withoutQuotes } from './values.mjs';
-
-const KIND = 0xffff, LINE_BREAK_BEFORE = 0x10000, RESPELLED = 0x20000;
 
 const [OPEN, CLOSE, IMPORT, EXPORT, SEMI, COMMA] = [1, 2, 3, 4, 5, 6];
 const ROLES = new Uint8Array(0x10000);
