@@ -1,11 +1,13 @@
 -- Blocks of comments that are added behind one another.
 use Rattle.std.specs.Prelude.{Result, Ok, Err, IsOk, OnOk}
-use Rattle.std.proofs.Common.{arith, ◌≡◌, ◌∙◌, ℕ, ◌+◌, ◌≤◌, List, [], ◌∷◌, ◌++◌, length, take, refl, ap, sym, subst}
-use Rattle.std.proofs.Math.Seq.{take-append_seam}
-use Rattle.std.proofs.lemmas.List.{append-nil, append_assoc, length-append}
+use Rattle.std.proofs.Common.{arith, ◌≡◌, ◌∙◌, ℕ, ◌+◌, ◌-◌, ◌<◌, ◌≤◌, List, [], ◌∷◌, ◌++◌, length, take, drop, take-append-drop, refl, ap, sym, subst}
+use Rattle.std.proofs.Math.Seq.{take-append-add, take-append_seam}
+use Rattle.std.proofs.lemmas.Grind.{flat_map-append}
+use Rattle.std.proofs.lemmas.List.{append-nil, append_assoc, length-append, length-take-le, take-append-le}
 use Rattle.std.proofs.lemmas.List.Elements.{All-same, All-tail, All-take}
 use Rattle.std.specs.List.{All}
-use Rattle.ecma_comments.specs.SharedComments.{IsBorrowed}
+use Rattle.ecma_comments.specs.Buffers.{Begins}
+use Rattle.ecma_comments.specs.SharedComments.{AreShared, Block, CutsBlock, IsBorrowed, of_blocks}
 use Rattle.ecma_comments.specs.declared.comments_buffer.BufferedComment.{BufferedComment}
 
 -- what holds of each element of two lists holds of those of the first, and of those of the second
@@ -47,3 +49,115 @@ adding-end begin all added left room so_far none = sym (append-nil added) ∙ ap
 pub where-ok : {A B P : Type 0} → (result : Result A B) → OnOk result P → IsOk result → P
 where-ok (Ok value) holds ok = holds
 where-ok (Err error) holds ok = cc
+
+-- more comments behind those that are there
+
+pub begins-more : (first second more : List BufferedComment) → Begins first second → Begins first (second ++ more)
+begins-more first second more begins =
+    ap (take (length first)) (ap (λ list. list ++ more) (sym (take-append-drop (length first) second)) ∙ append_assoc (take (length first) second) _ more ∙ ap (λ list. list ++ (drop (length first) second ++ more)) begins)
+    ∙ take-append_seam first (drop (length first) second ++ more)
+
+pub begins-further : (first second third : List BufferedComment) → Begins first second → Begins second third → Begins first third
+begins-further first second third one two =
+    subst (Begins first) (ap (λ list. list ++ drop (length second) third) (sym two) ∙ take-append-drop (length second) third) (begins-more first second (drop (length second) third) one)
+
+-- where a list of comments is cut
+
+pub of-blocks-end : (old new : List Block) (block : Block) → old ≡ new ++ block ∷ [] → of_blocks old ≡ of_blocks new ++ block.value.items
+of-blocks-end old new block e =
+    ap of_blocks e
+    ∙ flat_map-append (λ (b : Block). b.value.items) new (block ∷ [])
+    ∙ ap (λ list. of_blocks new ++ list) (append-nil block.value.items)
+
+-- the first comments, where some of them stand in the block that was cut off
+pub cut-first : (all kept block last : List BufferedComment) (before len : ℕ)
+    → take (before + length block) all ≡ kept ++ block → before ≡ length kept → before ≤ len → len < before + length block
+    → take len (all ++ last) ≡ kept ++ take (len - before) block
+cut-first all kept block last before len order counted begins ends =
+    ap (take len) whole ∙ ap (λ n. take n (kept ++ (block ++ (more ++ last)))) split ∙ take-append-add kept (block ++ (more ++ last)) (len - before)
+    ∙ ap (λ list. kept ++ list) (take-append-le (len - before) block (more ++ last) (omega (arith, begins, ends)))
+  where
+    more : List BufferedComment
+    more = drop (before + length block) all
+
+    whole : all ++ last ≡ kept ++ (block ++ (more ++ last))
+    whole =
+        ap (λ list. list ++ last) (sym (take-append-drop (before + length block) all) ∙ ap (λ list. list ++ more) order)
+        ∙ append_assoc (kept ++ block) more last
+        ∙ append_assoc kept block (more ++ last)
+
+    split : len ≡ length kept + (len - before)
+    split = omega (arith, counted, begins)
+
+-- a block that is taken off leaves the comments before it
+pub cut-step : (all : List BufferedComment) (old new : List Block) (block : Block) (before count : ℕ)
+    → before ≡ length (of_blocks old) → take before all ≡ of_blocks old → old ≡ new ++ block ∷ [] → count ≡ length block.value.items
+    → (before - count ≡ length (of_blocks new)) × (take (before - count) all ≡ of_blocks new)
+cut-step all old new block before count counted begins e size = (left, first)
+  where
+    apart : of_blocks old ≡ of_blocks new ++ block.value.items
+    apart = of-blocks-end old new block e
+
+    sum : length (of_blocks old) ≡ length (of_blocks new) + length block.value.items
+    sum = ap length apart ∙ length-append (of_blocks new) block.value.items
+
+    left : before - count ≡ length (of_blocks new)
+    left = omega (arith, counted, size, sum)
+
+    first : take (before - count) all ≡ of_blocks new
+    first =
+        ap (take (before - count)) (sym (take-append-drop before all))
+        ∙ take-append-le (before - count) (take before all) _ (rw begins (omega (arith, left, sum)))
+        ∙ ap (take (before - count)) (begins ∙ apart)
+        ∙ ap (λ n. take n (of_blocks new ++ block.value.items)) left
+        ∙ take-append_seam (of_blocks new) block.value.items
+
+-- comments that stand behind those of the blocks
+pub cut-behind : (kept last now : List BufferedComment) (count len : ℕ) → count ≡ length kept → count ≤ len → now ≡ take (len - count) last → kept ++ now ≡ take len (kept ++ last)
+cut-behind kept last now count len counted behind e =
+    let split : len ≡ length kept + (len - count) = omega (arith, counted, behind) in
+    ap (λ list. kept ++ list) e ∙ sym (ap (λ n. take n (kept ++ last)) split ∙ take-append-add kept last (len - count))
+
+-- what is left where a block was cut off, and some of its comments stand behind the others
+
+cut-borrowed : (old new : List Block) (block : Block) (before len : ℕ) → CutsBlock old new block before len → All IsBorrowed (of_blocks old)
+    → All IsBorrowed (of_blocks new ++ block.value.items)
+cut-borrowed old new block before len cut all = subst (All IsBorrowed) cut.order (All-take IsBorrowed (before + length block.value.items) (of_blocks old) all)
+
+-- the copies of its first comments do not allocate
+pub first-borrowed : (old new : List Block) (block : Block) (before len n : ℕ) → CutsBlock old new block before len → All IsBorrowed (of_blocks old)
+    → All IsBorrowed (take n block.value.items)
+first-borrowed old new block before len n cut all =
+    All-take IsBorrowed n block.value.items (all-behind IsBorrowed (of_blocks new) block.value.items (cut-borrowed old new block before len cut all))
+
+-- copies of its first comments, behind none
+pub put-first : {A B : Type 0} → (old new : List Block) (block : Block) (before len : ℕ) (result : Result A B) (cleared slice now : List BufferedComment) → CutsBlock old new block before len
+    → All IsBorrowed (of_blocks old) → OnOk result (now ≡ cleared ++ take (len - before) slice) → (All IsBorrowed (take (len - before) slice) → IsOk result)
+    → cleared ≡ [] → slice ≡ block.value.items → now ≡ take (len - before) block.value.items
+put-first old new block before len result cleared slice now cut all copied free none same =
+    where-ok result copied (free (subst (λ list. All IsBorrowed (take (len - before) list)) (sym same) (first-borrowed old new block before len (len - before) cut all)))
+    ∙ ap (λ list. list ++ take (len - before) slice) none
+    ∙ ap (take (len - before)) same
+
+pub cut-list : (old new : List Block) (block : Block) (last kept : List BufferedComment) (before len : ℕ) → CutsBlock old new block before len
+    → kept ≡ take (len - before) block.value.items → of_blocks new ++ kept ≡ take len (of_blocks old ++ last)
+cut-list old new block last kept before len cut e =
+    ap (λ list. of_blocks new ++ list) e ∙ sym (cut-first (of_blocks old) (of_blocks new) block.value.items last before len cut.order cut.counted cut.begins cut.ends)
+
+pub cut-shared : (old new : List Block) (block : Block) (count others room before len kept now : ℕ) → CutsBlock old new block before len
+    → AreShared (of_blocks old) count others room → len < count → kept ≡ len - before → now ≡ room → AreShared (of_blocks new) before kept now
+cut-shared old new block count others room before len kept now cut are within size same =
+    let begins = cut.begins in
+    let fits = are.fits in
+    record {
+      borrowed = all-before IsBorrowed _ _ (cut-borrowed old new block before len cut are.borrowed);
+      counted = cut.counted;
+      fits = omega (arith, begins, fits, within, size, same);
+    }
+
+pub first-length : (old new : List Block) (block : Block) (before len : ℕ) → CutsBlock old new block before len
+    → length (take (len - before) block.value.items) ≡ len - before
+first-length old new block before len cut =
+    let begins = cut.begins in
+    let ends = cut.ends in
+    length-take-le (len - before) block.value.items (omega (arith, begins, ends))

@@ -1,5 +1,5 @@
 -- What a buffer of comments keeps.
-use Rattle.std.specs.Prelude.{List}
+use Rattle.std.specs.Prelude.{◌≡◌, List, length, take}
 use Rattle.ecma_comments.specs.declared.comments_buffer.BufferedComment.{BufferedComment}
 
 pub record CommentsValue : Type 0 where
@@ -7,3 +7,7 @@ pub record CommentsValue : Type 0 where
   pub comments : List BufferedComment
   -- those that wait for the next token, in order
   pub pending_leading : List BufferedComment
+
+-- the second list begins with the first
+abbrev pub Begins : List BufferedComment → List BufferedComment → Type 0
+Begins first second = take (length first) second ≡ first

@@ -1,5 +1,5 @@
 -- Lists of comments that copies share in part.
-use Rattle.std.specs.Prelude.{◌≡◌, ℕ, ◌+◌, ◌≤◌, List, length, IsTrue, Vec}
+use Rattle.std.specs.Prelude.{◌≡◌, ℕ, ◌+◌, ◌<◌, ◌≤◌, List, ◌++◌, length, take, IsTrue, Vec}
 use Rattle.std.specs.Global.{Global}
 use Rattle.std.specs.List.{All, flat_map}
 use Rattle.std.specs.declared.sync.Arc.{Arc}
@@ -21,3 +21,10 @@ pub record AreShared (shared : List BufferedComment) (count others room : ℕ) :
   pub borrowed : All IsBorrowed shared
   pub counted : count ≡ length shared
   pub fits : count + others ≤ room
+
+-- a block was cut off that has the comment behind the first so many: the blocks before it stay, with so many comments
+pub record CutsBlock (old new : List Block) (block : Block) (before len : ℕ) : Type 0 where
+  pub order : take (before + length block.value.items) (of_blocks old) ≡ of_blocks new ++ block.value.items
+  pub counted : before ≡ length (of_blocks new)
+  pub begins : before ≤ len
+  pub ends : len < before + length block.value.items

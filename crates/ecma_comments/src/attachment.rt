@@ -1,6 +1,7 @@
 //! Which token each comment of a read belongs to, and on which side of it the comment is: our own choice.
-ghost use Rattle.std.specs.Prelude.{◌≡◌, ◌++◌, ◌∷◌, [], IsOk, OnOk};
+ghost use Rattle.std.specs.Prelude.{◌≡◌, ◌++◌, ◌∷◌, [], IsOk, OnErr, OnOk};
 ghost use Rattle.ecma_comments.specs.Attachment.{attachment, for_next, of_next, of_previous};
+ghost use Rattle.ecma_comments.specs.Buffers.{Begins};
 
 use crate::comments_buffer::{BufferedComment, BufferedCommentKind, CommentsBuffer};
 use ecma_place::{BytePos, Comment};
@@ -51,6 +52,7 @@ impl<'a> CommentsBuffer<'a> {
     ) -> Result<(), AllocError>
         ensures comments { OnOk result (self.new.comments ≡ self.old.comments ++ of_previous around ((comment.entry, is_for_next) ∷ [])) }
         ensures waiting { OnOk result (self.new.pending_leading ≡ self.old.pending_leading ++ of_next around ((comment.entry, is_for_next) ∷ [])) }
+        ensures begins { Begins self.old.comments self.new.comments }
     {
         if is_for_next {
             self.push_pending_leading(around.waiting(comment))
@@ -71,6 +73,7 @@ impl<'a> CommentsBuffer<'a> {
     ) -> Result<(), AllocError>
         ensures comments { OnOk result (self.new.comments ≡ self.old.comments ++ of_previous around found.entry.items) }
         ensures waiting { OnOk result (self.new.pending_leading ≡ self.old.pending_leading ++ of_next around found.entry.items) }
+        ensures begins { Begins self.old.comments self.new.comments }
         ensures free { found.entry.items ≡ [] → IsOk result }
     {
         'found: for (comment, is_for_next) in found {
@@ -88,10 +91,28 @@ impl<'a> CommentsBuffer<'a> {
     ) -> Result<(), AllocError>
         ensures comments { OnOk result (self.new.comments ≡ self.old.comments ++ of_previous around (of_gap.entry.items ++ of_token.entry.items)) }
         ensures waiting { OnOk result (self.new.pending_leading ≡ self.old.pending_leading ++ of_next around (of_gap.entry.items ++ of_token.entry.items)) }
+        ensures begins { Begins self.old.comments self.new.comments }
         ensures free { of_gap.entry.items ++ of_token.entry.items ≡ [] → IsOk result }
     {
         self.attach_each(around, of_gap)?;
         self.attach_each(around, of_token)
+    }
+
+    /// Adds the comments of a read, and puts those for the next token behind the others.
+    fn attach_all(
+        &mut self,
+        around: Around,
+        of_gap: Vec<(Comment<'a>, bool)>,
+        of_token: Vec<(Comment<'a>, bool)>,
+    ) -> Result<(), AllocError>
+        requires { self.old.pending_leading ≡ [] }
+        ensures ok { OnOk result (self.new.comments ≡ self.old.comments ++ attachment around (of_gap.entry.items ++ of_token.entry.items)) }
+        ensures none { OnOk result (self.new.pending_leading ≡ []) }
+        ensures begins { Begins self.old.comments self.new.comments }
+        ensures free { of_gap.entry.items ++ of_token.entry.items ≡ [] → IsOk result }
+    {
+        self.attach_both(around, of_gap, of_token)?;
+        self.settle()
     }
 
     /// Takes in the comments of a read, those of the gap and those in the token, each with whether it is for the next token:
@@ -101,7 +122,7 @@ impl<'a> CommentsBuffer<'a> {
     ///
     /// # Errors
     ///
-    /// `AllocError` where there is no memory for them. Some of them are then lost.
+    /// `AllocError` where there is no memory for them. Nothing is then changed.
     pub fn attach(
         &mut self,
         around: Around,
@@ -110,17 +131,19 @@ impl<'a> CommentsBuffer<'a> {
     ) -> Result<(), AllocError>
         requires { self.old.pending_leading ≡ [] }
         ensures ok { OnOk result (self.new.comments ≡ self.old.comments ++ attachment around (of_gap.entry.items ++ of_token.entry.items)) }
+        ensures err { OnErr result (self.new.comments ≡ self.old.comments) }
         ensures none { self.new.pending_leading ≡ [] }
         ensures free { of_gap.entry.items ++ of_token.entry.items ≡ [] → IsOk result }
     {
         if of_gap.is_empty() && of_token.is_empty() {
             return Ok(());
         }
-        let attached = self.attach_both(around, of_gap, of_token);
+        let before = self.len();
+        let attached = self.attach_all(around, of_gap, of_token);
         if attached.is_err() {
+            self.truncate(before);
             let _ = self.take_pending_leading();
-            return attached;
         }
-        self.settle()
+        attached
     }
 }

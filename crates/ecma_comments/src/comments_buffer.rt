@@ -1,5 +1,5 @@
 //! Comments that a lexer gathers, each with the place that it belongs to.
-ghost use Rattle.std.specs.Prelude.{◌≡◌, ◌++◌, ◌∷◌, [], map, IsTrue, IsOk, IfOk, OnOk, OnErr};
+ghost use Rattle.std.specs.Prelude.{◌≡◌, ◌++◌, ◌∷◌, [], length, map, take, IsTrue, IsOk, IfOk, OnOk, OnErr};
 
 use crate::hand_over::give_from_last;
 use crate::shared_comments::{SharedComments, add_copies};
@@ -107,6 +107,20 @@ impl<'a> CommentsBuffer<'a> {
         Ok(())
     }
 
+    /// How many comments have their token.
+    pub fn len(&self) -> usize
+        ensures { result ≡ length self.now.comments }
+    {
+        self.comments.len()
+    }
+
+    /// Keeps the first `len` of the comments that have their token alone, which does not allocate.
+    pub fn truncate(&mut self, len: usize)
+        ensures { self.new ≡ record self.old { comments = take len self.old.comments } }
+    {
+        self.comments.truncate(len);
+    }
+
     /// Takes the comments that have their token, in the order in which they were added, which does not allocate.
     pub fn take_comments(&mut self) -> Vec<BufferedComment<'a>>
         ensures taken { result.items ≡ self.old.comments }
@@ -145,9 +159,10 @@ impl<'a> CommentsBuffer<'a> {
     ///
     /// # Errors
     ///
-    /// `AllocError` where there is no memory for them. They are then lost.
+    /// `AllocError` where there is no memory for them. Those that wait are then lost.
     pub(crate) fn settle(&mut self) -> Result<(), AllocError>
         ensures ok { OnOk result (self.new.comments ≡ self.old.comments ++ self.old.pending_leading) }
+        ensures err { OnErr result (self.new.comments ≡ self.old.comments) }
         ensures none { self.new.pending_leading ≡ [] }
         ensures free { self.old.pending_leading ≡ [] → IsOk result }
     {

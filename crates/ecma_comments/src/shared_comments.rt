@@ -1,7 +1,7 @@
 //! Comments in order, most of which a list and its copies share.
-ghost use Rattle.std.specs.Prelude.{◌≡◌, ◌+◌, ◌≤◌, ◌++◌, ◌∷◌, [], length, IsTrue, IfOk, IsOk, OnOk, OnErr, vec_len, vec_capacity};
+ghost use Rattle.std.specs.Prelude.{◌≡◌, ◌+◌, ◌<◌, ◌≤◌, ◌++◌, ◌∷◌, [], length, take, IsTrue, IfOk, IfSome, IsOk, IsSome, OnOk, OnErr, vec_len, vec_capacity};
 ghost use Rattle.std.specs.List.{All};
-ghost use Rattle.ecma_comments.specs.SharedComments.{IsBorrowed, of_blocks};
+ghost use Rattle.ecma_comments.specs.SharedComments.{CutsBlock, IsBorrowed, of_blocks};
 
 use crate::comments_buffer::BufferedComment;
 use std::alloc::{AllocError, Global};
@@ -109,6 +109,28 @@ fn add_blocks<'a>(to: &mut Vec<BufferedComment<'a>>, blocks: Vec<Block<'a>>)
     }
 }
 
+/// Takes off the blocks that have none of the first `len` comments, and the block that has some of them and others: that
+/// block, and how many comments are before it.
+fn cut_block<'a>(
+    blocks: &mut Vec<Block<'a>>,
+    in_blocks: usize,
+    len: usize,
+) -> Option<(Block<'a>, usize)>
+    requires counted { in_blocks ≡ length (of_blocks blocks.old.items) }
+    requires within { len < in_blocks }
+    ensures found { IsSome result }
+    ensures cut { IfSome result (λ cut. CutsBlock blocks.old.items blocks.new.items cut.0 cut.1 len) }
+{
+    let mut before = in_blocks;
+    'blocks: while let Some(block) = blocks.pop() {
+        before -= block.len();
+        if before <= len {
+            return Some((block, before));
+        }
+    }
+    None
+}
+
 impl<'a> SharedComments<'a> {
     /// No comments, which does not allocate.
     pub(crate) fn new(alloc: Global) -> SharedComments<'a>
@@ -165,6 +187,30 @@ impl<'a> SharedComments<'a> {
         self.last.reserve(self.in_blocks + 1)?;
         self.last.push_reserved(comment);
         Ok(())
+    }
+
+    /// How many comments there are.
+    pub(crate) fn len(&self) -> usize
+        ensures { result ≡ length self.now }
+    {
+        self.in_blocks + self.last.len()
+    }
+
+    /// Keeps the first `len` comments alone, which does not allocate.
+    pub(crate) fn truncate(&mut self, len: usize)
+        ensures { self.new ≡ take len self.old }
+    {
+        if len >= self.in_blocks {
+            self.last.truncate(len - self.in_blocks);
+            return;
+        }
+        self.last.clear();
+        if let Some((block, before)) = cut_block(&mut self.blocks, self.in_blocks, len) {
+            // There is room for all, and the copy of a comment whose text is borrowed does not allocate.
+            let _ = add_copies(&mut self.last, &block.as_slice()[..len - before]);
+            self.in_blocks = before;
+        }
+        self.next_block = NextBlock::At(BLOCK);
     }
 
     /// Moves comments to the end.

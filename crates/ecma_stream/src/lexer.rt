@@ -14,6 +14,7 @@ ghost use Rattle.ecma_state.specs.Contexts.{innermost};
 ghost use Rattle.ecma_state.specs.Errors.{errors_view};
 
 mod arms;
+mod checkpoint;
 mod fork;
 mod template;
 

@@ -6,6 +6,7 @@ pub mod lexer;
 mod plain;
 pub mod tokens;
 
+pub use ecma_checkpoint::{Checkpoint, Counts};
 pub use ecma_comments::{CommentList, comment_list};
 pub use hand_over::hand_comments;
 pub use lexer::Lexer;
