@@ -8,11 +8,9 @@ use Rattle.ecma_state.specs.Disposition.{Errors}
 use Rattle.ecma_state.specs.Run.{at_place}
 use Rattle.ecma_state.specs.Session.{LexerState}
 use Rattle.ecma_state.specs.State.{StateValue, last_slash}
-use Rattle.ecma_state.specs.declared.settings.Settings.{Settings}
 use Rattle.ecma_checkpoint.specs.declared.checkpoint.Counts.{Counts}
 
 pub record CheckpointValue : Type 0 where
-  pub settings : Settings
   pub at : BytePos
   pub context : Context
   pub state : StateValue
@@ -20,16 +18,19 @@ pub record CheckpointValue : Type 0 where
   pub counts : Counts
   pub refused : Bool
 
+-- how many errors and comments a lexer has
+abbrev pub counts_of : LexerState → Counts
+counts_of l = record { recorded = length l.errors.recorded; waiting = length l.errors.waiting; comments = length l.comments }
+
 -- where a lexer is
 abbrev pub checkpoint_of : LexerState → CheckpointValue
 checkpoint_of l =
     record {
-      settings = l.settings;
       at = record { 0 = place l.input };
       context = l.context;
       state = l.state;
       reread = l.reread;
-      counts = record { recorded = length l.errors.recorded; waiting = length l.errors.waiting; comments = length l.comments };
+      counts = counts_of l;
       refused = l.refused;
     }
 
@@ -54,15 +55,21 @@ pub record ArePlaces (input : Cursor) (at opened : BytePos) (reread answered : O
 abbrev pub Fits : CheckpointValue → Cursor → Type 0
 Fits c input = ArePlaces input c.at c.state.opened c.reread (last_slash c.state.seen)
 
--- a lexer can go back to a checkpoint: it has the settings and the start place, the text fits, and there are as many errors
--- and comments
-pub record GoesBack (c : CheckpointValue) (l : LexerState) : Type 0 where
-  pub settings : l.settings ≡ c.settings
-  pub start : l.state.start ≡ c.state.start
-  pub recorded : c.counts.recorded ≤ length l.errors.recorded
-  pub waiting : c.counts.waiting ≤ length l.errors.waiting
-  pub comments : c.counts.comments ≤ length l.comments
-  pub fits : Fits c l.input
+-- there are so many errors and comments, and perhaps more
+pub record Within (few many : Counts) : Type 0 where
+  pub recorded : few.recorded ≤ many.recorded
+  pub waiting : few.waiting ≤ many.waiting
+  pub comments : few.comments ≤ many.comments
+
+-- a lexer of a text that starts at this place, which is in this text and has so many errors and comments, can go back to a
+-- checkpoint
+pub record Suits (c : CheckpointValue) (start : BytePos) (counts : Counts) (input : Cursor) : Type 0 where
+  pub from : c.state.start ≡ start
+  pub within : Within c.counts counts
+  pub fits : Fits c input
+
+abbrev pub GoesBack : CheckpointValue → LexerState → Type 0
+GoesBack c l = Suits c l.state.start (counts_of l) l.input
 
 -- the first errors of each list
 abbrev pub cut_errors : Counts → Errors → Errors

@@ -1,9 +1,8 @@
 //! Where a lexer is between two reads, as plain data: no text, and no list but the contexts. Our own.
 ghost use Rattle.std.specs.Prelude.{◌≡◌, ◌≤◌, ◌↔◌, Some, length, IsTrue, IfOk, IsOk};
-ghost use Rattle.ecma_checkpoint.specs.Checkpoints.{ArePlaces, AreSlashes, Fits, StandsSlash};
+ghost use Rattle.ecma_checkpoint.specs.Checkpoints.{ArePlaces, AreSlashes, Fits, StandsSlash, Suits, Within};
 
 use ecma_place::{BytePos, StringInput};
-use ecma_state::settings::Settings;
 use ecma_state::state::State;
 use ecma_syntax::Context;
 use std::alloc::AllocError;
@@ -18,10 +17,20 @@ pub struct Counts {
     pub comments: usize,
 }
 
+impl Counts {
+    /// Whether there are so many of `counts`.
+    fn are_within(self, counts: Counts) -> bool
+        ensures { IsTrue result ↔ Within self counts }
+    {
+        self.recorded <= counts.recorded
+            && self.waiting <= counts.waiting
+            && self.comments <= counts.comments
+    }
+}
+
 /// Where a lexer is between two reads. It names no text: [`Checkpoint::fits`] says whether it is one of a text.
 #[derive(Drop)]
 pub struct Checkpoint {
-    pub settings: Settings,
     /// The lexer's place.
     pub at: BytePos,
     pub context: Context,
@@ -38,7 +47,7 @@ impl Model for Checkpoint {
 
     ghost Value = { CheckpointValue };
 
-    ghost view = { λ c. record { settings = c.settings; at = c.at; context = c.context; state = c.state; reread = c.reread; counts = c.counts; refused = c.refused } };
+    ghost view = { λ c. record { at = c.at; context = c.context; state = c.state; reread = c.reread; counts = c.counts; refused = c.refused } };
 }
 
 /// Whether a slash is at this place of the text, and no template was opened behind it.
@@ -94,6 +103,27 @@ impl Checkpoint {
         are_places(input, self.at, self.state.opened, self.reread, slash)
     }
 
+    /// Whether it is of a text that starts at this place.
+    fn is_from(&self, start: BytePos) -> bool
+        ensures { IsTrue result ↔ (self.now.state.start ≡ start) }
+    {
+        self.state.start == start
+    }
+
+    /// Whether there are as many errors and comments as it says.
+    fn is_within(&self, counts: Counts) -> bool
+        ensures { IsTrue result ↔ Within self.now.counts counts }
+    {
+        self.counts.are_within(counts)
+    }
+
+    /// Whether a lexer can go back to it that has this start place, so many errors and comments, and is in the text of `input`.
+    pub fn suits(&self, start: BytePos, counts: Counts, input: &StringInput) -> bool
+        ensures { IsTrue result ↔ Suits self.now start counts input.now }
+    {
+        self.is_from(start) && self.is_within(counts) && self.fits(input)
+    }
+
     /// The same checkpoint. Up to 128 contexts do not allocate.
     ///
     /// # Errors
@@ -104,7 +134,6 @@ impl Checkpoint {
         ensures free { length self.now.state.contexts ≤ 128 → IsOk result }
     {
         Ok(Checkpoint {
-            settings: self.settings,
             at: self.at,
             context: self.context,
             state: self.state.copy()?,

@@ -1,4 +1,5 @@
 pub mod ArmLemmas
+pub mod CheckpointLemmas
 pub mod EndLemmas
 pub mod EndingLemmas
 pub mod ItemLemmas
