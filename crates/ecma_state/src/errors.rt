@@ -166,6 +166,7 @@ impl<'a> ErrorLists<'a> {
     ) -> Result<(), AllocError>
         ensures ok { OnOk result (errors_view self.new ≡ dispose.with_faults context.now (errors_view self.old) (map fault_view of_gap.entry.items ++ map fault_view of_token.entry.items)) }
         ensures err { OnErr result (self.new ≡ self.old) }
+        ensures begins { OnOk result (Begins self.old self.new) }
         ensures free { map fault_view of_gap.entry.items ++ map fault_view of_token.entry.items ≡ [] → IsOk result }
     {
         if of_gap.is_empty() && of_token.is_empty() {

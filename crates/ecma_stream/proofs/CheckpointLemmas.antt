@@ -1,14 +1,21 @@
 -- A lexer is where its own checkpoint says, and is one still where it went back.
-use Rattle.std.proofs.Common.{ℕ, List, map, take, ◌≡◌, ◌∙◌, ◌≤◌, Some, arith, [], refl, subst, sym, ap}
-use Rattle.std.proofs.lemmas.List.{take-map}
+use Rattle.std.specs.Prelude.{OnErr, is_err}
+use Rattle.std.proofs.Common.{ℕ, Bool, false, Result, Ok, Err, List, ◌++◌, length, map, take, ◌≡◌, ◌∙◌, ◌≤◌, Some, arith, [], refl, subst, sym, ap}
+use Rattle.std.proofs.Math.Seq.{take-append_seam}
+use Rattle.std.proofs.lemmas.List.{length-map, take-map}
 use Rattle.ecma_place.specs.Cursor.{Cursor, HasPlace, place}
 use Rattle.ecma_place.specs.declared.place.BytePos.{BytePos}
 use Rattle.ecma_token.specs.View.{error_view}
 use Rattle.ecma_token.specs.declared.error.Error.{Error}
 use Rattle.ecma_state.specs.Run.{at_place}
+use Rattle.ecma_comments.specs.Buffers.{CommentsValue}
+use Rattle.ecma_comments.specs.declared.comments_buffer.BufferedComment.{BufferedComment}
+use Rattle.ecma_state.proofs.ErrorLemmas.{cut-recorded, cut-waiting}
+use Rattle.ecma_state.specs.Errors.{Begins, ErrorsValue}
 use Rattle.ecma_state.specs.Session.{LexerValue, lexer_state}
-use Rattle.ecma_checkpoint.specs.Checkpoints.{CheckpointValue, GoesBack, checkpoint_of}
-use Rattle.ecma_stream.specs.View.{IsLexer, lexer_view}
+use Rattle.ecma_state.specs.State.{StateValue}
+use Rattle.ecma_checkpoint.specs.Checkpoints.{CheckpointValue, Fits, GoesBack, checkpoint_of, counts_of}
+use Rattle.ecma_stream.specs.View.{HasMore, IsLexer, cut_to, lexer_view}
 use Rattle.ecma_stream.specs.declared.lexer.Lexer.TheInside.{Inside}
 use Rattle.ecma_stream.proofs.SlashLemmas.{place-there, stands-moved}
 
@@ -27,14 +34,52 @@ goes-back a l shows is = subst (λ k. GoesBack (checkpoint_of (lexer_state k)) (
     }
 
 -- what always holds of a lexer still does where it went back
-pub rewound-lexer : (a b : Inside) (c : CheckpointValue) → GoesBack c (lexer_state (lexer_view a)) → b.input ≡ at_place c.at a.input → b.state ≡ c.state → b.reread ≡ c.reread
+pub rewound-lexer : (a b : Inside) (c : CheckpointValue) → Fits c a.input → b.input ≡ at_place c.at a.input → b.state ≡ c.state → b.reread ≡ c.reread
     → b.comments.pending_leading ≡ [] → IsLexer b
-rewound-lexer a b c goes input state reread pending =
-    let there : place b.input ≡ c.at.0 = ap place input ∙ place-there a.input c.at goes.fits.has_place in
-    let before = goes.fits.opened_before in
+rewound-lexer a b c fits input state reread pending =
+    let there : place b.input ≡ c.at.0 = ap place input ∙ place-there a.input c.at fits.has_place in
+    let before = fits.opened_before in
     record {
       opened = rw state (omega (arith, before, there));
       none_pending = pending;
-      answered = rw state (λ p h. stands-moved a.input b.input c.state.opened p (ap (λ i. i.start) input) (ap (λ i. i.text) input) (goes.fits.slash_answered p h));
-      reread = rw (state, reread) (λ p h. stands-moved a.input b.input c.state.opened p (ap (λ i. i.start) input) (ap (λ i. i.text) input) (goes.fits.slash_reread p h));
+      answered = rw state (λ p h. stands-moved a.input b.input c.state.opened p (ap (λ i. i.start) input) (ap (λ i. i.text) input) (fits.slash_answered p h));
+      reread = rw (state, reread) (λ p h. stands-moved a.input b.input c.state.opened p (ap (λ i. i.start) input) (ap (λ i. i.text) input) (fits.slash_reread p h));
     }
+
+-- Errors and comments that were added, and are cut off
+
+pub has-more : (a : Inside) (l : LexerValue) (state : StateValue) (errors : ErrorsValue) (comments : CommentsValue) (more : List BufferedComment) → lexer_view a ≡ l
+    → state ≡ a.state → Begins a.errors errors → comments.comments ≡ a.comments.comments ++ more
+    → HasMore l (lexer_view (record a { state = state; errors = errors; comments = comments }))
+has-more a l state errors comments more shows same begins added =
+    subst (λ k. HasMore k (lexer_view (record a { state = state; errors = errors; comments = comments }))) shows
+    (record {
+      same = ap (λ s. lexer_view (record a { state = s })) same;
+      errors = begins;
+      comments = ap (take (length a.comments.comments)) added ∙ take-append_seam a.comments.comments more;
+    })
+
+same-errors : (old : ErrorsValue) (recorded waiting : List Error) → recorded ≡ old.recorded → waiting ≡ old.waiting → (let both : ErrorsValue = record { recorded = recorded; waiting = waiting } in both ≡ old)
+same-errors old recorded waiting first second = rw (first, second) refl
+
+pub cut-more : (old now : LexerValue) → HasMore old now → cut_to (counts_of (lexer_state old)) now ≡ old
+cut-more old now more =
+    let recorded = ap (λ n. take n now.errors.recorded) (length-map old.errors.recorded error_view) ∙ cut-recorded old.errors now.errors more.errors in
+    let waiting = ap (λ n. take n now.errors.waiting) (length-map old.errors.waiting error_view) ∙ cut-waiting old.errors now.errors more.errors in
+    ap (λ e. record now { errors = e; comments = take (length old.comments) now.comments }) (same-errors old.errors _ _ recorded waiting)
+    ∙ ap (λ c. record now { errors = old.errors; comments = c }) more.comments
+    ∙ more.same
+
+-- what holds where a call was refused
+
+pub map-err : {A B P Q : Type 0} → (result : Result A B) → OnErr result P → (P → Q) → OnErr result Q
+map-err (Ok value) holds f = tt
+map-err (Err error) holds f = f holds
+
+pub on-err : {A B P : Type 0} → (result : Result A B) → P → OnErr result P
+on-err (Ok value) holds = tt
+on-err (Err error) holds = holds
+
+pub no-err : {A B : Type 0} → (Q : Type 0) (result : Result A B) (is_refused : Bool) → is_refused ≡ is_err result → is_refused ≡ false → OnErr result Q
+no-err Q (Ok value) is_refused is ok = tt
+no-err Q (Err error) is_refused is ok = cc

@@ -7,16 +7,13 @@ use Rattle.ecma_place.specs.declared.place.BytePos.{BytePos}
 use Rattle.ecma_token.specs.View.{spanned_view}
 use Rattle.ecma_token.specs.declared.token.TokenAndSpan.{TokenAndSpan}
 use Rattle.ecma_stream.specs.Ending.{most_tokens}
-use Rattle.ecma_stream.specs.View.{IsGivenAs}
 use Rattle.ecma_state.specs.Run.{is_free_read, reading_of, state_behind}
 use Rattle.ecma_state.specs.Session.{LexerValue, LexerState, lexer_state}
 
--- A read is refused memory: what the caller gave and set is as it was, and so are the errors. It is not refused where it
--- allocates nothing, nor at the end, where no slash is read again.
+-- A read is refused memory, which is kept in mind, and nothing else is changed. It is not refused where it allocates nothing,
+-- nor at the end, where no slash is read again.
 pub record IsRefusedRead (old new : LexerValue) : Type 0 where
-  pub refused : new.refused ≡ true
-  pub kept : new.errors ≡ old.errors
-  pub given : IsGivenAs old new
+  pub refused : new ≡ record old { refused = true }
   pub wanted : length old.state.contexts < 128 → is_free_read (lexer_state old) ≡ true → ⊥
   pub more : old.reread ≡ None → rest old.input ≡ [] → ⊥
 

@@ -20,7 +20,6 @@ use Rattle.ecma_state.specs.Run.{at_place, mode_of, reading_of, state_behind}
 use Rattle.ecma_state.specs.Session.{LexerValue, kept_of, lexer_state}
 use Rattle.ecma_state.specs.TokenAt.{token_at, token_comments, token_found}
 use Rattle.ecma_state.specs.declared.mode.Mode.{Mode}
-use Rattle.ecma_stream.specs.View.{IsGivenAs}
 use Rattle.ecma_stream.specs.declared.plain.Plain.{Plain}
 
 -- a read that finds this token, and nothing besides
@@ -92,8 +91,7 @@ Gives old now empty slot true =
     (option_map spanned_view slot ≡ (reading_of (lexer_state old)).found) × (lexer_state now ≡ state_behind (lexer_state old) (reading_of (lexer_state old)))
 Gives old now empty slot false = (now ≡ old) × (slot ≡ empty)
 
--- nothing is put into a slot, and neither errors nor what the caller set are changed
+-- nothing is put into a slot, and the lexer is as before
 pub record IsRefused (old now : LexerValue) (empty left : Option TokenAndSpan) : Type 0 where
   pub slot : left ≡ empty
-  pub kept : now.errors ≡ old.errors
-  pub given : IsGivenAs old now
+  pub same : now ≡ old

@@ -5,7 +5,7 @@ ghost use Rattle.ecma_token.specs.View.{error_view, spanned_view};
 ghost use Rattle.ecma_dispatch.specs.Besides.{IsBeside, TakesNone, bare, seen_beside, state_taking};
 ghost use Rattle.ecma_place.specs.Cursor.{rest};
 ghost use Rattle.ecma_stream.specs.Plain.{back_at, Gives, IsBehindGap, IsRefused};
-ghost use Rattle.ecma_stream.specs.View.{IsGivenAs};
+ghost use Rattle.ecma_stream.specs.View.{HasMore, IsGivenAs};
 ghost use Rattle.ecma_stream.specs.Slashes.{IsAnswer, MayReread, slash_answered};
 ghost use Rattle.ecma_state.specs.Session.{Session, kept_in, lexer_state, state_of};
 ghost use Rattle.ecma_state.specs.declared.step.Step.{Step};
@@ -293,13 +293,12 @@ impl<'a> Lexer<'a> {
         Ok(reading)
     }
 
-    /// Takes in what was found: the comments are attached, the contexts change, and the errors are recorded, wait or are
-    /// dropped. The errors are as before where memory is refused, and what the caller set.
-    fn take_in(&mut self, answer: Option<Kept>, besides: Besides<'a>) -> Result<(), AllocError>
+    /// Takes in what was found: the comments are attached, the errors are recorded, wait or are dropped, and the contexts
+    /// change. Where memory is refused, some of the comments and errors may have been added.
+    fn take_besides(&mut self, answer: Option<Kept>, besides: Besides<'a>) -> Result<(), AllocError>
         requires { IsAnswer self.old answer }
         ensures after { OnOk result (lexer_state self.new ≡ state_taking (lexer_state self.old) answer (seen_beside besides.entry)) }
-        ensures kept { OnErr result (self.new.errors ≡ self.old.errors) }
-        ensures given { OnErr result (IsGivenAs self.old self.new) }
+        ensures more { OnErr result (HasMore self.old self.new) }
         ensures free { length self.old.state.contexts < 128 → TakesNone besides.entry → IsOk result }
         ensures ended { answer ≡ None → TakesNone besides.entry → IsOk result }
     {
@@ -312,9 +311,26 @@ impl<'a> Lexer<'a> {
         } = besides;
         let around = self.state.around(answer);
         self.comments.attach(around, gap_comments, token_comments)?;
-        self.state.take(answer, end_flag)?;
         self.errors
-            .take_read(&self.context, gap_faults, token_faults)
+            .take_read(&self.context, gap_faults, token_faults)?;
+        self.state.take(answer, end_flag)?;
+        Ok(())
+    }
+
+    /// Takes in what was found. Nothing is changed where memory is refused.
+    fn take_in(&mut self, answer: Option<Kept>, besides: Besides<'a>) -> Result<(), AllocError>
+        requires { IsAnswer self.old answer }
+        ensures after { OnOk result (lexer_state self.new ≡ state_taking (lexer_state self.old) answer (seen_beside besides.entry)) }
+        ensures err { OnErr result (self.new ≡ self.old) }
+        ensures free { length self.old.state.contexts < 128 → TakesNone besides.entry → IsOk result }
+        ensures ended { answer ≡ None → TakesNone besides.entry → IsOk result }
+    {
+        let counts = self.counts();
+        let taken = self.take_besides(answer, besides);
+        if taken.is_err() {
+            self.cut(counts);
+        }
+        taken
     }
 
     /// Takes in a token that was found with nothing else to report: the contexts change. Nothing does where memory is refused.
@@ -338,8 +354,12 @@ impl<'a> Lexer<'a> {
         ensures free { length self.old.state.contexts < 128 → is_free_read (lexer_state self.old) ≡ true → IsOk result }
         ensures ended { self.old.reread ≡ None → rest self.old.input ≡ [] → IsOk result }
     {
+        let stood = self.input.clone()?;
         let Reading { found, besides } = self.find()?;
-        self.take_in(Kept::of_answer(&found), besides)?;
+        if let Err(refused) = self.take_in(Kept::of_answer(&found), besides) {
+            self.input = stood;
+            return Err(refused);
+        }
         *slot = found;
         Ok(())
     }
@@ -349,8 +369,7 @@ impl<'a> Lexer<'a> {
     fn next_answer(&mut self) -> Result<Option<TokenAndSpan<'a>>, AllocError>
         ensures answer { IfOk result (λ answer. option_map spanned_view answer ≡ (reading_of (lexer_state self.old)).found) }
         ensures after { OnOk result (lexer_state self.new ≡ state_behind (lexer_state self.old) (reading_of (lexer_state self.old))) }
-        ensures kept { OnErr result (self.new.errors ≡ self.old.errors) }
-        ensures given { OnErr result (IsGivenAs self.old self.new) }
+        ensures err { OnErr result (self.new ≡ self.old) }
         ensures free { length self.old.state.contexts < 128 → is_free_read (lexer_state self.old) ≡ true → IsOk result }
         ensures ended { self.old.reread ≡ None → rest self.old.input ≡ [] → IsOk result }
     {
@@ -371,9 +390,7 @@ impl<'a> Lexer<'a> {
         ensures after { OnOk result (lexer_state self.new ≡ state_behind (lexer_state self.old) (reading_of (lexer_state self.old))) }
         ensures slot { OnErr result (slot.new ≡ slot.old) }
         ensures refused { self.old.refused ≡ true → (result ≡ Err alloc_error) × (self.new ≡ self.old) }
-        ensures refusal { OnErr result (self.new.refused ≡ true) }
-        ensures kept { OnErr result (self.new.errors ≡ self.old.errors) }
-        ensures given { OnErr result (IsGivenAs self.old self.new) }
+        ensures refusal { OnErr result (self.new ≡ record self.old { refused = true }) }
         ensures free { self.old.refused ≡ false → length self.old.state.contexts < 128
             → is_free_read (lexer_state self.old) ≡ true → IsOk result }
         ensures ended { self.old.refused ≡ false → self.old.reread ≡ None → rest self.old.input ≡ [] → IsOk result }
@@ -396,8 +413,8 @@ impl<'a> Lexer<'a> {
     ///
     /// # Errors
     ///
-    /// `AllocError` where there is no memory. The errors are then as before, and so are context, syntax, target and start
-    /// place; each later read answers the same.
+    /// `AllocError` where there is no memory. Nothing is then changed, but that each later read answers the same, until the
+    /// lexer goes back to a checkpoint of before.
     #[inline(always)]
     pub fn read(&mut self) -> Result<Option<TokenAndSpan<'a>>, AllocError>
         // One step of the run, from any session.
@@ -409,9 +426,7 @@ impl<'a> Lexer<'a> {
         // Once the end was answered, it is answered again, where no slash is read again.
         ensures again { self.old.reread ≡ None → IfOk result (λ answer. answer ≡ None → (reading_of (lexer_state self.new)).found ≡ None) }
         ensures refused { self.old.refused ≡ true → (result ≡ Err alloc_error) × (self.new ≡ self.old) }
-        ensures refusal { OnErr result (self.new.refused ≡ true) }
-        ensures kept { OnErr result (self.new.errors ≡ self.old.errors) }
-        ensures given { OnErr result (IsGivenAs self.old self.new) }
+        ensures refusal { OnErr result (self.new ≡ record self.old { refused = true }) }
         ensures free { self.old.refused ≡ false → length self.old.state.contexts < 128
             → is_free_read (lexer_state self.old) ≡ true → IsOk result }
         // The end does not allocate, where no slash is read again.

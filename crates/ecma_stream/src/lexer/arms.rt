@@ -60,10 +60,13 @@ impl<'a> Lexer<'a> {
         requires found { reading (mode_of (lexer_state self.old)) (at_place before self.old.input) ≡ plain_reading (spanned_view plain.token) self.old.input }
         requires kept { IsKept plain }
         ensures done { OnOk result (Gives (back_at before self.old) self.new slot.old slot.new true) }
-        ensures refused { OnErr result (IsRefused self.old self.new slot.old slot.new) }
+        ensures refused { OnErr result (IsRefused (back_at before self.old) self.new slot.old slot.new) }
         ensures free { length self.old.state.contexts < 128 → IsOk result }
     {
-        self.take_plain(plain.kept)?;
+        if let Err(refused) = self.take_plain(plain.kept) {
+            self.go_before(before);
+            return Err(refused);
+        }
         put(slot, plain.token);
         Ok(())
     }
@@ -89,7 +92,7 @@ impl<'a> Lexer<'a> {
         requires behind { IsBehindGap before self.old gap }
         requires begins { begins_word gap.next ≡ true }
         ensures done { IfOk result (λ done. Gives (back_at before self.old) self.new slot.old slot.new done) }
-        ensures refused { OnErr result (IsRefused self.old self.new slot.old slot.new) }
+        ensures refused { OnErr result (IsRefused (back_at before self.old) self.new slot.old slot.new) }
         ensures free { length self.old.state.contexts < 128 → IsOk result }
     {
         let start = self.input.cur_pos();
@@ -120,7 +123,7 @@ impl<'a> Lexer<'a> {
         requires behind { IsBehindGap before self.old gap }
         requires begins { begins_word gap.next ≡ true }
         ensures done { OnOk result (Gives (back_at before self.old) self.new slot.old slot.new true) }
-        ensures refused { OnErr result (IsRefused self.old self.new slot.old slot.new) }
+        ensures refused { OnErr result (IsRefused (back_at before self.old) self.new slot.old slot.new) }
         ensures free { length self.old.state.contexts < 128 → is_free_read (lexer_state (back_at before self.old)) ≡ true → IsOk result }
     {
         if self.give_word(slot, before, gap)? {
@@ -143,7 +146,7 @@ impl<'a> Lexer<'a> {
         requires spelled { IsSpelledBy gap.next kind }
         requires alone { StandsAlone (rest self.old.input) }
         ensures done { OnOk result (Gives (back_at before self.old) self.new slot.old slot.new true) }
-        ensures refused { OnErr result (IsRefused self.old self.new slot.old slot.new) }
+        ensures refused { OnErr result (IsRefused (back_at before self.old) self.new slot.old slot.new) }
         ensures free { length self.old.state.contexts < 128 → IsOk result }
     {
         let plain = plain_alone(&mut self.input, gap, kind);
@@ -161,7 +164,7 @@ impl<'a> Lexer<'a> {
         requires behind { IsBehindGap before self.old gap }
         requires opens { lookahead (mode_of (lexer_state self.old)) gap.line_break (rest self.old.input) ≡ opens.Other }
         ensures done { IfOk result (λ done. Gives (back_at before self.old) self.new slot.old slot.new done) }
-        ensures refused { OnErr result (IsRefused self.old self.new slot.old slot.new) }
+        ensures refused { OnErr result (IsRefused (back_at before self.old) self.new slot.old slot.new) }
         ensures free { length self.old.state.contexts < 128 → IsOk result }
     {
         let mode = self.mode();
@@ -189,17 +192,21 @@ impl<'a> Lexer<'a> {
         requires behind { IsBehindGap before self.old gap }
         requires opens { lookahead (mode_of (lexer_state self.old)) gap.line_break (rest self.old.input) ≡ opens.String }
         ensures done { IfOk result (λ done. Gives (back_at before self.old) self.new slot.old slot.new done) }
-        ensures refused { OnErr result (IsRefused self.old self.new slot.old slot.new) }
+        ensures refused { OnErr result (IsRefused (back_at before self.old) self.new slot.old slot.new) }
         ensures free { length self.old.state.contexts < 128 → is_free_read (lexer_state (back_at before self.old)) ≡ true → IsOk result }
     {
-        match plain_string(self.alloc, &mut self.input, gap.line_break)? {
-            Some(token) => {
+        match plain_string(self.alloc, &mut self.input, gap.line_break) {
+            Ok(Some(token)) => {
                 self.give(slot, before, with_kept(token))?;
                 Ok(true)
             }
-            None => {
+            Ok(None) => {
                 self.go_before(before);
                 Ok(false)
+            }
+            Err(refused) => {
+                self.go_before(before);
+                Err(refused)
             }
         }
     }
@@ -216,7 +223,7 @@ impl<'a> Lexer<'a> {
         requires behind { IsBehindGap before self.old gap }
         requires opens { lookahead (mode_of (lexer_state self.old)) gap.line_break (rest self.old.input) ≡ opens.String }
         ensures done { OnOk result (Gives (back_at before self.old) self.new slot.old slot.new true) }
-        ensures refused { OnErr result (IsRefused self.old self.new slot.old slot.new) }
+        ensures refused { OnErr result (IsRefused (back_at before self.old) self.new slot.old slot.new) }
         ensures free { length self.old.state.contexts < 128 → is_free_read (lexer_state (back_at before self.old)) ≡ true → IsOk result }
     {
         if self.give_string(slot, before, gap)? {
@@ -237,7 +244,7 @@ impl<'a> Lexer<'a> {
         requires behind { IsBehindGap before self.old gap }
         requires opens { lookahead (mode_of (lexer_state self.old)) gap.line_break (rest self.old.input) ≡ opens.String }
         ensures done { OnOk result (Gives (back_at before self.old) self.new slot.old slot.new true) }
-        ensures refused { OnErr result (IsRefused self.old self.new slot.old slot.new) }
+        ensures refused { OnErr result (IsRefused (back_at before self.old) self.new slot.old slot.new) }
         ensures free { length self.old.state.contexts < 128 → is_free_read (lexer_state (back_at before self.old)) ≡ true → IsOk result }
     {
         match eaten_string(&mut self.input, gap.line_break) {
@@ -257,18 +264,22 @@ impl<'a> Lexer<'a> {
         requires behind { IsBehindGap before self.old gap }
         requires opens { lookahead (mode_of (lexer_state self.old)) gap.line_break (rest self.old.input) ≡ opens.Number }
         ensures done { IfOk result (λ done. Gives (back_at before self.old) self.new slot.old slot.new done) }
-        ensures refused { OnErr result (IsRefused self.old self.new slot.old slot.new) }
+        ensures refused { OnErr result (IsRefused (back_at before self.old) self.new slot.old slot.new) }
         ensures free { length self.old.state.contexts < 128 → is_free_read (lexer_state (back_at before self.old)) ≡ true → IsOk result }
     {
         let mode = self.mode();
-        match plain_number(self.alloc, &mut self.input, &mode, gap.line_break)? {
-            Some(token) => {
+        match plain_number(self.alloc, &mut self.input, &mode, gap.line_break) {
+            Ok(Some(token)) => {
                 self.give(slot, before, with_kept(token))?;
                 Ok(true)
             }
-            None => {
+            Ok(None) => {
                 self.go_before(before);
                 Ok(false)
+            }
+            Err(refused) => {
+                self.go_before(before);
+                Err(refused)
             }
         }
     }
@@ -285,7 +296,7 @@ impl<'a> Lexer<'a> {
         requires behind { IsBehindGap before self.old gap }
         requires opens { lookahead (mode_of (lexer_state self.old)) gap.line_break (rest self.old.input) ≡ opens.Number }
         ensures done { OnOk result (Gives (back_at before self.old) self.new slot.old slot.new true) }
-        ensures refused { OnErr result (IsRefused self.old self.new slot.old slot.new) }
+        ensures refused { OnErr result (IsRefused (back_at before self.old) self.new slot.old slot.new) }
         ensures free { length self.old.state.contexts < 128 → is_free_read (lexer_state (back_at before self.old)) ≡ true → IsOk result }
     {
         if self.give_number(slot, before, gap)? {
@@ -306,7 +317,7 @@ impl<'a> Lexer<'a> {
         requires behind { IsBehindGap before self.old gap }
         requires opens { lookahead (mode_of (lexer_state self.old)) gap.line_break (rest self.old.input) ≡ opens.Number }
         ensures done { OnOk result (Gives (back_at before self.old) self.new slot.old slot.new true) }
-        ensures refused { OnErr result (IsRefused self.old self.new slot.old slot.new) }
+        ensures refused { OnErr result (IsRefused (back_at before self.old) self.new slot.old slot.new) }
         ensures free { length self.old.state.contexts < 128 → is_free_read (lexer_state (back_at before self.old)) ≡ true → IsOk result }
     {
         match eaten_number(&mut self.input, gap.line_break) {
@@ -350,7 +361,7 @@ impl<'a> Lexer<'a> {
         requires behind { IsBehindGap before self.old gap }
         requires opens { lookahead (mode_of (lexer_state self.old)) gap.line_break (rest self.old.input) ≡ opens.Other }
         ensures done { OnOk result (Gives (back_at before self.old) self.new slot.old slot.new true) }
-        ensures refused { OnErr result (IsRefused self.old self.new slot.old slot.new) }
+        ensures refused { OnErr result (IsRefused (back_at before self.old) self.new slot.old slot.new) }
         ensures free { length self.old.state.contexts < 128 → is_free_read (lexer_state (back_at before self.old)) ≡ true → IsOk result }
     {
         if self.give_punctuator(slot, before, gap)? {
@@ -370,7 +381,7 @@ impl<'a> Lexer<'a> {
     ) -> Result<(), AllocError>
         requires behind { IsBehindGap before self.old gap }
         ensures done { OnOk result (Gives (back_at before self.old) self.new slot.old slot.new true) }
-        ensures refused { OnErr result (IsRefused self.old self.new slot.old slot.new) }
+        ensures refused { OnErr result (IsRefused (back_at before self.old) self.new slot.old slot.new) }
         ensures free { length self.old.state.contexts < 128 → is_free_read (lexer_state (back_at before self.old)) ≡ true → IsOk result }
     {
         self.go_before(before);

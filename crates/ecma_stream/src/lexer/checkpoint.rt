@@ -2,6 +2,7 @@
 ghost use Rattle.std.specs.Prelude.{◌≡◌, ◌≤◌, ◌↔◌, true, false, length, IfOk, IsOk, IsTrue, OnErr};
 ghost use Rattle.ecma_state.specs.Session.{lexer_state};
 ghost use Rattle.ecma_checkpoint.specs.Checkpoints.{GoesBack, checkpoint_of, counts_of, rewound};
+ghost use Rattle.ecma_stream.specs.View.{cut_to};
 
 use super::Lexer;
 use ecma_checkpoint::{Checkpoint, Counts};
@@ -10,7 +11,7 @@ use std::alloc::AllocError;
 
 impl<'a> Lexer<'a> {
     /// How many errors and comments there are.
-    fn counts(&self) -> Counts
+    pub(super) fn counts(&self) -> Counts
         ensures { result ≡ counts_of (lexer_state self.now) }
     {
         Counts {
@@ -18,6 +19,15 @@ impl<'a> Lexer<'a> {
             waiting: self.errors.waiting.len(),
             comments: self.comments.len(),
         }
+    }
+
+    /// Keeps the first errors and comments, as many as this.
+    pub(super) fn cut(&mut self, counts: Counts)
+        ensures { self.new ≡ cut_to counts self.old }
+    {
+        self.errors.recorded.truncate(counts.recorded);
+        self.errors.waiting.truncate(counts.waiting);
+        self.comments.truncate(counts.comments);
     }
 
     /// Where this lexer is, which [`Lexer::rewind`] goes back to. Up to 128 contexts do not allocate, whatever was read.
@@ -54,13 +64,11 @@ impl<'a> Lexer<'a> {
         requires state { state ≡ to.now.state }
         ensures { lexer_state self.new ≡ rewound to.now (lexer_state self.old) }
     {
+        self.cut(to.counts);
         self.input.reset_to(to.at);
         self.context = to.context;
         self.state = state;
         self.reread = to.reread;
-        self.errors.recorded.truncate(to.counts.recorded);
-        self.errors.waiting.truncate(to.counts.waiting);
-        self.comments.truncate(to.counts.comments);
         self.refused = to.refused;
     }
 

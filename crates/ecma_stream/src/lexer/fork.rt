@@ -25,7 +25,7 @@ impl<'a> Lexer<'a> {
     ) -> Result<(), AllocError>
         requires behind { IsBehindGap before self.old gap }
         ensures done { OnOk result (Gives (back_at before self.old) self.new slot.old slot.new true) }
-        ensures refused { OnErr result (IsRefused self.old self.new slot.old slot.new) }
+        ensures refused { OnErr result (IsRefused (back_at before self.old) self.new slot.old slot.new) }
         ensures free { length self.old.state.contexts < 128 → is_free_read (lexer_state (back_at before self.old)) ≡ true → IsOk result }
     {
         let mode = self.mode();
@@ -49,7 +49,7 @@ impl<'a> Lexer<'a> {
     ) -> Result<(), AllocError>
         requires behind { IsBehindGap before self.old gap }
         ensures done { OnOk result (Gives (back_at before self.old) self.new slot.old slot.new true) }
-        ensures refused { OnErr result (IsRefused self.old self.new slot.old slot.new) }
+        ensures refused { OnErr result (IsRefused (back_at before self.old) self.new slot.old slot.new) }
         ensures free { length self.old.state.contexts < 128 → is_free_read (lexer_state (back_at before self.old)) ≡ true → IsOk result }
     {
         match alone_kind(gap.next) {
@@ -74,7 +74,7 @@ impl<'a> Lexer<'a> {
         requires next { gap.next ≡ C }
         requires alone { StandsAlone (rest self.old.input) }
         ensures done { OnOk result (Gives (back_at before self.old) self.new slot.old slot.new true) }
-        ensures refused { OnErr result (IsRefused self.old self.new slot.old slot.new) }
+        ensures refused { OnErr result (IsRefused (back_at before self.old) self.new slot.old slot.new) }
         ensures free { length self.old.state.contexts < 128 → is_free_read (lexer_state (back_at before self.old)) ≡ true → IsOk result }
     {
         match alone_kind(C) {
@@ -93,7 +93,7 @@ impl<'a> Lexer<'a> {
     ) -> Result<(), AllocError>
         requires behind { IsBehindGap before self.old gap }
         ensures done { OnOk result (Gives (back_at before self.old) self.new slot.old slot.new true) }
-        ensures refused { OnErr result (IsRefused self.old self.new slot.old slot.new) }
+        ensures refused { OnErr result (IsRefused (back_at before self.old) self.new slot.old slot.new) }
         ensures free { length self.old.state.contexts < 128 → is_free_read (lexer_state (back_at before self.old)) ≡ true → IsOk result }
     {
         if begins_word(gap.next) {

@@ -39,10 +39,13 @@ impl<'a> Lexer<'a> {
         requires found { reading (mode_of (lexer_state self.old)) (at_place before self.old.input) ≡ text_reading (spanned_view plain.token) self.old.input }
         requires kept { IsKept plain }
         ensures done { OnOk result (Gives (back_at before self.old) self.new slot.old slot.new true) }
-        ensures refused { OnErr result (IsRefused self.old self.new slot.old slot.new) }
+        ensures refused { OnErr result (IsRefused (back_at before self.old) self.new slot.old slot.new) }
         ensures free { length self.old.state.contexts < 128 → IsOk result }
     {
-        self.take_plain(plain.kept)?;
+        if let Err(refused) = self.take_plain(plain.kept) {
+            self.go_before(before);
+            return Err(refused);
+        }
         put(slot, plain.token);
         Ok(())
     }

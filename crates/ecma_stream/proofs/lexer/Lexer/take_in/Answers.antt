@@ -1,11 +1,12 @@
-use Rattle.std.proofs.Common.{refl}
-use Rattle.ecma_stream.proofs.SlashLemmas.{same-lexer, taken-lexer}
+use Rattle.std.proofs.Common.{◌∙◌, ap}
+use Rattle.ecma_stream.proofs.CheckpointLemmas.{cut-more, map-err, no-err}
+use Rattle.ecma_stream.specs.View.{cut_to}
 use Rattle.ecma_stream.proofs.lexer.Lexer.take_in.Goals as goal
 
-pub invariant_of-self-in_err-take : goal.invariant_of-self-in_err-take
-invariant_of-self-in_err-take c =
-    same-lexer c.self.inside _ c.self.invariant refl c.in_err-take.ensures.err refl c.attach.ensures.none
+pub returns-then-is_err-clause-err : goal.returns-then-is_err-clause-err
+returns-then-is_err-clause-err c =
+    map-err c.take_besides-taken.result c.take_besides-taken.ensures.more
+    (λ more. c.cut.ensures ∙ ap (λ n. cut_to n c.take_besides-taken.new.self) c.counts-counts.ensures ∙ cut-more c.args.self.now c.take_besides-taken.new.self more)
 
-pub invariant_of-self-2 : goal.invariant_of-self-2
-invariant_of-self-2 c =
-    taken-lexer c.self.inside _ c.args.self.now c.args.answer c.args.besides.end_flag c.self.view_is c.requires c.self.invariant refl refl c.in_ok-take.ensures.ok c.attach.ensures.none
+pub returns-else-is_err-clause-err : goal.returns-else-is_err-clause-err
+returns-else-is_err-clause-err c = no-err _ c.take_besides-taken.result c.is_err.result c.is_err.ensures.value c.if-is_err.false
