@@ -1,10 +1,11 @@
--- How many contexts a stack has.
+-- How many contexts a stack has, and the second of them.
 use Rattle.std.proofs.Common.{◌≡◌, ◌+◌, ◌*◌, ◌∙◌, ℕ, List, [], ◌∷◌, Option, Some, None, arith, length, ap, reverse, refl}
 use Rattle.std.proofs.lemmas.List.{length-reverse}
-use Rattle.ecma_contexts.specs.ContextPairs.{contexts_of, inside, unpaired}
+use Rattle.std.specs.List.{slice_get}
+use Rattle.ecma_contexts.specs.ContextPairs.{contexts_of, inner_of, inside, unpaired}
 use Rattle.ecma_contexts.specs.declared.context_pair.ContextPair.{ContextPair}
 use Rattle.ecma_contexts.specs.declared.token_context.TokenContext.{TokenContext}
-use Rattle.ecma_contexts.specs.Contexts.{Contexts}
+use Rattle.ecma_contexts.specs.Contexts.{around_innermost, Contexts}
 
 abbrev pub one_in : Option TokenContext → ℕ
 one_in None = 0
@@ -23,3 +24,17 @@ paired_length top under items =
     length-inside top (inside under (unpaired (reverse items)))
     ∙ ap (λ n. one_in top + n) (length-inside under (unpaired (reverse items)))
     ∙ ap (λ n. one_in top + (one_in under + n)) (length-unpaired (reverse items) ∙ ap (λ n. 2 * n) (length-reverse items))
+
+-- the context around the innermost, where it is in a pair
+pub around-paired : (top under : Option TokenContext) (pairs : List ContextPair) (all : Contexts) (p : ContextPair) (inner : TokenContext) → under ≡ None → (top ≡ None → pairs ≡ []) → contexts_of top under pairs ≡ all → Some p ≡ slice_get pairs 0 → inner ≡ inner_of p → Some inner ≡ around_innermost all
+around-paired top under [] all p inner alone none view first is = cc
+around-paired None under (q ∷ pairs) all p inner alone none view first is = cc (none refl)
+around-paired (Some t) (Some u) (q ∷ pairs) all p inner alone none view first is = cc
+around-paired (Some t) None (q ∷ pairs) all p inner alone none view first is = rw (← view) (cc)
+
+-- and where there is no pair, none
+pub around-unpaired : (top under : Option TokenContext) (pairs : List ContextPair) (all : Contexts) → under ≡ None → contexts_of top under pairs ≡ all → None ≡ slice_get pairs 0 → None ≡ around_innermost all
+around-unpaired top under (q ∷ pairs) all alone view first = cc
+around-unpaired top (Some u) [] all alone view first = cc
+around-unpaired (Some t) None [] all alone view first = rw (← view) refl
+around-unpaired None None [] all alone view first = rw (← view) refl
