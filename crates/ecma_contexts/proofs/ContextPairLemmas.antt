@@ -26,15 +26,15 @@ paired_length top under items =
     ∙ ap (λ n. one_in top + (one_in under + n)) (length-unpaired (reverse items) ∙ ap (λ n. 2 * n) (length-reverse items))
 
 -- the context around the innermost, where it is in a pair
-pub around-paired : (top under : Option TokenContext) (pairs : List ContextPair) (all : Contexts) (p : ContextPair) (inner : TokenContext) → under ≡ None → (top ≡ None → pairs ≡ []) → contexts_of top under pairs ≡ all → Some p ≡ slice_get pairs 0 → inner ≡ inner_of p → Some inner ≡ around_innermost all
-around-paired top under [] all p inner alone none view first is = cc
-around-paired None under (q ∷ pairs) all p inner alone none view first is = cc (none refl)
-around-paired (Some t) (Some u) (q ∷ pairs) all p inner alone none view first is = cc
-around-paired (Some t) None (q ∷ pairs) all p inner alone none view first is = rw (← view) (cc)
+pub around_paired : (top under : Option TokenContext) (pairs : List ContextPair) (p : ContextPair) → slice_get pairs 0 ≡ Some p → under ≡ None → (top ≡ None → pairs ≡ []) → around_innermost (contexts_of top under pairs) ≡ Some (inner_of p)
+around_paired top under [] p first alone none = cc
+around_paired None under (q ∷ pairs) p first alone none = cc (none refl)
+around_paired (Some t) (Some u) (q ∷ pairs) p first alone none = cc
+around_paired (Some t) None (q ∷ pairs) p first alone none = cc
 
 -- and where there is no pair, none
-pub around-unpaired : (top under : Option TokenContext) (pairs : List ContextPair) (all : Contexts) → under ≡ None → contexts_of top under pairs ≡ all → None ≡ slice_get pairs 0 → None ≡ around_innermost all
-around-unpaired top under (q ∷ pairs) all alone view first = cc
-around-unpaired top (Some u) [] all alone view first = cc
-around-unpaired (Some t) None [] all alone view first = rw (← view) refl
-around-unpaired None None [] all alone view first = rw (← view) refl
+pub around_unpaired : (top under : Option TokenContext) (pairs : List ContextPair) → slice_get pairs 0 ≡ None → under ≡ None → around_innermost (contexts_of top under pairs) ≡ None
+around_unpaired top under (q ∷ pairs) first alone = cc
+around_unpaired top (Some u) [] first alone = cc
+around_unpaired (Some t) None [] first alone = refl
+around_unpaired None None [] first alone = refl

@@ -91,9 +91,10 @@ impl NearPairs {
         requires { length self.old + length pairs.now ≤ 63 }
         ensures { self.new ≡ self.old ++ pairs.now }
     {
-        'pairs: for pair in pairs {
-            self.push(*pair);
-        }
+        let start = self.len as usize;
+        let end = start + pairs.len();
+        self.pairs[start..end].copy_from_slice(pairs);
+        self.len = end as u8;
     }
 
     /// Takes the outermost pairs off.

@@ -37,7 +37,7 @@ impl Model for SharedPairs {
     ghost invariant = { λ shared. HasFront shared.front };
 }
 
-/// A list of these pairs.
+/// A list of its own of the first pairs, and then the others.
 fn list_of(
     alloc: Global,
     first: &[ContextPair],
@@ -52,7 +52,8 @@ fn list_of(
     Ok(Arc::new(alloc, list)?)
 }
 
-/// Whether the list has no other owner. Then pairs are put behind its first `len`.
+/// Whether the list has no other owner. Then pairs are put behind its first `len`, in place of those that stand there;
+/// where that is refused those first ones stay.
 fn put_behind(
     list: &mut Arc<Vec<ContextPair>>,
     len: usize,
@@ -107,7 +108,7 @@ impl SharedPairs {
         }
     }
 
-    /// Takes all pairs off but the outermost `len`. The list stays as it is, for its other owners and for a copy.
+    /// Takes all pairs off but the outermost ones, as many as said. The list stays as it is, for its other owners.
     pub(crate) fn shorten(&mut self, to: usize)
         requires { to ≤ length self.old }
         ensures { self.new ≡ take to self.old }

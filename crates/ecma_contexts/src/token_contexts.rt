@@ -13,12 +13,12 @@ use std::marker::Model;
 /// Up to 128 contexts do not allocate, and a copy never does.
 #[derive(Drop)]
 pub struct TokenContexts {
+    // Those around the two below by pairs, the innermost last.
+    pairs: PairStack,
     // The innermost, where there is one: most questions are of it.
     top: Option<TokenContext>,
     // The one around it, where that is in no pair.
     under: Option<TokenContext>,
-    // Those around both by pairs, the innermost last.
-    pairs: PairStack,
 }
 
 impl Model for TokenContexts {
@@ -71,6 +71,7 @@ impl TokenContexts {
     }
 
     /// The context right around the innermost, where there is one.
+    #[tactic(auto, using(crate::proofs::ContextPairLemmas::around_paired, crate::proofs::ContextPairLemmas::around_unpaired))]
     pub fn around_current(&self) -> Option<TokenContext>
         ensures { result ≡ around_innermost self.now }
     {
