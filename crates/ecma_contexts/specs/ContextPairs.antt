@@ -1,5 +1,5 @@
 -- Two contexts in one byte, and a stack of contexts by such pairs: our own choice.
-use Rattle.std.specs.Prelude.{◌≡◌, ◌==◌, ◌≤◌, ◌^◌, ◌/◌, ◌%◌, ℕ, true, false, List, [], ◌∷◌, Option, None, Some, if◌then◌else◌, length}
+use Rattle.std.specs.Prelude.{◌≡◌, ◌==◌, ◌/◌, ◌%◌, ℕ, true, false, List, [], ◌∷◌, Option, None, Some, if◌then◌else◌}
 use Rattle.ecma_contexts.specs.declared.context_pair.ContextPair.{ContextPair}
 use Rattle.ecma_contexts.specs.declared.token_context.TokenContext.{TokenContext}
 use Rattle.ecma_contexts.specs.declared.token_context.TokenContext.TheVariants.{BraceStmt, BraceExpr, TplQuasi, ParenStmt, ParenExpr, Tpl, FnExpr, ClassExpr, JSXOpeningTag, JSXClosingTag, JSXExpr}
@@ -56,10 +56,7 @@ inside (Some c) around = c ∷ around
 abbrev pub contexts_of : Option TokenContext → Option TokenContext → List ContextPair → Contexts
 contexts_of top under pairs = inside top (inside under (unpaired pairs))
 
--- there is room for 63 pairs without an allocation, the pairs are so few that all contexts can be counted, and where there
--- is no innermost context there is none
-pub record IsStack (top under : Option TokenContext) (pairs : List ContextPair) (capacity : ℕ) : Type 0 where
-  pub room : 63 ≤ capacity
-  pub few : length pairs ≤ 2 ^ 62
+-- where there is no innermost context there is none
+pub record IsStack (top under : Option TokenContext) (pairs : List ContextPair) : Type 0 where
   pub none_under : top ≡ None → under ≡ None
   pub none_paired : top ≡ None → pairs ≡ []

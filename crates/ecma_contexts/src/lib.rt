@@ -2,6 +2,9 @@
 #![tactic(auto)]
 
 mod context_pair;
+mod near_pairs;
+mod pair_stack;
+mod shared_pairs;
 pub mod token_context;
 pub mod token_contexts;
 pub mod transition;

@@ -3,25 +3,22 @@ ghost use Rattle.std.specs.Prelude.{◌≡◌, ◌<◌, ◌≤◌, ◌==◌, [],
 ghost use Rattle.ecma_contexts.specs.Contexts.{innermost, around_innermost};
 
 use crate::context_pair::ContextPair;
+use crate::pair_stack::PairStack;
 use crate::token_context::TokenContext;
-use smallvec::SmallVec;
 use std::alloc::{AllocError, Global};
 use std::marker::Model;
 
-/// How many pairs a stack has at most, so that its contexts can be counted. No memory holds as many.
-const MOST_PAIRS: usize = 4_611_686_018_427_387_904;
-
 /// What encloses the place that is read: a stack of contexts, which contracts see as a list, the innermost first.
 ///
-/// Up to 128 contexts do not allocate.
+/// Up to 128 contexts do not allocate, and a copy never does.
 #[derive(Drop)]
 pub struct TokenContexts {
+    // Those around the two below by pairs, the innermost last.
+    pairs: PairStack,
     // The innermost, where there is one: most questions are of it.
     top: Option<TokenContext>,
     // The one around it, where that is in no pair.
     under: Option<TokenContext>,
-    // Those around both by pairs, the innermost last.
-    pairs: SmallVec<ContextPair, 63>,
 }
 
 impl Model for TokenContexts {
@@ -31,9 +28,9 @@ impl Model for TokenContexts {
 
     ghost Value = { Contexts };
 
-    ghost view = { λ c. contexts_of c.top c.under (reverse c.pairs.items) };
+    ghost view = { λ c. contexts_of c.top c.under (reverse c.pairs) };
 
-    ghost invariant = { λ c. IsStack c.top c.under (reverse c.pairs.items) c.pairs.capacity };
+    ghost invariant = { λ c. IsStack c.top c.under (reverse c.pairs) };
 }
 
 impl TokenContexts {
@@ -44,7 +41,7 @@ impl TokenContexts {
         TokenContexts {
             top: None,
             under: None,
-            pairs: SmallVec::new(alloc),
+            pairs: PairStack::new(alloc),
         }
     }
 
@@ -74,6 +71,7 @@ impl TokenContexts {
     }
 
     /// The context right around the innermost, where there is one.
+    #[tactic(auto, using(crate::proofs::ContextPairLemmas::around_paired, crate::proofs::ContextPairLemmas::around_unpaired))]
     pub fn around_current(&self) -> Option<TokenContext>
         ensures { result ≡ around_innermost self.now }
     {
@@ -124,9 +122,6 @@ impl TokenContexts {
             match self.under {
                 None => self.under = Some(top),
                 Some(under) => {
-                    if self.pairs.len() >= MOST_PAIRS {
-                        return Err(AllocError);
-                    }
                     self.pairs.push(ContextPair::of(top, under))?;
                     self.under = None;
                 }
@@ -136,22 +131,20 @@ impl TokenContexts {
         Ok(())
     }
 
-    /// The same contexts. Up to 128 do not allocate.
+    /// The same contexts, which does not allocate: stacks share what they have above 128.
     ///
     /// # Errors
     ///
-    /// `AllocError` where there is no memory for them.
+    /// `AllocError` where more than 128 are shared by as many stacks as can be counted.
     #[tactic(auto, using(crate::proofs::ContextPairLemmas::paired_length))]
     pub fn copy(&self) -> Result<TokenContexts, AllocError>
         ensures same { IfOk result (λ c. c ≡ self.now) }
         ensures free { length self.now ≤ 128 → IsOk result }
     {
-        let mut pairs = SmallVec::new(*self.pairs.allocator());
-        pairs.extend_from_slice(self.pairs.as_slice())?;
         Ok(TokenContexts {
             top: self.top,
             under: self.under,
-            pairs,
+            pairs: self.pairs.copy()?,
         })
     }
 }

@@ -1,0 +1,105 @@
+//! Stacks of contexts that share what they have above 128, beside plain lists.
+use ecma_state::{TokenContext, TokenContexts};
+use std::alloc::{AllocError, Global};
+use std::process::Abort;
+use std::test::Fail;
+
+/// The context at this depth, of which no two neighbours are the same; others in each round.
+fn in_turn(depth: usize, round: usize) -> TokenContext {
+    match (depth % 5 + round % 5) % 5 {
+        0 => TokenContext::BraceStmt,
+        1 => TokenContext::Tpl,
+        2 => TokenContext::ParenStmt { is_for_loop: true },
+        3 => TokenContext::ParenExpr,
+        _ => TokenContext::JSXExpr,
+    }
+}
+
+/// A stack, and what has to be on it, the innermost last.
+#[derive(Drop)]
+struct Beside {
+    stack: TokenContexts,
+    list: Vec<TokenContext>,
+}
+
+impl Beside {
+    fn new(alloc: Global) -> Beside {
+        Beside {
+            stack: TokenContexts::new(alloc),
+            list: Vec::new(alloc),
+        }
+    }
+
+    fn copy(&self, alloc: Global) -> Result<Beside, AllocError> {
+        Ok(Beside {
+            stack: self.stack.copy()?,
+            list: Vec::from_slice(alloc, self.list.as_slice())?,
+        })
+    }
+
+    /// What is asked of the stack is what the list says.
+    fn assert_same(&self, rt: &impl Abort) {
+        let (around, current) = match self.list.as_slice() {
+            [.., around, current] => (Some(*around), Some(*current)),
+            [current] => (None, Some(*current)),
+            _ => (None, None),
+        };
+        assert_eq!(rt; self.stack.len(), self.list.len());
+        assert_eq!(rt; self.stack.is_empty(), self.list.is_empty());
+        assert_eq!(rt; self.stack.current(), current);
+        assert_eq!(rt; self.stack.around_current(), around);
+    }
+
+    fn rise(&mut self, rt: &impl Abort, depth: usize, round: usize) -> Result<(), AllocError> {
+        for at in self.list.len()..depth {
+            self.stack.push(in_turn(at, round))?;
+            self.list.push(in_turn(at, round)).map_err(|_| AllocError)?;
+            self.assert_same(rt);
+        }
+        Ok(())
+    }
+
+    fn sink(&mut self, rt: &impl Abort, depth: usize) {
+        for _ in depth..self.list.len() {
+            assert_eq!(rt; self.stack.pop(), self.list.pop());
+            self.assert_same(rt);
+        }
+    }
+
+    /// Goes up or down to this depth.
+    fn go_to(&mut self, rt: &impl Abort, depth: usize, round: usize) -> Result<(), AllocError> {
+        self.rise(rt, depth, round)?;
+        self.sink(rt, depth);
+        Ok(())
+    }
+}
+
+/// A copy of a stack at each of these depths, between which it goes up and down.
+fn copies(rt: &impl Abort, alloc: Global, depths: &[usize]) -> Result<Vec<Beside>, AllocError> {
+    let mut copies = Vec::new(alloc);
+    let mut beside = Beside::new(alloc);
+    for (round, depth) in depths.iter().enumerate() {
+        beside.go_to(rt, *depth, round)?;
+        copies.push(beside.copy(alloc)?).map_err(|_| AllocError)?;
+    }
+    Ok(copies)
+}
+
+#[test]
+fn copies_of_deep_contexts_go_on_by_themselves(rt: HostRuntime) -> Result<(), Fail> {
+    // Around the depths at which pairs move: 64 pairs and more, and down to none near.
+    const DEPTHS: &[usize] = &[
+        127, 128, 129, 130, 120, 66, 64, 60, 131, 195, 130, 260, 126, 62, 300, 301, 1, 192, 0, 257,
+    ];
+    let alloc = rt.alloc();
+    for (round, copy) in copies(&rt, alloc, DEPTHS)?.into_iter().enumerate() {
+        let mut copy = copy;
+        copy.assert_same(&rt);
+        copy.go_to(&rt, 200, round)?;
+        let mut other = copy.copy(alloc)?;
+        other.go_to(&rt, 330, round)?;
+        copy.go_to(&rt, 0, round)?;
+        other.go_to(&rt, 0, round)?;
+    }
+    Ok(())
+}
