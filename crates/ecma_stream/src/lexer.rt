@@ -277,27 +277,17 @@ impl<'a> Lexer<'a> {
         }
     }
 
-    /// What the next read finds, behind which the cursor then is. Nothing is changed where memory is refused.
-    #[inline(always)]
-    fn find(&mut self) -> Result<Reading<'a>, AllocError>
-        ensures found { IfOk result (λ r. option_map spanned_view r.found ≡ (reading_of (lexer_state self.old)).found) }
-        ensures besides { IfOk result (λ r. IsBeside r.besides (reading_of (lexer_state self.old))) }
-        ensures moved { OnOk result (self.new ≡ record self.old { input = (reading_of (lexer_state self.old)).input }) }
-        ensures same { OnErr result (self.new ≡ self.old) }
-        ensures answer { IfOk result (λ r. IsAnswer self.new (kept_in (option_map spanned_view r.found))) }
-        ensures free { is_free_read (lexer_state self.old) ≡ true → IsOk result }
-    {
-        let mut input = self.input.clone()?;
-        let reading = self.read_on(&mut input)?;
-        self.input = input;
-        Ok(reading)
-    }
-
-    /// Takes in what was found: the comments are attached, the errors are recorded, wait or are dropped, and the contexts
-    /// change. Where memory is refused, some of the comments and errors may have been added.
-    fn take_besides(&mut self, answer: Option<Kept>, besides: Besides<'a>) -> Result<(), AllocError>
-        requires { IsAnswer self.old answer }
-        ensures after { OnOk result (lexer_state self.new ≡ state_taking (lexer_state self.old) answer (seen_beside besides.entry)) }
+    /// Takes in what a read finds, behind which the cursor then is: the comments are attached, the errors are recorded, wait
+    /// or are dropped, and the contexts change. Where memory is refused, comments and errors may have been added.
+    fn take_besides(
+        &mut self,
+        behind: StringInput<'a>,
+        answer: Option<Kept>,
+        besides: Besides<'a>,
+    ) -> Result<(), AllocError>
+        requires moved { behind ≡ (reading_of (lexer_state self.old)).input }
+        requires answer { IsAnswer (record self.old { input = behind }) answer }
+        ensures after { OnOk result (lexer_state self.new ≡ state_taking (lexer_state (record self.old { input = behind })) answer (seen_beside besides.entry)) }
         ensures more { OnErr result (HasMore self.old self.new) }
         ensures free { length self.old.state.contexts < 128 → TakesNone besides.entry → IsOk result }
         ensures ended { answer ≡ None → TakesNone besides.entry → IsOk result }
@@ -314,19 +304,26 @@ impl<'a> Lexer<'a> {
         self.errors
             .take_read(&self.context, gap_faults, token_faults)?;
         self.state.take(answer, end_flag)?;
+        self.input = behind;
         Ok(())
     }
 
-    /// Takes in what was found. Nothing is changed where memory is refused.
-    fn take_in(&mut self, answer: Option<Kept>, besides: Besides<'a>) -> Result<(), AllocError>
-        requires { IsAnswer self.old answer }
-        ensures after { OnOk result (lexer_state self.new ≡ state_taking (lexer_state self.old) answer (seen_beside besides.entry)) }
+    /// Takes in what a read finds, behind which the cursor then is. Nothing is changed where memory is refused.
+    fn take_in(
+        &mut self,
+        behind: StringInput<'a>,
+        answer: Option<Kept>,
+        besides: Besides<'a>,
+    ) -> Result<(), AllocError>
+        requires moved { behind ≡ (reading_of (lexer_state self.old)).input }
+        requires answer { IsAnswer (record self.old { input = behind }) answer }
+        ensures after { OnOk result (lexer_state self.new ≡ state_taking (lexer_state (record self.old { input = behind })) answer (seen_beside besides.entry)) }
         ensures err { OnErr result (self.new ≡ self.old) }
         ensures free { length self.old.state.contexts < 128 → TakesNone besides.entry → IsOk result }
         ensures ended { answer ≡ None → TakesNone besides.entry → IsOk result }
     {
         let counts = self.counts();
-        let taken = self.take_besides(answer, besides);
+        let taken = self.take_besides(behind, answer, besides);
         if taken.is_err() {
             self.cut(counts);
         }
@@ -354,12 +351,9 @@ impl<'a> Lexer<'a> {
         ensures free { length self.old.state.contexts < 128 → is_free_read (lexer_state self.old) ≡ true → IsOk result }
         ensures ended { self.old.reread ≡ None → rest self.old.input ≡ [] → IsOk result }
     {
-        let stood = self.input.clone()?;
-        let Reading { found, besides } = self.find()?;
-        if let Err(refused) = self.take_in(Kept::of_answer(&found), besides) {
-            self.input = stood;
-            return Err(refused);
-        }
+        let mut behind = self.input.clone()?;
+        let Reading { found, besides } = self.read_on(&mut behind)?;
+        self.take_in(behind, Kept::of_answer(&found), besides)?;
         *slot = found;
         Ok(())
     }

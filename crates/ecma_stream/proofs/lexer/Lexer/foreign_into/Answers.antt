@@ -1,9 +1,9 @@
 use Rattle.std.proofs.Common.{◌≡◌, true, ap, subst, sym, ◌∙◌}
-use Rattle.std.specs.Prelude.{OnOk}
+use Rattle.std.specs.Prelude.{OnErr, OnOk}
 use Rattle.ecma_state.specs.Reading.{reading}
 use Rattle.ecma_state.specs.Run.{mode_of}
 use Rattle.ecma_state.specs.Session.{LexerValue, lexer_state}
-use Rattle.ecma_stream.specs.Plain.{Gives}
+use Rattle.ecma_stream.specs.Plain.{Gives, IsRefused}
 use Rattle.ecma_stream.specs.View.{lexer_view}
 use Rattle.ecma_stream.proofs.ArmLemmas.{at-text, has-before, moved-lexer, text-back}
 use Rattle.ecma_stream.proofs.lexer.Lexer.foreign_into.Goals as goal
@@ -29,3 +29,8 @@ pub returns-in-Some-clause-done : goal.returns-in-Some-clause-done
 returns-in-Some-clause-done c =
     let back = text-back c.self.inside c.args.self.now c.cur_pos-before.result c.plain_foreign.new.input _ _ c.self.view_is c.cur_pos-before.ensures c.in-Some.ensures.ahead.1 c.in-Some.ensures.more.1 in
     subst (λ (k : LexerValue). OnOk c.give.result (Gives k c.give.new.self c.args.slot.now c.give.new.slot true)) back c.give.ensures.done
+
+pub returns-in-Some-clause-refused : goal.returns-in-Some-clause-refused
+returns-in-Some-clause-refused c =
+    let back = text-back c.self.inside c.args.self.now c.cur_pos-before.result c.plain_foreign.new.input _ _ c.self.view_is c.cur_pos-before.ensures c.in-Some.ensures.ahead.1 c.in-Some.ensures.more.1 in
+    subst (λ (k : LexerValue). OnErr c.give.result (IsRefused k c.give.new.self c.args.slot.now c.give.new.slot)) back c.give.ensures.refused

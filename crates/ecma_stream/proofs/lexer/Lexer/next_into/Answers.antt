@@ -1,9 +1,9 @@
 use Rattle.std.proofs.Common.{◌≡◌, ◌<◌, true, length, ap, subst, sym, ◌∙◌}
-use Rattle.std.specs.Prelude.{IsOk, OnOk}
+use Rattle.std.specs.Prelude.{IsOk, OnErr, OnOk}
 use Rattle.ecma_place.specs.Cursor.{rest}
 use Rattle.ecma_state.specs.Run.{is_free_read}
 use Rattle.ecma_state.specs.Session.{LexerValue, lexer_state}
-use Rattle.ecma_stream.specs.Plain.{Gives}
+use Rattle.ecma_stream.specs.Plain.{Gives, IsRefused}
 use Rattle.ecma_stream.proofs.ArmLemmas.{arm-back, arm-behind, moved-lexer, none-behind}
 use Rattle.ecma_stream.proofs.PlainLemmas.{none-is}
 use Rattle.ecma_stream.proofs.lexer.Lexer.next_into.Goals as goal
@@ -39,3 +39,9 @@ pub returns-in-Some-clause-ended : goal.returns-in-Some-clause-ended
 returns-in-Some-clause-ended c = λ none end.
     let stands = c.in-Some.ensures in
     absurd (none-behind c.self.inside.input c.plain_space.new.input _ _ stands.blank.moved (ap (λ k. rest k.input) c.self.view_is ∙ end) stands.next)
+
+pub returns-in-Some-clause-refused : goal.returns-in-Some-clause-refused
+returns-in-Some-clause-refused c =
+    let stands = c.in-Some.ensures in
+    let back = arm-back c.self.inside c.args.self.now c.cur_pos-before.result c.plain_space.new.input _ c.in-Some.gap.next c.self.view_is c.cur_pos-before.ensures stands.blank.moved stands.next in
+    subst (λ (k : LexerValue). OnErr c.fork.result (IsRefused k c.fork.new.self c.args.slot.now c.fork.new.slot)) back c.fork.ensures.refused

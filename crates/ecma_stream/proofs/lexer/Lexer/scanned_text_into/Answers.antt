@@ -1,10 +1,10 @@
 use Rattle.std.proofs.Common.{◌≡◌, ◌<◌, None, true, length, ap, refl, subst, sym, ◌∙◌}
-use Rattle.std.specs.Prelude.{IsOk, OnOk}
+use Rattle.std.specs.Prelude.{IsOk, OnErr, OnOk}
 use Rattle.ecma_token.specs.View.{spanned_view}
 use Rattle.ecma_state.specs.Reading.{is_free, reading}
 use Rattle.ecma_state.specs.Run.{is_free_read, mode_of}
 use Rattle.ecma_state.specs.Session.{LexerValue, lexer_state}
-use Rattle.ecma_stream.specs.Plain.{Gives, ReadsText}
+use Rattle.ecma_stream.specs.Plain.{Gives, IsRefused, ReadsText}
 use Rattle.ecma_stream.specs.View.{lexer_view}
 use Rattle.ecma_stream.proofs.ArmLemmas.{at-text, first-at, has-before, moved-lexer, text-back}
 use Rattle.ecma_stream.proofs.PlainLemmas.{free-text, text-read}
@@ -66,3 +66,14 @@ returns-in_err-plain-clause-free c = λ few h.
     let free : is_free (mode_of (lexer_state (lexer_view a))) a.input ≡ true = rw none at there in
     let never = c.in_err-plain.ensures.free (free-text c.mode-mode.result a.input _ is.0 is.1 is.2 (first-at c.self.inside c.args.self.now c.self.view_is c.requires.more.1) (ap (λ m. is_free m a.input) own ∙ free)) in
     cc
+
+pub returns-in-Some-clause-refused : goal.returns-in-Some-clause-refused
+returns-in-Some-clause-refused c =
+    let back = text-back c.self.inside c.args.self.now c.cur_pos-before.result c.plain_text.new.input _ _ c.self.view_is c.cur_pos-before.ensures c.in_ok-plain.ensures.moved (first-at c.self.inside c.args.self.now c.self.view_is c.requires.more.1) in
+    subst (λ (k : LexerValue). OnErr c.give_text.result (IsRefused k c.give_text.new.self c.args.slot.now c.give_text.new.slot)) back c.give_text.ensures.refused
+
+pub returns-in-None-clause-refused : goal.returns-in-None-clause-refused
+returns-in-None-clause-refused c =
+    let back = text-back c.self.inside c.args.self.now c.cur_pos-before.result c.plain_text.new.input _ _ c.self.view_is c.cur_pos-before.ensures c.in_ok-plain.ensures.moved (first-at c.self.inside c.args.self.now c.self.view_is c.requires.more.1) in
+    subst (λ (k : LexerValue). OnErr c.besides_into.result (IsRefused k c.besides_into.new.self c.args.slot.now c.besides_into.new.slot)) (c.go_before.ensures ∙ back)
+    c.besides_into.ensures.refused

@@ -1,5 +1,5 @@
 use Rattle.std.proofs.Common.{◌≡◌, ◌<◌, ℕ, Some, true, length, slice_get, ap, subst, sym, ◌∙◌}
-use Rattle.std.specs.Prelude.{IsOk, OnOk}
+use Rattle.std.specs.Prelude.{IsOk, OnErr, OnOk}
 use Rattle.ecma_place.specs.Cursor.{Cursor, rest}
 use Rattle.ecma_place.proofs.MoveLemmas.{place-passed-le}
 use Rattle.ecma_token.specs.View.{spanned_view}
@@ -7,7 +7,7 @@ use Rattle.ecma_state.specs.Reading.{reading}
 use Rattle.ecma_state.specs.Run.{is_free_read, mode_of}
 use Rattle.ecma_state.specs.Mode.{is_tpl_element}
 use Rattle.ecma_state.specs.Session.{LexerValue, lexer_state}
-use Rattle.ecma_stream.specs.Plain.{Gives, ReadsText}
+use Rattle.ecma_stream.specs.Plain.{Gives, IsRefused, ReadsText}
 use Rattle.ecma_stream.specs.View.{lexer_view}
 use Rattle.ecma_stream.proofs.ArmLemmas.{at-text, first-at, has-before, moved-lexer, same-back, text-back}
 use Rattle.ecma_stream.proofs.PlainLemmas.{eaten-text}
@@ -75,3 +75,20 @@ pub returns-in-Other-clause-free : goal.returns-in-Other-clause-free
 returns-in-Other-clause-free c =
     let back = same-back c.self.inside c.args.self.now c.eat_plain_template.new.input c.self.view_is (c.in-Other.ensures.found 0) in
     subst (λ (k : LexerValue). length k.state.contexts < 128 → is_free_read (lexer_state k) ≡ true → IsOk c.scanned_text_into.result) back c.scanned_text_into.ensures.free
+
+pub returns-in-Read-clause-refused : goal.returns-in-Read-clause-refused
+returns-in-Read-clause-refused c =
+    let first = first-at c.self.inside c.args.self.now c.self.view_is c.requires.more.1 in
+    let back = text-back c.self.inside c.args.self.now c.cur_pos-before.result c.eat_plain_template.new.input _ _ c.self.view_is c.cur_pos-before.ensures (c.in-Read.ensures.found 0).1 first in
+    subst (λ (k : LexerValue). OnErr c.give_text.result (IsRefused k c.give_text.new.self c.args.slot.now c.give_text.new.slot)) back c.give_text.ensures.refused
+
+pub returns-in-Unterminated-clause-refused : goal.returns-in-Unterminated-clause-refused
+returns-in-Unterminated-clause-refused c =
+    let first = first-at c.self.inside c.args.self.now c.self.view_is c.requires.more.1 in
+    let back = text-back c.self.inside c.args.self.now c.cur_pos-before.result c.eat_plain_template.new.input _ _ c.self.view_is c.cur_pos-before.ensures (c.in-Unterminated.ensures.found 0).1 first in
+    subst (λ (k : LexerValue). OnErr c.besides_into.result (IsRefused k c.besides_into.new.self c.args.slot.now c.besides_into.new.slot)) (c.go_before.ensures ∙ back) c.besides_into.ensures.refused
+
+pub returns-in-Other-clause-refused : goal.returns-in-Other-clause-refused
+returns-in-Other-clause-refused c =
+    let back = same-back c.self.inside c.args.self.now c.eat_plain_template.new.input c.self.view_is (c.in-Other.ensures.found 0) in
+    subst (λ (k : LexerValue). OnErr c.scanned_text_into.result (IsRefused k c.scanned_text_into.new.self c.args.slot.now c.scanned_text_into.new.slot)) back c.scanned_text_into.ensures.refused
