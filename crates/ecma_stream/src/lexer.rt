@@ -287,7 +287,7 @@ impl<'a> Lexer<'a> {
     ) -> Result<(), AllocError>
         requires moved { behind ≡ (reading_of (lexer_state self.old)).input }
         requires answer { IsAnswer (record self.old { input = behind }) answer }
-        ensures after { OnOk result (lexer_state self.new ≡ state_taking (lexer_state (record self.old { input = behind })) answer (seen_beside besides.entry)) }
+        ensures after { OnOk result (lexer_state self.new ≡ state_taking (lexer_state (record self.old { input = behind.entry })) answer (seen_beside besides.entry)) }
         ensures more { OnErr result (HasMore self.old self.new) }
         ensures free { length self.old.state.contexts < 128 → TakesNone besides.entry → IsOk result }
         ensures ended { answer ≡ None → TakesNone besides.entry → IsOk result }
@@ -317,7 +317,7 @@ impl<'a> Lexer<'a> {
     ) -> Result<(), AllocError>
         requires moved { behind ≡ (reading_of (lexer_state self.old)).input }
         requires answer { IsAnswer (record self.old { input = behind }) answer }
-        ensures after { OnOk result (lexer_state self.new ≡ state_taking (lexer_state (record self.old { input = behind })) answer (seen_beside besides.entry)) }
+        ensures after { OnOk result (lexer_state self.new ≡ state_taking (lexer_state (record self.old { input = behind.entry })) answer (seen_beside besides.entry)) }
         ensures err { OnErr result (self.new ≡ self.old) }
         ensures free { length self.old.state.contexts < 128 → TakesNone besides.entry → IsOk result }
         ensures ended { answer ≡ None → TakesNone besides.entry → IsOk result }

@@ -19,9 +19,11 @@ give-requires-clause-found c =
     let now = c.plain_number.new.input in
     let t = spanned_view c.in-Ok-Some.token in
     let mode = c.mode-mode.ensures ∙ ap (λ k. mode_of (lexer_state k)) (sym c.self.view_is) in
+    let token = rw c.in-Ok-Some.field-0-is at c.in-Ok-Some.ensures.token in
+    let flag = rw c.in-Ok-Some.field-0-is at c.in-Ok-Some.ensures.flag in
     let opens = ap (λ m. lookahead m gap.line_break (rest a.input)) mode ∙ ap (λ k. lookahead (mode_of (lexer_state k)) gap.line_break (rest k.input)) c.self.view_is ∙ c.requires.opens in
-    let is = plain-of-number c.mode-mode.result gap.line_break a.input now t opens c.in-Ok-Some.ensures.token c.in-Ok-Some.ensures.flag c.in-Ok-Some.ensures.moved in
-    let read = arm-read c.args.before a c.args.self.now gap t now _ c.self.view_is c.requires.behind c.in-Ok-Some.ensures.flag (subst (λ (m : Mode). IsPlain m t a.input now) mode is) c.in-Ok-Some.ensures.moved in
+    let is = plain-of-number c.mode-mode.result gap.line_break a.input now t opens token flag c.in-Ok-Some.ensures.moved in
+    let read = arm-read c.args.before a c.args.self.now gap t now _ c.self.view_is c.requires.behind flag (subst (λ (m : Mode). IsPlain m t a.input now) mode is) c.in-Ok-Some.ensures.moved in
     read ∙ ap (λ (t : TokenAndSpan). plain_reading (spanned_view t) now) (sym c.with_kept.ensures.token)
 
 pub invariant_of-self : goal.invariant_of-self

@@ -17,9 +17,11 @@ give-requires-clause-found c =
     let a = c.self.inside in
     let gap = c.args.gap in
     let now = c.plain_string.new.input in
+    let token = rw c.in-Ok-Some.field-0-is at c.in-Ok-Some.ensures.token in
+    let flag = rw c.in-Ok-Some.field-0-is at c.in-Ok-Some.ensures.flag in
     let opens = ap (λ k. lookahead (mode_of (lexer_state k)) gap.line_break (rest k.input)) c.self.view_is ∙ c.requires.opens in
-    let is = plain-of-string (mode_of (lexer_state (lexer_view a))) gap.line_break a.input now (spanned_view c.in-Ok-Some.token) opens c.in-Ok-Some.ensures.token c.in-Ok-Some.ensures.flag c.in-Ok-Some.ensures.moved in
-    let read = arm-read c.args.before a c.args.self.now gap (spanned_view c.in-Ok-Some.token) now _ c.self.view_is c.requires.behind c.in-Ok-Some.ensures.flag is c.in-Ok-Some.ensures.moved in
+    let is = plain-of-string (mode_of (lexer_state (lexer_view a))) gap.line_break a.input now (spanned_view c.in-Ok-Some.token) opens token flag c.in-Ok-Some.ensures.moved in
+    let read = arm-read c.args.before a c.args.self.now gap (spanned_view c.in-Ok-Some.token) now _ c.self.view_is c.requires.behind flag is c.in-Ok-Some.ensures.moved in
     read ∙ ap (λ (t : TokenAndSpan). plain_reading (spanned_view t) now) (sym c.with_kept.ensures.token)
 
 pub invariant_of-self : goal.invariant_of-self
