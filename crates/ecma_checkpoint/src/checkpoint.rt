@@ -124,11 +124,11 @@ impl Checkpoint {
         self.is_from(start) && self.is_within(counts) && self.fits(input)
     }
 
-    /// The same checkpoint. Up to 128 contexts do not allocate.
+    /// The same checkpoint, which does not allocate.
     ///
     /// # Errors
     ///
-    /// `AllocError` where there is no memory for the contexts.
+    /// `AllocError` as of [`State::copy`].
     pub fn copy(&self) -> Result<Checkpoint, AllocError>
         ensures same { IfOk result (λ c. c ≡ self.now) }
         ensures free { length self.now.state.contexts ≤ 128 → IsOk result }

@@ -13,6 +13,7 @@ pub use Rattle.ecma_state.specs.State
 pub use Rattle.ecma_state.specs.TokenAt
 pub use Rattle.ecma_state.specs.Transition
 pub use Rattle.ecma_dispatch.specs.Besides
+pub use Rattle.ecma_checkpoint.specs.Checkpoints
 pub use Rattle.ecma_stream.specs.Ending
 pub use Rattle.ecma_stream.specs.Items
 pub use Rattle.ecma_stream.specs.Plain

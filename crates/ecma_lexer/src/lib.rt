@@ -20,6 +20,8 @@ pub use ecma_state::{
     TokenContext, TokenContexts, comments_buffer, error_list, kept, mode, settings, state, step,
     token_context, token_contexts,
 };
-pub use ecma_stream::{CommentList, Lexer, Tokens, comment_list, hand_comments, lexer, tokens};
+pub use ecma_stream::{
+    Checkpoint, CommentList, Counts, Lexer, Tokens, comment_list, hand_comments, lexer, tokens,
+};
 pub use ecma_syntax as syntax;
 pub use ecma_token as token;

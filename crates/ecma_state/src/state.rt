@@ -284,11 +284,11 @@ impl State {
         }
     }
 
-    /// The same state. Up to 128 contexts do not allocate.
+    /// The same state, which does not allocate.
     ///
     /// # Errors
     ///
-    /// `AllocError` where there is no memory for the contexts.
+    /// `AllocError` as of [`TokenContexts::copy`].
     pub fn copy(&self) -> Result<State, AllocError>
         ensures same { IfOk result (λ s. s ≡ self.now) }
         ensures free { length self.now.contexts ≤ 128 → IsOk result }

@@ -1,10 +1,9 @@
 -- A lexer is where its own checkpoint says, and is one still where it went back.
 use Rattle.std.specs.Prelude.{OnErr, is_err}
-use Rattle.std.proofs.Common.{ℕ, Bool, false, Result, Ok, Err, List, ◌++◌, length, map, take, ◌≡◌, ◌∙◌, ◌≤◌, Some, arith, [], refl, subst, sym, ap}
+use Rattle.std.proofs.Common.{ℕ, Bool, false, Result, Ok, Err, List, ◌++◌, length, map, take, ◌≡◌, ◌∙◌, arith, [], refl, subst, sym, ap}
 use Rattle.std.proofs.Math.Seq.{take-append_seam}
 use Rattle.std.proofs.lemmas.List.{length-map, take-map}
-use Rattle.ecma_place.specs.Cursor.{Cursor, HasPlace, place}
-use Rattle.ecma_place.specs.declared.place.BytePos.{BytePos}
+use Rattle.ecma_place.specs.Cursor.{place}
 use Rattle.ecma_token.specs.View.{error_view}
 use Rattle.ecma_token.specs.declared.error.Error.{Error}
 use Rattle.ecma_state.specs.Run.{at_place}

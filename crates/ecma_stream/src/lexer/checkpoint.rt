@@ -30,11 +30,11 @@ impl<'a> Lexer<'a> {
         self.comments.truncate(counts.comments);
     }
 
-    /// Where this lexer is, which [`Lexer::rewind`] goes back to. Up to 128 contexts do not allocate, whatever was read.
+    /// Where this lexer is, which [`Lexer::rewind`] goes back to. It does not allocate, and takes as long whatever was read.
     ///
     /// # Errors
     ///
-    /// `AllocError` where there is no memory for more contexts.
+    /// `AllocError` as of [`State::copy`].
     pub fn checkpoint(&self) -> Result<Checkpoint, AllocError>
         ensures same { IfOk result (λ c. c ≡ checkpoint_of (lexer_state self.now)) }
         ensures goes { GoesBack (checkpoint_of (lexer_state self.now)) (lexer_state self.now) }
@@ -72,8 +72,8 @@ impl<'a> Lexer<'a> {
         self.refused = to.refused;
     }
 
-    /// Goes back to a checkpoint: of the errors and the comments the first are kept, as many as there were. It takes as long
-    /// as it takes to let go of the others, whatever was read before, and up to 128 contexts do not allocate.
+    /// Goes back to a checkpoint: of the errors and the comments the first are kept, as many as there were. It does not
+    /// allocate, and takes as long as it takes to let go of the others.
     ///
     /// Where no errors and no comments were taken since, all that was read behind the checkpoint is undone, also a refusal of
     /// memory. Those that were taken are not given back, and such as came behind them may stay in their places. The answer is
@@ -82,7 +82,7 @@ impl<'a> Lexer<'a> {
     ///
     /// # Errors
     ///
-    /// `AllocError` where there is no memory for more contexts. Nothing is then changed.
+    /// `AllocError` as of [`State::copy`]. Nothing is then changed.
     pub fn rewind(&mut self, to: &Checkpoint) -> Result<bool, AllocError>
         ensures goes { IfOk result (λ went. IsTrue went ↔ GoesBack to.now (lexer_state self.old)) }
         ensures back { IfOk result (λ went. went ≡ true → lexer_state self.new ≡ rewound to.now (lexer_state self.old)) }

@@ -1,4 +1,4 @@
-use Rattle.std.proofs.Common.{◌≡◌, ◌≤◌, IsTrue, arith}
+use Rattle.std.proofs.Common.{◌≤◌, arith}
 use Rattle.ecma_place.specs.Cursor.{HasPlace}
 use Rattle.ecma_checkpoint.proofs.checkpoint.are_places.Goals as goal
 

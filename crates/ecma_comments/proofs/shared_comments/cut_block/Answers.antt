@@ -1,4 +1,4 @@
-use Rattle.std.proofs.Common.{◌≡◌, ◌-◌, ◌<◌, length, arith, ap, ◌∙◌, vec_len}
+use Rattle.std.proofs.Common.{arith, ap, ◌∙◌, vec_len}
 use Rattle.ecma_comments.proofs.SharedCommentsLemmas.{cut-step}
 use Rattle.ecma_comments.proofs.shared_comments.cut_block.Goals as goal
 

@@ -1,4 +1,4 @@
-use Rattle.std.proofs.Common.{◌≡◌, ◌∙◌, ◌<◌, length, take, arith, ap, sym, true≢false}
+use Rattle.std.proofs.Common.{◌∙◌, ◌<◌, length, take, arith, ap, sym, true≢false}
 use Rattle.ecma_comments.proofs.SharedCommentsLemmas.{cut-behind, cut-list, cut-shared, first-length, put-first}
 use Rattle.ecma_comments.proofs.shared_comments.SharedComments.truncate.Goals.{in-Some, in_default}
 use Rattle.ecma_comments.proofs.shared_comments.SharedComments.truncate.Goals as goal

@@ -1,4 +1,4 @@
-use Rattle.std.proofs.Common.{◌≡◌, ◌∙◌, ap, subst, sym}
+use Rattle.std.proofs.Common.{◌∙◌, ap, subst, sym}
 use Rattle.ecma_checkpoint.specs.Checkpoints.{Fits}
 use Rattle.ecma_state.specs.Run.{at_place}
 use Rattle.ecma_stream.proofs.CheckpointLemmas.{rewound-lexer}
