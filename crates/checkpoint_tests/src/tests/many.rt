@@ -1,7 +1,8 @@
 //! More contexts, comments and errors than stand in one place.
-use super::acting::{assert_same, now};
+use super::acting::assert_same;
 use ecma_stream::{Checkpoint, Lexer};
 use listing::listing::{COLLECTING, PLAIN, STRICT, Settings, opened, set_flags};
+use listing::shown::now;
 use std::alloc::{AllocError, Global};
 use std::process::Abort;
 use std::test::Fail;
