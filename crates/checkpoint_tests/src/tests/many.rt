@@ -70,14 +70,14 @@ fn read_times(lexer: &mut Lexer, times: usize) -> Result<(), AllocError> {
     Ok(())
 }
 
-/// Reads so many tokens and goes back, twice.
+/// Reads so many tokens and goes back, twice, to a copy of a checkpoint.
 fn assert_back(
     rt: &impl Abort,
     alloc: Global,
     lexer: &mut Lexer,
     between: usize,
 ) -> Result<(), Fail> {
-    let (to, copy) = (lexer.checkpoint()?, lexer.copy()?);
+    let (to, copy) = (lexer.checkpoint()?.copy()?, lexer.copy()?);
     for _ in 0..2 {
         read_times(lexer, between)?;
         assert!(rt; lexer.rewind(&to)?);

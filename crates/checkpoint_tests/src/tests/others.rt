@@ -1,6 +1,7 @@
 //! Checkpoints of other lexers.
 use super::acting::Command::{self, Reads, Reread};
 use super::acting::{act_all, write_on, write_went};
+use ecma_place::{BytePos, StringInput};
 use ecma_stream::{Checkpoint, Lexer};
 use listing::listing::{FROM_SEVEN, PLAIN, Settings, opened};
 use std::alloc::{AllocError, Global};
@@ -150,4 +151,20 @@ fn slashes_stand_in_the_text(rt: HostRuntime) -> Result<(), Fail> {
 #[test]
 fn errors_are_as_many(rt: HostRuntime) -> Result<(), Fail> {
     assert_rows(&rt, rt.alloc(), COUNTS)
+}
+
+/// Its checkpoint is behind the slash.
+const SLASHED: Side = (PLAIN, "a/b", &[Reads(2)]);
+
+#[test]
+fn says_whether_it_fits(rt: HostRuntime) -> Result<(), Fail> {
+    let to = checkpoint_of(rt.alloc(), &SLASHED)?;
+    let start = BytePos(0);
+    assert!(rt;
+        to.fits(&StringInput::new("c/d", start))
+            && !to.fits(&StringInput::new("c", start))
+            && !to.fits(&StringInput::new("cde", start))
+            && !to.fits(&StringInput::new("/cd", start))
+    );
+    Ok(())
 }
