@@ -25,11 +25,15 @@ pub enum Answers {
     Kept,
 }
 
-/// What a lexer goes back to.
+/// What is done where the lexer saves where it is.
 #[derive(Debug, Clone, Copy, PartialEq, Eq)]
 pub enum Saves {
-    Checkpoints,
-    Copies,
+    /// A checkpoint takes the place of the one before.
+    Checkpoint,
+    /// The lexer goes back to a checkpoint right away.
+    CheckpointAndBack,
+    /// The same by a copy.
+    CopyAndBack,
 }
 
 /// Which slashes are read again as regular expressions.
@@ -37,7 +41,7 @@ pub enum Saves {
 pub enum Rereads {
     /// Those before which the lexer's own flag allows an expression.
     ByFlag,
-    /// The same, where every so many tokens the lexer goes back to where it is.
+    /// The same, with a save every so many tokens.
     ByFlagSaving(Saves, u64),
     /// Those of the tokens with these numbers, which ascend.
     Behind(Vec<u64>),
@@ -90,14 +94,15 @@ impl Measure {
 /// Those by the flag, with saves of this name every so many tokens.
 fn saving(name: &str, every: &str) -> Option<Rereads> {
     let saves = match name {
-        "save" => Saves::Checkpoints,
-        "copies" => Saves::Copies,
+        "save" => Saves::Checkpoint,
+        "back" => Saves::CheckpointAndBack,
+        "copies" => Saves::CopyAndBack,
         _ => return None,
     };
     Some(Rereads::ByFlagSaving(saves, number(every)?))
 }
 
-/// Those of the word `flag`, perhaps with `save K` or `copies K` behind it, or of words `reread K`.
+/// Those of the word `flag`, perhaps with `save K`, `back K` or `copies K` behind it, or of words `reread K`.
 fn slashes(alloc: Global, words: &[String]) -> Result<Rereads, Fault> {
     match words {
         [flag] if flag.as_str() == "flag" => Ok(Rereads::ByFlag),

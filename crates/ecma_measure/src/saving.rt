@@ -2,18 +2,19 @@
 use crate::command::Saves;
 use ecma_slashes::{Slashes, read_telling};
 use ecma_stdio::Fault;
-use ecma_stream::Lexer;
+use ecma_stream::{Checkpoint, Lexer};
 use std::alloc::AllocError;
 
-/// Remembers where the lexer is, and goes back there.
-#[inline(always)]
-fn save_and_go_back(lexer: &mut Lexer, saves: Saves) -> Result<(), AllocError> {
+/// Saves where the lexer is. A call of its own, so that the checkpoint is written.
+#[inline(never)]
+fn save(lexer: &mut Lexer, saves: Saves, kept: &mut Option<Checkpoint>) -> Result<(), AllocError> {
     match saves {
-        Saves::Checkpoints => {
+        Saves::Checkpoint => *kept = Some(lexer.checkpoint()?),
+        Saves::CheckpointAndBack => {
             let here = lexer.checkpoint()?;
             lexer.rewind(&here)?;
         }
-        Saves::Copies => {
+        Saves::CopyAndBack => {
             let copy = lexer.copy()?;
             lexer.go_back(copy);
         }
@@ -25,9 +26,10 @@ fn save_and_go_back(lexer: &mut Lexer, saves: Saves) -> Result<(), AllocError> {
 /// there are.
 pub fn read_out_saving(lexer: &mut Lexer, saves: Saves, every: u64) -> Result<u64, Fault> {
     let mut slot = None;
+    let mut kept = None;
     for before in 0..u64::MAX {
         if before % every.max(1) == 0 {
-            save_and_go_back(lexer, saves)?;
+            save(lexer, saves, &mut kept)?;
         }
         if lexer.reads_again() {
             return Err(Fault::NoSlash);

@@ -176,6 +176,7 @@ fn measures(rt: HostRuntime) -> Result<(), Fail> {
         Row::new(&["time", "1", "comments"], b"x = /a/", 0, five),
         Row::new(commented, b"/a/ ;// b=/=;;", 0, two),
         Row::new(&["time", "1", "flag", "save", "1"], b"x = /a/", 0, three),
+        Row::new(&["time", "1", "flag", "back", "1"], b"x = /a/", 0, three),
         Row::new(&["time", "1", "flag", "copies", "2"], b"x = /a/", 0, three),
     ];
     play(&rt, rt.alloc(), &rows)
