@@ -13,7 +13,7 @@ use std::test::Fail;
 /// A comment, a number with an error, a slash and a name, of 11 bytes.
 const TEXT: &str = "/*a*/1__2/b";
 
-/// What is changed of the checkpoint behind the slash, which stands at 9.
+/// What is changed of the checkpoint behind the number, or behind the slash, which stands at 9.
 #[derive(Clone, Copy)]
 enum Forgery {
     At(u32),
@@ -28,23 +28,24 @@ enum Forgery {
 
 use Forgery::{Answered, At, Comments, Opened, Recorded, Reread, Start, Waiting};
 
-/// The lexer doesn't go back, and is unchanged.
-const REFUSED: &[Forgery] = &[
-    At(12),
-    At(4_294_967_295),
-    Opened(11),
+/// How many tokens are read: the lexer doesn't go back, and is unchanged.
+const REFUSED: &[(usize, Forgery)] = &[
+    (2, At(12)),
+    (2, At(4_294_967_295)),
+    (1, Opened(10)),
+    (2, Opened(11)),
     // The slash would be before the template.
-    Opened(10),
-    Start(1),
-    Reread(8),
-    Reread(11),
-    Reread(4_294_967_295),
-    Answered(10),
-    Answered(11),
-    Recorded(2),
-    Recorded(18_446_744_073_709_551_615),
-    Waiting(1),
-    Comments(2),
+    (2, Opened(10)),
+    (2, Start(1)),
+    (2, Reread(8)),
+    (2, Reread(11)),
+    (2, Reread(4_294_967_295)),
+    (2, Answered(10)),
+    (2, Answered(11)),
+    (2, Recorded(2)),
+    (2, Recorded(18_446_744_073_709_551_615)),
+    (2, Waiting(1)),
+    (2, Comments(2)),
 ];
 
 /// The lexer goes there: what it reads on, and what it has then.
@@ -102,32 +103,39 @@ fn forge(to: &mut Checkpoint, forgery: Forgery) {
     }
 }
 
-/// Writes whether a lexer goes back to such a checkpoint, what it reads then, and what it has at the end.
+/// Writes whether a lexer goes back to such a checkpoint, behind so many tokens.
 fn write_forged(
     alloc: Global,
     out: &mut String,
     lexer: &mut Lexer,
+    reads: usize,
     forgery: Forgery,
 ) -> Result<(), AllocError> {
-    let _ = lexer.read()?;
-    let _ = lexer.read()?;
+    for _ in 0..reads {
+        let _ = lexer.read()?;
+    }
     let mut to = lexer.checkpoint()?;
     forge(&mut to, forgery);
     write_went(alloc, out, lexer, &to)
 }
 
-fn assert_refused(rt: &impl Abort, alloc: Global, forgery: Forgery) -> Result<(), Fail> {
+fn assert_refused(
+    rt: &impl Abort,
+    alloc: Global,
+    reads: usize,
+    forgery: Forgery,
+) -> Result<(), Fail> {
     let mut lexer = opened(alloc, COLLECTING, TEXT)?;
     let mut out = String::new(alloc);
-    write_forged(alloc, &mut out, &mut lexer, forgery)?;
+    write_forged(alloc, &mut out, &mut lexer, reads, forgery)?;
     assert_eq!(rt; out.as_str(), "stayed");
     Ok(())
 }
 
 #[test]
 fn places_and_counts_are_looked_at(rt: HostRuntime) -> Result<(), Fail> {
-    for forgery in REFUSED {
-        assert_refused(&rt, rt.alloc(), *forgery)?;
+    for (reads, forgery) in REFUSED {
+        assert_refused(&rt, rt.alloc(), *reads, *forgery)?;
     }
     Ok(())
 }
@@ -140,7 +148,7 @@ fn assert_went(
 ) -> Result<(), Fail> {
     let mut lexer = opened(alloc, COLLECTING, TEXT)?;
     let mut out = String::new(alloc);
-    write_forged(alloc, &mut out, &mut lexer, forgery)?;
+    write_forged(alloc, &mut out, &mut lexer, 2, forgery)?;
     write_on(&mut out, &mut lexer)?;
     write_rest(alloc, &mut out, &mut lexer)?;
     assert_eq!(rt; out.as_str(), expected);
