@@ -25,11 +25,24 @@ pub enum Answers {
     Kept,
 }
 
+/// What is done where the lexer saves where it is.
+#[derive(Debug, Clone, Copy, PartialEq, Eq)]
+pub enum Saves {
+    /// A checkpoint takes the place of the one before.
+    Checkpoint,
+    /// The lexer goes back to a checkpoint right away.
+    CheckpointAndBack,
+    /// The same by a copy.
+    CopyAndBack,
+}
+
 /// Which slashes are read again as regular expressions.
 #[derive(Debug, Drop)]
 pub enum Rereads {
     /// Those before which the lexer's own flag allows an expression.
     ByFlag,
+    /// The same, with a save every so many tokens.
+    ByFlagSaving(Saves, u64),
     /// Those of the tokens with these numbers, which ascend.
     Behind(Vec<u64>),
 }
@@ -78,10 +91,24 @@ impl Measure {
     }
 }
 
-/// Those of the word `flag`, or of words `reread K`.
+/// Those by the flag, with saves of this name every so many tokens.
+fn saving(name: &str, every: &str) -> Option<Rereads> {
+    let saves = match name {
+        "save" => Saves::Checkpoint,
+        "back" => Saves::CheckpointAndBack,
+        "copies" => Saves::CopyAndBack,
+        _ => return None,
+    };
+    Some(Rereads::ByFlagSaving(saves, number(every)?))
+}
+
+/// Those of the word `flag`, perhaps with `save K`, `back K` or `copies K` behind it, or of words `reread K`.
 fn slashes(alloc: Global, words: &[String]) -> Result<Rereads, Fault> {
     match words {
         [flag] if flag.as_str() == "flag" => Ok(Rereads::ByFlag),
+        [flag, name, every] if flag.as_str() == "flag" => {
+            saving(name.as_str(), every.as_str()).ok_or(Fault::BadWords)
+        }
         _ => Ok(Rereads::Behind(numbers(alloc, words)?)),
     }
 }

@@ -5,6 +5,7 @@
 mod command;
 mod count;
 pub mod program;
+mod saving;
 mod speed;
 mod timing;
 

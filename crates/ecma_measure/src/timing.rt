@@ -3,6 +3,7 @@ ghost use Rattle.std.specs.Prelude.{◌^◌, ◌<◌, length};
 
 use crate::command::{Answers, Measure, Rereads};
 use crate::count::options;
+use crate::saving::read_out_saving;
 use ecma_options::{begin, pass_next};
 use ecma_slashes::{Slashes, read_telling};
 use ecma_stdio::{Fault, Halt};
@@ -120,6 +121,7 @@ fn read_once(alloc: Global, asked: &Measure, text: &str) -> Result<u64, Fault>
     let mut lexer = begin(alloc, asked.comments, options(asked.typescript), text)?;
     match &asked.rereads {
         Rereads::ByFlag => read_out_by_flag(&mut lexer),
+        Rereads::ByFlagSaving(saves, every) => read_out_saving(&mut lexer, *saves, *every),
         Rereads::Behind(numbers) => read_out(&mut lexer, asked.answers, numbers.as_slice()),
     }
 }

@@ -8,12 +8,13 @@ mod faces;
 mod numbers;
 
 use refused_calls::{cover, kept, shared, whole};
-use refused_reads::{many, reading, told};
+use refused_reads::{going_back, many, reading, told};
 use std::io;
 
 fn main(rt: HostRuntime) -> io::Result<()> {
     let alloc = rt.alloc();
     reading::play(&rt, alloc)?;
+    going_back::play(&rt, alloc)?;
     many::play(&rt, alloc)?;
     kept::play(&rt, alloc)?;
     shared::play(&rt, alloc)?;

@@ -1,4 +1,4 @@
-//! A TypeScript parser looks ahead again and again, and goes back: by copies of the lexer, and by lists of steps.
+//! A TypeScript parser looks ahead again and again, and goes back: by checkpoints, and by lists of steps.
 ghost use Rattle.std.specs.Prelude.{◌<◌, ◌^◌, length};
 
 use crate::job::Job;
@@ -20,13 +20,13 @@ const AHEAD: usize = 12;
 
 /// Reads so many tokens ahead, and goes back.
 fn look_ahead(job: &mut Job, lexer: &mut Lexer, tokens: usize) -> Result<(), AllocError> {
-    let copy = lexer.copy()?;
+    let here = lexer.checkpoint()?;
     for _ in 0..tokens {
         if !keep_by_flag(lexer, &mut job.digest)? {
             break;
         }
     }
-    lexer.go_back(copy);
+    lexer.rewind(&here)?;
     Ok(())
 }
 
@@ -83,7 +83,7 @@ fn play(job: &mut Job, random: &mut Random, comments: bool, text: &str) -> Resul
     Ok(())
 }
 
-/// One text by copies, and another by steps.
+/// One text by checkpoints, and another by steps.
 fn look_twice(job: &mut Job, comments: bool, count: usize, bytes: usize) -> Result<(), AllocError> {
     let mut pool = job.pool(Sample::TypeScript)?;
     let mut random = Random::new(job.seed);

@@ -132,6 +132,9 @@ fn judges_the_words_of_measures(rt: HostRuntime) -> Result<(), Fail> {
         Row::bad(&["time", "1", "comments", "kept"]),
         Row::bad(&["time", "1", "flag", "flag"]),
         Row::bad(&["time", "1", "flag", "reread", "1"]),
+        Row::bad(&["time", "1", "flag", "save"]),
+        Row::bad(&["time", "1", "flag", "save", "0"]),
+        Row::bad(&["time", "1", "save", "1"]),
         Row::bad(&["time", "1", "reread", "1", "flag"]),
     ];
     play(&rt, rt.alloc(), &rows)
@@ -172,6 +175,9 @@ fn measures(rt: HostRuntime) -> Result<(), Fail> {
         Row::new(&["time", "1", "flag"], b"x = /a/", 0, three),
         Row::new(&["time", "1", "comments"], b"x = /a/", 0, five),
         Row::new(commented, b"/a/ ;// b=/=;;", 0, two),
+        Row::new(&["time", "1", "flag", "save", "1"], b"x = /a/", 0, three),
+        Row::new(&["time", "1", "flag", "back", "1"], b"x = /a/", 0, three),
+        Row::new(&["time", "1", "flag", "copies", "2"], b"x = /a/", 0, three),
     ];
     play(&rt, rt.alloc(), &rows)
 }

@@ -2,4 +2,5 @@
 #![tactic(auto)]
 
 pub mod listing;
+pub mod shown;
 pub mod store;

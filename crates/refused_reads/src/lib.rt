@@ -2,6 +2,7 @@
 #![tactic(auto)]
 
 pub mod asked;
+pub mod going_back;
 pub mod many;
 pub mod reading;
 pub mod rows;

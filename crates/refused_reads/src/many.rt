@@ -1,5 +1,6 @@
 //! Texts of so many comments that a lexer and its copies share some of them.
 use crate::asked::Way;
+use crate::going_back;
 use crate::reading::read_out;
 use crate::rows::opened;
 use std::alloc::{AllocError, Global};
@@ -42,14 +43,19 @@ fn made(rt: &impl Print, alloc: Global, count: usize) -> io::Result<String> {
     }
 }
 
+/// Reads a text, by copies and by checkpoints.
+fn play_text(rt: &impl Print, alloc: Global, text: &str) -> io::Result<()> {
+    println!(rt; "{SHARED}")?;
+    read_out(rt, alloc, Way::Read, &mut opened(alloc, text)?)?;
+    going_back::read_out(rt, alloc, &mut opened(alloc, text)?)?;
+    println!(rt; "{SHARED}")
+}
+
 /// Reads texts with 65 and 200 comments.
 pub fn play(rt: &impl Print, alloc: Global) -> io::Result<()> {
     for count in [1, 136] {
         let text = made(rt, alloc, count)?;
-        println!(rt; "{SHARED}")?;
-        let mut lexer = opened(alloc, text.as_str())?;
-        read_out(rt, alloc, Way::Read, &mut lexer)?;
-        println!(rt; "{SHARED}")?;
+        play_text(rt, alloc, text.as_str())?;
     }
     Ok(())
 }

@@ -1,0 +1,43 @@
+//! Reading with saves and ways back: by checkpoints, and by copies.
+use crate::command::Saves;
+use ecma_slashes::{Slashes, read_telling};
+use ecma_stdio::Fault;
+use ecma_stream::{Checkpoint, Lexer};
+use std::alloc::AllocError;
+
+/// Saves where the lexer is. A call of its own, so that the checkpoint is written.
+#[inline(never)]
+fn save(lexer: &mut Lexer, saves: Saves, kept: &mut Option<Checkpoint>) -> Result<(), AllocError> {
+    match saves {
+        Saves::Checkpoint => *kept = Some(lexer.checkpoint()?),
+        Saves::CheckpointAndBack => {
+            let here = lexer.checkpoint()?;
+            lexer.rewind(&here)?;
+        }
+        Saves::CopyAndBack => {
+            let copy = lexer.copy()?;
+            lexer.go_back(copy);
+        }
+    }
+    Ok(())
+}
+
+/// Reads to the end, and each slash again that the lexer's flag names, with a save every so many tokens. Says how many tokens
+/// there are.
+pub fn read_out_saving(lexer: &mut Lexer, saves: Saves, every: u64) -> Result<u64, Fault> {
+    let mut slot = None;
+    let mut kept = None;
+    for before in 0..u64::MAX {
+        if before % every.max(1) == 0 {
+            save(lexer, saves, &mut kept)?;
+        }
+        if lexer.reads_again() {
+            return Err(Fault::NoSlash);
+        }
+        read_telling(lexer, &mut slot, Slashes::ByFlag)?;
+        if slot.is_none() {
+            return Ok(before);
+        }
+    }
+    Err(Fault::TooLong)
+}
