@@ -1,9 +1,9 @@
 -- Lexers that go on from where others were, and go back there.
-use Rattle.std.proofs.Common.{◌≡◌, ◌∙◌, ℕ, ◌+◌, ◌≤◌, Bool, true, false, not, cond, ◌&&◌, ◌||◌, List, [], ◌∷◌, ◌++◌, Option, Some, None, arith, length, take, drop, take-append-drop, fold, refl, sym, ap, subst}
+use Rattle.std.proofs.Common.{◌≡◌, ◌∙◌, ℕ, ◌+◌, ◌≤◌, Bool, true, false, not, cond, ◌||◌, List, [], ◌∷◌, ◌++◌, Option, Some, None, arith, length, take, drop, take-append-drop, refl, sym, ap, subst}
 use Rattle.std.proofs.Math.Seq.{take-append_seam, take-length}
 use Rattle.std.proofs.lemmas.Bool.{and_parts}
 use Rattle.std.proofs.lemmas.List.{append_assoc, length-append}
-use Rattle.ecma_place.specs.Cursor.{Cursor, HasPlace, index_of, place, place_at}
+use Rattle.ecma_place.specs.Cursor.{Cursor, HasPlace, place, place_at}
 use Rattle.ecma_place.specs.Text.{Text, place_of}
 use Rattle.ecma_place.specs.declared.place.BytePos.{BytePos}
 use Rattle.ecma_token.specs.View.{ErrorView}
@@ -11,17 +11,17 @@ use Rattle.ecma_syntax.specs.declared.context.Context.{Context}
 use Rattle.ecma_comments.specs.declared.comments_buffer.BufferedComment.{BufferedComment}
 use Rattle.ecma_contexts.specs.Contexts.{Contexts}
 use Rattle.ecma_grammar.specs.Found.{Fault}
-use Rattle.ecma_state.specs.Disposition.{Disposition, Dropped, Errors, Recorded, Waiting, disposed, disposition, with_context, with_fault, with_faults}
-use Rattle.ecma_state.specs.Run.{act_all, act_on, acted_on, at_place, comments_behind, popped_from, reading_of, reread_from}
-use Rattle.ecma_state.specs.Session.{LexerState, Session, kept_in, seen_of, state_of}
+use Rattle.ecma_state.specs.Disposition.{Disposition, Dropped, Errors, Recorded, Waiting, disposed, disposition, with_fault, with_faults}
+use Rattle.ecma_state.specs.Run.{act_all, act_on, at_place, popped_from, reading_of, reread_from}
+use Rattle.ecma_state.specs.Session.{LexerState, Session, seen_of, state_of}
 use Rattle.ecma_state.specs.State.{last_slash}
 use Rattle.ecma_state.specs.TokenAt.{is_empty}
 use Rattle.ecma_state.specs.declared.settings.Settings.{Settings}
 use Rattle.ecma_state.specs.declared.step.Step.{Step}
 use Rattle.ecma_state.specs.declared.step.Step.TheVariants.{Read, SetCtx, SetExprAllowed, SetContexts, PopContext, Reread, Withdraw, Save, Back, TakeErrors}
-use Rattle.ecma_checkpoint.specs.Checkpoints.{AreSlashes, GoesBack, checkpoint_of, cut_errors, rewound}
+use Rattle.ecma_checkpoint.specs.Checkpoints.{AreSlashes}
 use Rattle.ecma_stream.proofs.SlashLemmas.{at-index, reads-from, stands-moved}
-use Rattle.ecma_rewinding.specs.Rewinding.{Begins, GoesBackTo, GoesOn, IsWithin, RefusalIsUndone, RewindingUndoes, StepsGoOn, take_none, takes_none}
+use Rattle.ecma_rewinding.specs.Rewinding.{Begins, GoesOn, IsWithin, RefusalIsUndone, RewindingUndoes, StepsGoOn, take_none, takes_none}
 
 -- Lists that begin with others
 
@@ -32,8 +32,8 @@ begins-more : {A : Type 0} (xs ys more : List A) → Begins xs ys → Begins xs 
 begins-more xs ys more begins =
     ap (take (length xs))
     (ap (λ list. list ++ more) (sym (take-append-drop (length xs) ys))
-      ∙ append_assoc (take (length xs) ys) (drop (length xs) ys) more
-      ∙ ap (λ list. list ++ (drop (length xs) ys ++ more)) begins)
+    ∙ append_assoc (take (length xs) ys) (drop (length xs) ys) more
+    ∙ ap (λ list. list ++ (drop (length xs) ys ++ more)) begins)
     ∙ take-append_seam xs (drop (length xs) ys ++ more)
 
 begins-further : {A : Type 0} (xs ys zs : List A) → Begins xs ys → Begins ys zs → Begins xs zs
@@ -181,7 +181,7 @@ same-state l settings input errors comments first second third fourth = rw (firs
 place-back : (l m : LexerState) → IsWithin l.input → GoesOn l m → at_place (record { 0 = place l.input }) m.input ≡ l.input
 place-back l m within on =
     let same : place l.input ≡ place_at m.input l.input.at =
-        ap (λ s. place_of s (take l.input.at l.input.text)) (sym on.begin) ∙ ap (λ t. place_of m.input.start (take l.input.at t)) (sym on.text) in
+    ap (λ s. place_of s (take l.input.at l.input.text)) (sym on.begin) ∙ ap (λ t. place_of m.input.start (take l.input.at t)) (sym on.text) in
     let inside : l.input.at ≤ length m.input.text = subst (λ (t : Text). l.input.at ≤ length t) (sym on.text) within in
     same-cursor l.input m.input.start m.input.text _ on.begin on.text (at-index m.input (record { 0 = place l.input }) l.input.at inside same)
 
