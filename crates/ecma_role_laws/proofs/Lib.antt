@@ -1,0 +1,10 @@
+pub mod Right
+pub mod RowsRight
+pub mod Frames
+pub mod Changes
+pub mod MovesSound
+pub mod Taken
+pub mod MovesRight
+pub mod Steps
+pub mod Texts
+pub mod Balance

@@ -1,0 +1,9 @@
+pub mod Complete
+pub mod Frames
+pub mod Members
+pub mod Modules
+pub mod Operands
+pub mod Parts
+pub mod Statements
+pub mod Table
+pub mod Types

@@ -1,0 +1,426 @@
+//! Where an operand is complete.
+ghost use Rattle.std.specs.Prelude.{◌≡◌};
+ghost use Rattle.ecma_role_table.specs.Complete as rows;
+
+use crate::frame::{FrameKind, over_candidate, over_class_head, over_declared_for, over_for};
+use crate::moves::{Angles, Change, Grouping, Move};
+use crate::part::{Name, PartKind, Reserved, Sign};
+use crate::state::State;
+
+/// A word behind an operand: in what may be type arguments one more operand, else something new.
+fn after_word(had_line_break: bool, top: Option<FrameKind>) -> Move
+    ensures { result ≡ rows.after_word had_line_break top }
+{
+    if over_candidate(top) && !had_line_break {
+        Move::Again(State::Operand, Change::Nothing)
+    } else {
+        Move::Fresh
+    }
+}
+
+/// A sign behind an operand.
+fn after_sign(
+    kind: PartKind,
+    had_line_break: bool,
+    typescript: bool,
+    top: Option<FrameKind>,
+) -> Move
+    ensures { result ≡ rows.after_sign kind had_line_break typescript top }
+{
+    match kind {
+        PartKind::Sign(Sign::Dot) => Move::To(State::Property, Change::Nothing),
+        PartKind::Sign(Sign::LParen) => Move::To(State::Operand, Change::Push(FrameKind::Call)),
+        PartKind::Sign(Sign::LBracket) => Move::To(
+            State::Operand,
+            Change::Push(FrameKind::Bracket),
+        ),
+        PartKind::Sign(Sign::LBrace) => {
+            if over_class_head(top) {
+                Move::ClassBody
+            } else {
+                Move::FreshBrace
+            }
+        }
+        PartKind::Sign(Sign::RParen) => Move::Paren,
+        PartKind::Sign(Sign::RBracket) => Move::Bracket,
+        PartKind::Sign(Sign::RBrace) => Move::Brace,
+        PartKind::Sign(Sign::Semi) => Move::Semi,
+        PartKind::Sign(Sign::Comma) => Move::Comma,
+        PartKind::Sign(Sign::Colon) => Move::Colon(Grouping::None),
+        PartKind::Sign(Sign::QuestionMark) => Move::To(
+            State::Conditional,
+            Change::Push(FrameKind::Conditional),
+        ),
+        PartKind::Sign(Sign::Arrow) => Move::To(State::ArrowBody, Change::Arrow(false)),
+        PartKind::Sign(Sign::Update) => {
+            if had_line_break {
+                Move::FreshOperand
+            } else {
+                Move::To(State::AfterPostfix, Change::Nothing)
+            }
+        }
+        PartKind::Sign(Sign::Bang) => {
+            if had_line_break {
+                Move::FreshOperand
+            } else {
+                Move::To(State::After, Change::Nothing)
+            }
+        }
+        PartKind::Sign(Sign::Tilde | Sign::At | Sign::Hash | Sign::Literal | Sign::Regex) =>
+            Move::Fresh,
+        PartKind::Sign(Sign::BackQuote) => Move::To(
+            State::Quasi,
+            Change::Push(FrameKind::Template),
+        ),
+        PartKind::Sign(Sign::Lt) => {
+            if typescript {
+                Move::To(State::Operand, Change::Push(FrameKind::Candidate))
+            } else {
+                Move::To(State::Operand, Change::Nothing)
+            }
+        }
+        PartKind::Sign(Sign::Gt) => Move::Greater(Angles::One),
+        PartKind::Sign(Sign::RShift) => Move::Greater(Angles::Two),
+        PartKind::Sign(Sign::ZeroFillRShift) => Move::Greater(Angles::Three),
+        PartKind::Sign(Sign::GtEq | Sign::RShiftEq | Sign::ZeroFillRShiftEq) => Move::To(
+            State::Operand,
+            Change::DropCandidates,
+        ),
+        _ => Move::To(State::Operand, Change::Nothing),
+    }
+}
+
+/// An operand is complete (ECMA-262, 12.1: the goal symbols that take a division).
+pub fn after_operand(
+    kind: PartKind,
+    had_line_break: bool,
+    typescript: bool,
+    top: Option<FrameKind>,
+    under: Option<FrameKind>,
+) -> Move
+    ensures { result ≡ rows.after_operand kind had_line_break typescript top under }
+{
+    match kind {
+        PartKind::Reserved(Reserved::Extends) => Move::To(State::Operand, Change::Nothing),
+        PartKind::Reserved(Reserved::In | Reserved::InstanceOf) => {
+            if over_declared_for(top, under) {
+                Move::To(State::Operand, Change::Pop)
+            } else {
+                Move::To(State::Operand, Change::Nothing)
+            }
+        }
+        PartKind::Name(Name::Of) => {
+            if over_for(top) {
+                Move::To(State::Operand, Change::Nothing)
+            } else if over_declared_for(top, under) {
+                Move::To(State::Operand, Change::Pop)
+            } else {
+                after_word(had_line_break, top)
+            }
+        }
+        PartKind::Name(Name::As | Name::Satisfies) => {
+            if had_line_break {
+                after_word(had_line_break, top)
+            } else {
+                Move::To(State::TypeOperand, Change::Push(FrameKind::Assertion))
+            }
+        }
+        PartKind::Name(Name::Implements) => {
+            if over_class_head(top) {
+                Move::To(State::ClassHead, Change::Nothing)
+            } else {
+                after_word(had_line_break, top)
+            }
+        }
+        PartKind::Name(_) | PartKind::Reserved(_) => after_word(had_line_break, top),
+        PartKind::Sign(_) => after_sign(kind, had_line_break, typescript, top),
+    }
+}
+
+/// Behind a postfix operator or an asserted type, where no type arguments stand.
+pub fn after_postfix(kind: PartKind) -> Move
+    ensures { result ≡ rows.after_postfix kind }
+{
+    match kind {
+        PartKind::Sign(Sign::Lt) => Move::To(State::Operand, Change::Nothing),
+        _ => Move::Again(State::After, Change::Nothing),
+    }
+}
+
+/// Behind parentheses: a group or the parameters of an arrow function (ECMA-262, 15.3).
+pub fn behind_group(kind: PartKind) -> Move
+    ensures { result ≡ rows.behind_group kind }
+{
+    match kind {
+        PartKind::Sign(Sign::Colon) => Move::Colon(Grouping::Plain),
+        _ => Move::Again(State::After, Change::Nothing),
+    }
+}
+
+/// Behind the parameters of an arrow function (ECMA-262, 15.3).
+pub fn behind_parameters(kind: PartKind) -> Move
+    ensures { result ≡ rows.behind_parameters kind }
+{
+    match kind {
+        PartKind::Sign(Sign::Colon) => Move::To(
+            State::TypeOperand,
+            Change::Push(FrameKind::ReturnType),
+        ),
+        _ => Move::Again(State::After, Change::Nothing),
+    }
+}
+
+/// Behind `async` and parentheses: a call or parameters (ECMA-262, 15.9).
+pub fn behind_async_group(kind: PartKind) -> Move
+    ensures { result ≡ rows.behind_async_group kind }
+{
+    match kind {
+        PartKind::Sign(Sign::Arrow) => Move::To(State::ArrowBody, Change::Arrow(true)),
+        PartKind::Sign(Sign::Colon) => Move::Colon(Grouping::Async),
+        _ => Move::Again(State::After, Change::Nothing),
+    }
+}
+
+/// Behind the parameters of an async arrow function (ECMA-262, 15.9).
+pub fn behind_async_parameters(kind: PartKind) -> Move
+    ensures { result ≡ rows.behind_async_parameters kind }
+{
+    match kind {
+        PartKind::Sign(Sign::Arrow) => Move::To(State::ArrowBody, Change::Arrow(true)),
+        PartKind::Sign(Sign::Colon) => Move::To(
+            State::TypeOperand,
+            Change::Push(FrameKind::AsyncReturnType),
+        ),
+        _ => Move::Again(State::After, Change::Nothing),
+    }
+}
+
+/// Behind `async` where an operand is expected (ECMA-262, 15.8, 15.9).
+pub fn behind_async(kind: PartKind, had_line_break: bool, typescript: bool) -> Move
+    ensures { result ≡ rows.behind_async kind had_line_break typescript }
+{
+    match kind {
+        PartKind::Reserved(Reserved::Function) => {
+            if had_line_break {
+                Move::Again(State::After, Change::Nothing)
+            } else {
+                Move::To(
+                    State::Head,
+                    Change::Enter(FrameKind::FunctionExpressionHead, true),
+                )
+            }
+        }
+        PartKind::Name(Name::As | Name::Satisfies) => {
+            if had_line_break {
+                Move::Again(State::After, Change::Nothing)
+            } else {
+                Move::To(State::AsyncAs, Change::Nothing)
+            }
+        }
+        PartKind::Name(_) => {
+            if had_line_break {
+                Move::Again(State::After, Change::Nothing)
+            } else {
+                Move::To(State::AsyncParameter, Change::Nothing)
+            }
+        }
+        PartKind::Sign(Sign::LParen) => Move::To(
+            State::Operand,
+            Change::Push(FrameKind::AsyncParen),
+        ),
+        PartKind::Sign(Sign::Lt) => {
+            if typescript {
+                Move::To(State::Operand, Change::Push(FrameKind::AsyncCandidate))
+            } else {
+                Move::Again(State::After, Change::Nothing)
+            }
+        }
+        _ => Move::Again(State::After, Change::Nothing),
+    }
+}
+
+/// Behind `async` where a statement begins (ECMA-262, 15.8, 15.9).
+pub fn behind_async_statement(kind: PartKind, had_line_break: bool, typescript: bool) -> Move
+    ensures { result ≡ rows.behind_async_statement kind had_line_break typescript }
+{
+    match kind {
+        PartKind::Reserved(Reserved::Function) => {
+            if had_line_break {
+                Move::Again(State::Label, Change::Nothing)
+            } else {
+                Move::To(State::Head, Change::Enter(FrameKind::FunctionHead, true))
+            }
+        }
+        PartKind::Name(Name::As | Name::Satisfies) => {
+            if had_line_break {
+                Move::Again(State::Label, Change::Nothing)
+            } else {
+                Move::To(State::AsyncAs, Change::Nothing)
+            }
+        }
+        PartKind::Name(_) => {
+            if had_line_break {
+                Move::Again(State::Label, Change::Nothing)
+            } else {
+                Move::To(State::AsyncParameter, Change::Nothing)
+            }
+        }
+        PartKind::Sign(Sign::LParen) => Move::To(
+            State::Operand,
+            Change::Push(FrameKind::AsyncParen),
+        ),
+        PartKind::Sign(Sign::Lt) => {
+            if typescript {
+                Move::To(State::Operand, Change::Push(FrameKind::AsyncCandidate))
+            } else {
+                Move::Again(State::Label, Change::Nothing)
+            }
+        }
+        _ => Move::Again(State::Label, Change::Nothing),
+    }
+}
+
+/// Behind `async as`: a parameter, or a type that is asserted.
+pub fn behind_async_as(kind: PartKind) -> Move
+    ensures { result ≡ rows.behind_async_as kind }
+{
+    match kind {
+        PartKind::Sign(Sign::Arrow) => Move::To(State::ArrowBody, Change::Arrow(true)),
+        _ => Move::Again(State::TypeOperand, Change::Push(FrameKind::Assertion)),
+    }
+}
+
+/// Behind `async` and a name (ECMA-262, 15.9).
+pub fn behind_async_name(kind: PartKind) -> Move
+    ensures { result ≡ rows.behind_async_name kind }
+{
+    match kind {
+        PartKind::Sign(Sign::Arrow) => Move::To(State::ArrowBody, Change::Arrow(true)),
+        _ => Move::Again(State::After, Change::Nothing),
+    }
+}
+
+/// Behind `async` and what may be type parameters.
+pub fn behind_async_type_arguments(kind: PartKind) -> Move
+    ensures { result ≡ rows.behind_async_type_arguments kind }
+{
+    match kind {
+        PartKind::Sign(Sign::LParen) => Move::To(
+            State::Operand,
+            Change::Push(FrameKind::AsyncParen),
+        ),
+        _ => Move::Again(State::TypeArguments, Change::Nothing),
+    }
+}
+
+/// Behind what may be type arguments.
+pub fn behind_type_arguments(kind: PartKind, had_line_break: bool, top: Option<FrameKind>) -> Move
+    ensures { result ≡ rows.behind_type_arguments kind had_line_break top }
+{
+    match kind {
+        PartKind::Name(Name::Implements) => {
+            if over_class_head(top) {
+                Move::To(State::ClassHead, Change::Nothing)
+            } else if had_line_break {
+                Move::Again(State::After, Change::Nothing)
+            } else {
+                Move::Again(State::Operand, Change::Nothing)
+            }
+        }
+        PartKind::Reserved(Reserved::In | Reserved::InstanceOf) => Move::Again(
+            State::After,
+            Change::Nothing,
+        ),
+        PartKind::Name(Name::As | Name::Satisfies | Name::Of) => Move::Again(
+            State::After,
+            Change::Nothing,
+        ),
+        PartKind::Name(_) | PartKind::Reserved(_) => {
+            if had_line_break {
+                Move::Again(State::After, Change::Nothing)
+            } else {
+                Move::Again(State::Operand, Change::Nothing)
+            }
+        }
+        PartKind::Sign(
+            Sign::Literal
+            | Sign::Regex
+            | Sign::LBracket
+            | Sign::Bang
+            | Sign::Update
+            | Sign::Tilde
+            | Sign::Hash,
+        ) => {
+            if had_line_break {
+                Move::Again(State::After, Change::Nothing)
+            } else {
+                Move::Again(State::Operand, Change::Nothing)
+            }
+        }
+        PartKind::Sign(Sign::LBrace) => {
+            if had_line_break {
+                Move::Again(State::After, Change::Nothing)
+            } else if over_class_head(top) {
+                Move::Again(State::After, Change::Nothing)
+            } else {
+                Move::Again(State::Operand, Change::Nothing)
+            }
+        }
+        _ => Move::Again(State::After, Change::Nothing),
+    }
+}
+
+/// Behind `import` in an expression (ECMA-262, 13.3.10, 13.3.12).
+pub fn import_expression(kind: PartKind) -> Move
+    ensures { result ≡ rows.import_expression kind }
+{
+    match kind {
+        PartKind::Sign(Sign::LParen) => Move::To(State::Operand, Change::Push(FrameKind::Call)),
+        _ => Move::Again(State::After, Change::Nothing),
+    }
+}
+
+/// Behind a dot (ECMA-262, 13.3.2).
+pub fn behind_dot(kind: PartKind) -> Move
+    ensures { result ≡ rows.behind_dot kind }
+{
+    match kind {
+        PartKind::Name(_) | PartKind::Reserved(_) => Move::To(State::After, Change::Nothing),
+        PartKind::Sign(Sign::Hash) => Move::To(State::Property, Change::Nothing),
+        _ => Move::Again(State::After, Change::Nothing),
+    }
+}
+
+/// Behind `?.` (ECMA-262, 13.3.9).
+pub fn behind_optional_dot(kind: PartKind) -> Move
+    ensures { result ≡ rows.behind_optional_dot kind }
+{
+    match kind {
+        PartKind::Name(_) | PartKind::Reserved(_) => Move::To(State::After, Change::Nothing),
+        PartKind::Sign(Sign::Hash) => Move::To(State::Property, Change::Nothing),
+        _ => Move::Again(State::After, Change::Nothing),
+    }
+}
+
+/// Behind the braces of an arrow function (ECMA-262, 15.3).
+pub fn behind_arrow_body(kind: PartKind) -> Move
+    ensures { result ≡ rows.behind_arrow_body kind }
+{
+    match kind {
+        PartKind::Name(_) | PartKind::Reserved(_) => Move::Again(State::After, Change::Nothing),
+        PartKind::Sign(
+            Sign::Comma
+            | Sign::Semi
+            | Sign::Colon
+            | Sign::RParen
+            | Sign::RBracket
+            | Sign::RBrace
+            | Sign::QuestionMark
+            | Sign::Gt
+            | Sign::RShift
+            | Sign::ZeroFillRShift
+            | Sign::LBrace,
+        ) => Move::Again(State::After, Change::Nothing),
+        _ => Move::Fresh,
+    }
+}

@@ -1,0 +1,5 @@
+pub mod NestLemmas
+pub mod RankLemmas
+pub mod RowRanks
+pub mod TrackLemmas
+pub mod TrackedLemmas

@@ -1,0 +1,3 @@
+//! Tests of tracks.
+mod depth;
+mod slashes;

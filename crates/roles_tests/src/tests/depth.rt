@@ -1,0 +1,61 @@
+//! Brackets within brackets, and copies. What is expected comes from ECMA-262: behind a group of parentheses an operator
+//! comes, behind a semicolon a statement.
+use ecma_roles::{Part, Track};
+use ecma_token::TokenKind;
+use std::alloc::{AllocError, Global};
+use std::test::Fail;
+
+/// More frames than stand in the track itself.
+const DEEP: usize = 100;
+
+const VERY_DEEP: usize = 1_000_000;
+
+fn step_times(track: &mut Track, kind: TokenKind, count: usize) -> Result<(), AllocError> {
+    for _ in 0..count {
+        track.step(&Part::of_kind(kind, false))?;
+    }
+    Ok(())
+}
+
+/// A track behind so many left parentheses.
+fn opened(alloc: Global, count: usize) -> Result<Track, AllocError> {
+    let mut track = Track::new(alloc, false, false);
+    step_times(&mut track, TokenKind::LParen, count)?;
+    Ok(track)
+}
+
+/// Whether a slash begins a regular expression behind an operand, so many right parentheses, and a semicolon.
+fn closed(track: &mut Track, count: usize) -> Result<(bool, bool), AllocError> {
+    step_times(track, TokenKind::Num, 1)?;
+    step_times(track, TokenKind::RParen, count)?;
+    let behind_group = track.expects_operand(false);
+    step_times(track, TokenKind::Semi, 1)?;
+    Ok((behind_group, track.expects_operand(false)))
+}
+
+#[test]
+fn a_million_brackets_open_and_close(rt: HostRuntime) -> Result<(), Fail> {
+    let mut track = opened(rt.alloc(), VERY_DEEP)?;
+    assert!(rt; track.expects_operand(false));
+    assert_eq!(rt; closed(&mut track, VERY_DEEP)?, (false, true));
+    Ok(())
+}
+
+#[test]
+fn a_copy_goes_on_as_the_track_does(rt: HostRuntime) -> Result<(), Fail> {
+    for depth in [0, 1, DEEP] {
+        let mut track = opened(rt.alloc(), depth)?;
+        let mut copy = track.copy()?;
+        assert_eq!(rt;
+            closed(&mut track, depth)?,
+            (false, true),
+            "at depth {depth}"
+        );
+        assert_eq!(rt;
+            closed(&mut copy, depth)?,
+            (false, true),
+            "of a copy at depth {depth}"
+        );
+    }
+    Ok(())
+}
