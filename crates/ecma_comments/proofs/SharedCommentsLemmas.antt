@@ -6,7 +6,6 @@ use Rattle.std.proofs.lemmas.Grind.{flat_map-append}
 use Rattle.std.proofs.lemmas.List.{append-nil, append_assoc, length-append, length-take-le, take-append-le}
 use Rattle.std.proofs.lemmas.List.Elements.{All-same, All-tail, All-take}
 use Rattle.std.specs.List.{All}
-use Rattle.ecma_comments.specs.Buffers.{Begins}
 use Rattle.ecma_comments.specs.SharedComments.{AreShared, Block, CutsBlock, IsBorrowed, of_blocks}
 use Rattle.ecma_comments.specs.declared.comments_buffer.BufferedComment.{BufferedComment}
 
@@ -49,17 +48,6 @@ adding-end begin all added left room so_far none = sym (append-nil added) ∙ ap
 pub where-ok : {A B P : Type 0} → (result : Result A B) → OnOk result P → IsOk result → P
 where-ok (Ok value) holds ok = holds
 where-ok (Err error) holds ok = cc
-
--- more comments behind those that are there
-
-pub begins-more : (first second more : List BufferedComment) → Begins first second → Begins first (second ++ more)
-begins-more first second more begins =
-    ap (take (length first)) (ap (λ list. list ++ more) (sym (take-append-drop (length first) second)) ∙ append_assoc (take (length first) second) _ more ∙ ap (λ list. list ++ (drop (length first) second ++ more)) begins)
-    ∙ take-append_seam first (drop (length first) second ++ more)
-
-pub begins-further : (first second third : List BufferedComment) → Begins first second → Begins second third → Begins first third
-begins-further first second third one two =
-    subst (Begins first) (ap (λ list. list ++ drop (length second) third) (sym two) ∙ take-append-drop (length second) third) (begins-more first second (drop (length second) third) one)
 
 -- where a list of comments is cut
 

@@ -9,5 +9,5 @@ pub record CommentsValue : Type 0 where
   pub pending_leading : List BufferedComment
 
 -- the second list begins with the first
-abbrev pub Begins : List BufferedComment → List BufferedComment → Type 0
+abbrev pub Begins : {A : Type 0} → List A → List A → Type 0
 Begins first second = take (length first) second ≡ first

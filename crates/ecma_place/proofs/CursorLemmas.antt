@@ -8,7 +8,7 @@ use Rattle.std.proofs.lemmas.Slice.Eq.{starts_is}
 use Rattle.std.specs.List.{starts_with, HoldsAt}
 use Rattle.std.specs.Option.{option_copied, MatchOption}
 use Rattle.std.proofs.lemmas.Option.{slice_get_past, slice_get_read, slice_get_within, get_or_from_slice_get}
-use Rattle.ecma_place.specs.Cursor.{Cursor, rest, place, passed, cursor_at, IsInput, HasPlace, count_within, moved_to, index_of, ascii_of}
+use Rattle.ecma_place.specs.Cursor.{Cursor, IsWithin, rest, place, passed, cursor_at, IsInput, HasPlace, count_within, moved_to, index_of, ascii_of}
 use Rattle.ecma_place.specs.Text.{byte_len}
 
 pub input_utf8 : {bytes : List ℕ} {s o : ℕ} → IsInput bytes s o → IsUtf8 bytes
@@ -32,6 +32,11 @@ pub place-seen : (t : List ℕ) (s o : ℕ) (c : Cursor) → cursor_at t s o ≡
 place-seen t s o c e i =
     rw (← e, take-cut t o (input_utf8 i) i.cut, encodes-chars (take o t) (IsUtf8-take t o (input_utf8 i) i.cut))
     (ap (λ n. s + n) (length-take-le o t i.cut.0))
+
+-- the cursor of an input stands within its text
+pub within-seen : (t : List ℕ) (s o : ℕ) (c : Cursor) → cursor_at t s o ≡ c → IsInput t s o → IsWithin c
+within-seen t s o c e i =
+    rw (← e) (omega (arith, ap length (chars-cut t o (input_utf8 i) i.cut), length-append (chars (take o t)) (chars (drop o t))))
 
 -- one character further
 pub length-chars-past : (t r : List ℕ) (o c : ℕ) → IsUtf8 t → IsCharBoundary t o → drop o t ≡ encode_utf8 c ++ r → length (chars (take (o + len_utf8 c) t)) ≡ length (chars (take o t)) + 1

@@ -1,5 +1,5 @@
 -- A cursor in a text: it stands behind some of the text's characters. All of this page is our own choice.
-use Rattle.std.specs.Prelude.{ℕ, ◌+◌, ◌-◌, ◌^◌, ◌<◌, ◌≡◌, List, length, take, drop, true, if◌then◌else◌, nat_lt, Option, Some, None}
+use Rattle.std.specs.Prelude.{ℕ, ◌+◌, ◌-◌, ◌^◌, ◌<◌, ◌≤◌, ◌≡◌, List, length, take, drop, true, if◌then◌else◌, nat_lt, Option, Some, None}
 use Rattle.std.specs.Str.{chars, is_utf8, IsCharBoundary}
 use Rattle.ecma_place.specs.Text.{Text, place_of}
 pub use Rattle.ecma_place.specs.Text.{count_within}
@@ -21,6 +21,10 @@ place_at c n = place_of c.start (take n c.text)
 -- the cursor's place
 abbrev pub place : Cursor → ℕ
 place c = place_at c c.at
+
+-- the cursor stands within its text
+abbrev pub IsWithin : Cursor → Type 0
+IsWithin c = c.at ≤ length c.text
 
 -- the cursor, n characters further
 abbrev pub passed : ℕ → Cursor → Cursor

@@ -1,4 +1,5 @@
 pub mod GatheredLemmas
-pub mod KeptLemmas
+pub mod JoinedLemmas
 pub mod ReplayLemmas
 pub mod ReplayTiling
+pub mod WayLemmas

@@ -1,105 +1,31 @@
-//! A lexer that takes steps, and the tree of the tokens that were answered and kept.
-ghost use Rattle.std.specs.Prelude.{◌≡◌, ◌≤◌, ◌++◌, ◌∷◌, [], List, length, reverse, if◌then◌else◌, IfOk, OnOk};
+//! A lexer that takes steps, and the ways to what it found before.
+ghost use Rattle.std.specs.Prelude.{◌≡◌, [], IfOk, OnOk};
+ghost use Rattle.ecma_state.specs.Disposition.{no_errors};
 ghost use Rattle.ecma_state.specs.Session.{Session, lexer_state, state_of};
 ghost use Rattle.ecma_state.specs.Run.{act};
-ghost use Rattle.ecma_replay.specs.Playing.{Acts, Grows, IsAt, answer_of, kept_at, without};
-ghost use Rattle.ecma_replay.specs.declared.branch.Entry.{Entry};
+ghost use Rattle.ecma_replay.specs.Playing.{Acts, Enters, Grow, IsAt, answer_of, delivered};
+ghost use Rattle.ecma_replay.specs.declared.trees.Trees.{Trees};
 ghost use Rattle.ecma_state.specs.declared.step.Step.{Step};
 
 use crate::answer::Answer;
+use crate::trees::{Trees, Ways, joined};
+use ecma_state::error_list::ErrorList;
+use ecma_state::errors::ErrorLists;
 use ecma_state::kept::Kept;
 use ecma_state::token_contexts::TokenContexts;
 use ecma_stream::lexer::Lexer;
 use ecma_stream::tokens::Tokens;
 use ecma_syntax::Context;
 use ecma_token::TokenAndSpan;
-use std::alloc::{AllocError, Global};
+use std::alloc::AllocError;
 use std::marker::Model;
 
-/// A token that was kept.
-#[derive(Clone, Copy)]
-pub struct Entry {
-    pub token: Kept,
-    /// Whether it stands in the place of the newest before it, since that was read again.
-    pub again: bool,
-    /// The number of the one before it on its way, 0 where it is the first.
-    pub before: usize,
-}
-
-/// All tokens that were kept, those too that were gone back on, of which contracts see the newest first.
-///
-/// Each has the number of the one before it on its way: how many had been kept by then. So going back is taking an older
-/// number, and nothing is copied for it.
-#[derive(Drop)]
-pub struct KeptTree {
-    /// The newest is last.
-    entries: Vec<Entry>,
-}
-
-impl Model for KeptTree {
-    ghost use Rattle.std.specs.Prelude.{List, reverse};
-    ghost use Rattle.ecma_replay.specs.declared.branch.Entry.{Entry};
-
-    ghost Value = { List Entry };
-
-    ghost view = { λ k. reverse k.entries.items };
-}
-
-impl KeptTree {
-    /// No tokens, which does not allocate.
-    pub fn new(alloc: Global) -> KeptTree
-        ensures { result ≡ [] }
-    {
-        KeptTree {
-            entries: Vec::new(alloc),
-        }
-    }
-
-    /// Keeps a token, and answers its number.
-    fn keep(&mut self, entry: Entry) -> Result<usize, AllocError>
-        ensures kept { IfOk result (λ number. kept_at number self.new ≡ entry.token ∷ without entry.again (kept_at entry.before self.old)) }
-        ensures within { IfOk result (λ number. number ≤ length self.new) }
-        ensures grows { OnOk result (Grows self.old self.new) }
-    {
-        self.entries.push(entry)?;
-        Ok(self.entries.len())
-    }
-
-    /// The tokens on the way to that of a number, in the order in which they were kept.
-    pub fn into_vec(self, alloc: Global, number: usize) -> Result<Vec<Kept>, AllocError>
-        ensures { IfOk result (λ kept. reverse kept.items ≡ kept_at number self) }
-    {
-        let KeptTree { mut entries } = self;
-        let mut kept = Vec::new(alloc);
-        let mut at = number;
-        let mut again = false;
-        'entries: while let Some(entry) = entries.pop() {
-            if at == entries.len() + 1 {
-                push_unless(&mut kept, again, entry.token)?;
-                again = entry.again;
-                at = entry.before;
-            }
-        }
-        kept.reverse();
-        Ok(kept)
-    }
-}
-
-/// Adds a token, but where it is passed over.
-fn push_unless(kept: &mut Vec<Kept>, passed: bool, token: Kept) -> Result<(), AllocError>
-    ensures { OnOk result (kept.new.items ≡ (if passed then kept.old.items else kept.old.items ++ token ∷ [])) }
-{
-    if !passed {
-        kept.push(token)?;
-    }
-    Ok(())
-}
-
-/// A lexer, and the number of the newest token that is kept on its way.
+/// A lexer, and the ways to what it found before. The lexer itself has the errors and comments that it found since it, or what
+/// it was copied from, was saved last.
 #[derive(Drop)]
 pub struct Branch<'a> {
     pub lexer: Lexer<'a>,
-    pub kept: usize,
+    pub ways: Ways,
 }
 
 impl<'a> Model for Branch<'a> {
@@ -112,24 +38,27 @@ impl<'a> Model for Branch<'a> {
 
     ghost coded = { Prim.hlevel (codes, (e.the_row static_lft).coded) };
 
-    ghost view = { λ p. record { lexer = p.lexer; kept = p.kept } };
+    ghost view = { λ p. record { lexer = p.lexer; ways = p.ways } };
 }
 
 impl<'a> Branch<'a> {
     /// A lexer that has taken no step yet, which does not allocate.
     pub fn new(lexer: Lexer<'a>) -> Branch<'a>
-        ensures { (s : Session) → lexer_state lexer.entry ≡ state_of s → s.past ≡ [] → IsAt [] s result }
+        ensures { (t : Trees) (s : Session) → lexer_state lexer.entry ≡ state_of s → s.past ≡ [] → IsAt t s result }
     {
-        Branch { lexer, kept: 0 }
+        Branch {
+            lexer,
+            ways: Ways::none(),
+        }
     }
 
-    /// The same lexer with the same tokens.
+    /// The same lexer on the same ways.
     pub fn copy(&self) -> Result<Branch<'a>, AllocError>
-        ensures { (kept : List Entry) (s : Session) → IsAt kept s self.now → IfOk result (λ copy. IsAt kept s copy) }
+        ensures { (t : Trees) (s : Session) → IsAt t s self.now → IfOk result (λ copy. IsAt t s copy) }
     {
         Ok(Branch {
             lexer: self.lexer.copy()?,
-            kept: self.kept,
+            ways: self.ways,
         })
     }
 
@@ -137,50 +66,92 @@ impl<'a> Branch<'a> {
     pub fn go_back(&mut self, copy: Branch<'a>)
         ensures { self.new ≡ copy.entry }
     {
-        let Branch { lexer, kept } = copy;
+        let Branch { lexer, ways } = copy;
         self.lexer.go_back(lexer);
-        self.kept = kept;
+        self.ways = ways;
+    }
+
+    /// Moves the errors and comments that the lexer has to the trees, so that copies of it copy none.
+    pub fn settle(&mut self, trees: &mut Trees<'a>) -> Result<(), AllocError>
+        ensures at { (s : Session) → IsAt trees.old s self.old → OnOk result (IsAt trees.new s self.new) }
+        ensures grows { OnOk result (Grow trees.old trees.new) }
+        ensures drained { OnOk result ((lexer_state self.new.lexer).errors ≡ no_errors) }
+    {
+        let (errors, comments) = self.lexer.take_found();
+        let ErrorLists { recorded, waiting } = errors;
+        self.ways = trees.add(self.ways, recorded.into_vec(), waiting.into_vec(), comments)?;
+        Ok(())
     }
 
     /// Reads into a slot, and keeps the token that is answered.
     #[inline(always)]
     pub fn read_into(
         &mut self,
-        kept: &mut KeptTree,
+        trees: &mut Trees<'a>,
         slot: &mut Option<TokenAndSpan<'a>>,
     ) -> Result<(), AllocError>
-        ensures acts { (s : Session) → IsAt kept.old s self.old → OnOk result (Acts kept.new (act s Step.Read) (answer_of slot.new) self.new) }
-        ensures grows { OnOk result (Grows kept.old kept.new) }
+        ensures acts { (s : Session) → IsAt trees.old s self.old → OnOk result (Acts trees.new (act s Step.Read) (answer_of slot.new) self.new) }
+        ensures grows { OnOk result (Grow trees.old trees.new) }
     {
         let again = self.lexer.reads_again();
-        let before = self.kept;
         self.lexer.read_into(slot)?;
-        if let Some(token) = slot {
-            self.kept = kept.keep(Entry {
-                token: Kept::of(token),
-                again,
-                before,
-            })?;
+        match slot {
+            Some(token) => {
+                self.ways = trees.keep(self.ways, Kept::of(token), again)?;
+                Ok(())
+            }
+            None => Ok(()),
         }
+    }
+
+    /// Records the errors that wait on the way, behind those that were recorded.
+    #[inline(never)]
+    fn deliver(&mut self, trees: &mut Trees<'a>) -> Result<(), AllocError>
+        ensures at { (s : Session) → IsAt trees.old s self.old → OnOk result (IsAt trees.new (delivered s) self.new) }
+        ensures grows { OnOk result (Grow trees.old trees.new) }
+    {
+        self.settle(trees)?;
+        self.ways = trees.deliver(self.ways)?;
         Ok(())
     }
 
-    pub fn set_ctx(&mut self, context: Context) -> Result<Answer<'a>, AllocError>
-        ensures { (kept : List Entry) (s : Session) → IsAt kept s self.old → IfOk result (λ answer. Acts kept (act s (Step.SetCtx context)) answer self.new) }
+    /// Records the errors that wait on the way, where there are any and this is a context of module code.
+    fn enter(&mut self, trees: &mut Trees<'a>, context: &Context) -> Result<(), AllocError>
+        ensures enters { (s : Session) → IsAt trees.old s self.old → OnOk result (Enters trees.new s context.now self.new) }
+        ensures grows { OnOk result (Grow trees.old trees.new) }
     {
+        if !context.module {
+            return Ok(());
+        }
+        if self.ways.waiting == 0 {
+            return Ok(());
+        }
+        self.deliver(trees)?;
+        Ok(())
+    }
+
+    pub fn set_ctx(
+        &mut self,
+        trees: &mut Trees<'a>,
+        context: Context,
+    ) -> Result<Answer<'a>, AllocError>
+        ensures acts { (s : Session) → IsAt trees.old s self.old → IfOk result (λ answer. Acts trees.new (act s (Step.SetCtx context)) answer self.new) }
+        ensures grows { OnOk result (Grow trees.old trees.new) }
+    {
+        self.enter(trees, &context)?;
         self.lexer.set_ctx(context)?;
         Ok(Answer::Done)
     }
 
     pub fn set_expr_allowed(&mut self, allowed: bool) -> Answer<'a>
-        ensures { (kept : List Entry) (s : Session) → IsAt kept s self.old → Acts kept (act s (Step.SetExprAllowed allowed)) result self.new }
+        ensures { (t : Trees) (s : Session) → IsAt t s self.old → Acts t (act s (Step.SetExprAllowed allowed)) result self.new }
     {
         self.lexer.set_expr_allowed(allowed);
         Answer::Done
     }
 
     pub fn set_contexts(&mut self, contexts: &TokenContexts) -> Result<Answer<'a>, AllocError>
-        ensures { (kept : List Entry) (s : Session) → IsAt kept s self.old → IfOk result (λ answer. Acts kept (act s (Step.SetContexts contexts.now)) answer self.new) }
+        ensures { (t : Trees) (s : Session) → IsAt t s self.old → IfOk result (λ answer. Acts t (act s (Step.SetContexts contexts.now)) answer self.new) }
     {
         let contexts = contexts.copy()?;
         self.lexer.set_token_context(contexts);
@@ -188,7 +159,7 @@ impl<'a> Branch<'a> {
     }
 
     pub fn pop_context(&mut self) -> Answer<'a>
-        ensures { (kept : List Entry) (s : Session) → IsAt kept s self.old → Acts kept (act s Step.PopContext) result self.new }
+        ensures { (t : Trees) (s : Session) → IsAt t s self.old → Acts t (act s Step.PopContext) result self.new }
     {
         if self.lexer.pop_context() {
             Answer::Done
@@ -198,7 +169,7 @@ impl<'a> Branch<'a> {
     }
 
     pub fn reread(&mut self) -> Answer<'a>
-        ensures { (kept : List Entry) (s : Session) → IsAt kept s self.old → Acts kept (act s Step.Reread) result self.new }
+        ensures { (t : Trees) (s : Session) → IsAt t s self.old → Acts t (act s Step.Reread) result self.new }
     {
         match self.lexer.last_slash() {
             Some(slash) => {
@@ -210,15 +181,19 @@ impl<'a> Branch<'a> {
     }
 
     pub fn withdraw(&mut self) -> Answer<'a>
-        ensures { (kept : List Entry) (s : Session) → IsAt kept s self.old → Acts kept (act s Step.Withdraw) result self.new }
+        ensures { (t : Trees) (s : Session) → IsAt t s self.old → Acts t (act s Step.Withdraw) result self.new }
     {
         self.lexer.set_next_regexp(None);
         Answer::Done
     }
 
-    pub fn take_errors(&mut self) -> Answer<'a>
-        ensures { (kept : List Entry) (s : Session) → IsAt kept s self.old → Acts kept (act s Step.TakeErrors) result self.new }
+    pub fn take_errors(&mut self, trees: &Trees<'a>) -> Result<Answer<'a>, AllocError>
+        ensures { (s : Session) → IsAt trees.now s self.old → IfOk result (λ answer. Acts trees.now (act s Step.TakeErrors) answer self.new) }
     {
-        Answer::Errors(self.lexer.take_errors())
+        let before = trees.recorded_to(self.ways)?;
+        let found = self.lexer.take_errors();
+        self.ways.recorded = 0;
+        let errors = joined(before, found.into_vec())?;
+        Ok(Answer::Errors(ErrorList::of(errors)))
     }
 }

@@ -7,8 +7,9 @@ ghost use Rattle.ecma_replay.specs.Replay.{Gathers};
 ghost use Rattle.ecma_state.specs.declared.step.Step.{Step};
 
 use crate::answer::Answer;
-use crate::branch::{Branch, KeptTree};
+use crate::branch::Branch;
 use crate::gathered::Gathered;
+use crate::trees::Trees;
 use ecma_place::StringInput;
 use ecma_state::settings::Settings;
 use ecma_state::step::Step;
@@ -21,7 +22,7 @@ use std::marker::Model;
 #[derive(Drop)]
 pub struct Course<'a> {
     branch: Branch<'a>,
-    kept: KeptTree,
+    trees: Trees<'a>,
     saves: Vec<Branch<'a>>,
 }
 
@@ -35,7 +36,7 @@ impl<'a> Model for Course<'a> {
 
     ghost coded = { Prim.hlevel (codes, (e.the_row static_lft).coded) };
 
-    ghost view = { λ c. record { branch = c.branch; kept = c.kept; saves = c.saves.items } };
+    ghost view = { λ c. record { branch = c.branch; trees = c.trees; saves = c.saves.items } };
 }
 
 impl<'a> Course<'a> {
@@ -46,7 +47,7 @@ impl<'a> Course<'a> {
         let lexer = Lexer::with_settings(alloc, settings, input);
         Course {
             branch: Branch::new(lexer),
-            kept: KeptTree::new(alloc),
+            trees: Trees::new(alloc),
             saves: Vec::new(alloc),
         }
     }
@@ -54,6 +55,7 @@ impl<'a> Course<'a> {
     fn save(&mut self) -> Result<Answer<'a>, AllocError>
         ensures { (begin : Session) (xs : List Step) → Stands begin xs self.old → IfOk result (λ answer. Responds begin xs Step.Save answer self.new) }
     {
+        self.branch.settle(&mut self.trees)?;
         let saved = self.branch.copy()?;
         self.saves.push(saved)?;
         Ok(Answer::Done)
@@ -81,7 +83,7 @@ impl<'a> Course<'a> {
     {
         match step {
             Step::Read => unreachable!(),
-            Step::SetCtx(context) => self.branch.set_ctx(*context),
+            Step::SetCtx(context) => self.branch.set_ctx(&mut self.trees, *context),
             Step::SetExprAllowed(allowed) => Ok(self.branch.set_expr_allowed(*allowed)),
             Step::SetContexts(contexts) => self.branch.set_contexts(contexts),
             Step::PopContext => Ok(self.branch.pop_context()),
@@ -89,7 +91,7 @@ impl<'a> Course<'a> {
             Step::Withdraw => Ok(self.branch.withdraw()),
             Step::Save => self.save(),
             Step::Back(n) => self.back(*n),
-            Step::TakeErrors => Ok(self.branch.take_errors()),
+            Step::TakeErrors => self.branch.take_errors(&self.trees),
         }
     }
 
@@ -98,7 +100,7 @@ impl<'a> Course<'a> {
     pub fn read_into(&mut self, slot: &mut Option<TokenAndSpan<'a>>) -> Result<(), AllocError>
         ensures { (begin : Session) (xs : List Step) → Stands begin xs self.old → OnOk result (Responds begin xs Step.Read (answer_of slot.new) self.new) }
     {
-        self.branch.read_into(&mut self.kept, slot)
+        self.branch.read_into(&mut self.trees, slot)
     }
 
     /// Takes a step, whose answer nobody looks at; a token that is read takes the place of what is in the slot.
@@ -120,15 +122,15 @@ impl<'a> Course<'a> {
     }
 
     /// What the steps came to.
-    pub fn finish(self, alloc: Global) -> Result<Gathered<'a>, AllocError>
+    pub fn finish(self) -> Result<Gathered<'a>, AllocError>
         ensures { (begin : Session) (xs : List Step) → Stands begin xs self.entry → IfOk result (λ r. Gathers begin xs r) }
     {
         let Course {
             branch,
-            kept,
+            trees,
             saves: _,
         } = self;
-        let kept = kept.into_vec(alloc, branch.kept)?;
-        Ok(Gathered::of(kept, branch.lexer))
+        let Branch { lexer, ways } = branch;
+        Gathered::joined(trees, ways, lexer)
     }
 }

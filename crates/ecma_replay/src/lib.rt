@@ -7,6 +7,7 @@ mod course;
 pub mod gathered;
 pub mod replayed;
 pub mod runner;
+mod trees;
 
 pub use answer::Answer;
 pub use gathered::Gathered;

@@ -84,7 +84,7 @@ pub fn replay<'a>(
         waiting,
         comments,
         ended,
-    } = course.finish(alloc)?;
+    } = course.finish()?;
     Ok(Replay {
         answers,
         kept,
@@ -118,5 +118,5 @@ pub fn gather<'a>(
     'steps: for step in steps {
         course.pass(step, &mut slot)?;
     }
-    course.finish(alloc)
+    course.finish()
 }

@@ -3,11 +3,12 @@ use Rattle.std.proofs.Common.{◌≡◌, ◌∙◌, ℕ, ◌+◌, ◌≤◌, Boo
 use Rattle.std.proofs.Math.Seq.{take-append_seam, take-length}
 use Rattle.std.proofs.lemmas.Bool.{and_parts}
 use Rattle.std.proofs.lemmas.List.{append_assoc, length-append}
-use Rattle.ecma_place.specs.Cursor.{Cursor, HasPlace, place, place_at}
+use Rattle.ecma_place.specs.Cursor.{Cursor, HasPlace, IsWithin, place, place_at}
 use Rattle.ecma_place.specs.Text.{Text, place_of}
 use Rattle.ecma_place.specs.declared.place.BytePos.{BytePos}
 use Rattle.ecma_token.specs.View.{ErrorView}
 use Rattle.ecma_syntax.specs.declared.context.Context.{Context}
+use Rattle.ecma_comments.specs.Buffers.{Begins}
 use Rattle.ecma_comments.specs.declared.comments_buffer.BufferedComment.{BufferedComment}
 use Rattle.ecma_contexts.specs.Contexts.{Contexts}
 use Rattle.ecma_grammar.specs.Found.{Fault}
@@ -21,7 +22,7 @@ use Rattle.ecma_state.specs.declared.step.Step.{Step}
 use Rattle.ecma_state.specs.declared.step.Step.TheVariants.{Read, SetCtx, SetExprAllowed, SetContexts, PopContext, Reread, Withdraw, Save, Back, TakeErrors}
 use Rattle.ecma_checkpoint.specs.Checkpoints.{AreSlashes}
 use Rattle.ecma_stream.proofs.SlashLemmas.{at-index, reads-from, stands-moved}
-use Rattle.ecma_rewinding.specs.Rewinding.{Begins, GoesOn, IsWithin, RefusalIsUndone, RewindingUndoes, StepsGoOn, take_none, takes_none}
+use Rattle.ecma_rewinding.specs.Rewinding.{GoesOn, RefusalIsUndone, RewindingUndoes, StepsGoOn, take_none, takes_none}
 
 -- Lists that begin with others
 

@@ -1,20 +1,13 @@
 -- What going back to a checkpoint undoes: our own choice, as ECMA-262 reads a text once.
-use Rattle.std.specs.Prelude.{◌≡◌, ◌≤◌, Bool, true, false, not, ◌&&◌, ◌||◌, List, [], ◌∷◌, length, take}
-use Rattle.ecma_place.specs.Cursor.{Cursor}
+use Rattle.std.specs.Prelude.{◌≡◌, Bool, true, false, not, ◌&&◌, ◌||◌, List, [], ◌∷◌}
+use Rattle.ecma_place.specs.Cursor.{IsWithin}
+use Rattle.ecma_comments.specs.Buffers.{Begins}
 use Rattle.ecma_state.specs.Run.{act_all, act_on}
 use Rattle.ecma_state.specs.Session.{LexerState, Session, state_of}
 use Rattle.ecma_state.specs.TokenAt.{is_empty}
 use Rattle.ecma_state.specs.declared.step.Step.{Step}
 use Rattle.ecma_state.specs.declared.step.Step.TheVariants.{Read, SetCtx, SetExprAllowed, SetContexts, PopContext, Reread, Withdraw, Save, Back, TakeErrors}
 use Rattle.ecma_checkpoint.specs.Checkpoints.{GoesBack, checkpoint_of, rewound}
-
--- a cursor stands within its text
-abbrev pub IsWithin : Cursor → Type 0
-IsWithin c = c.at ≤ length c.text
-
--- the second list begins with the first
-abbrev pub Begins : {A : Type 0} → List A → List A → Type 0
-Begins first second = take (length first) second ≡ first
 
 -- A lexer goes on from where another was: it is in the same text with the same settings, and its errors and comments begin
 -- with those of the other.

@@ -47,6 +47,20 @@ impl<'a> ErrorList<'a> {
         }
     }
 
+    /// These errors, in order.
+    pub fn of(errors: Vec<Error<'a>>) -> ErrorList<'a>
+        ensures { result ≡ errors.entry.items }
+    {
+        ErrorList { errors }
+    }
+
+    /// The errors, in order.
+    pub fn into_vec(self) -> Vec<Error<'a>>
+        ensures { result.items ≡ self.entry }
+    {
+        self.errors
+    }
+
     /// The errors.
     pub fn as_slice(&self) -> &[Error<'a>]
         ensures { result.now ≡ self.now }

@@ -1,5 +1,5 @@
 -- Reads that look at what stands behind white space: the cursor before it, and what an arm gives.
-use Rattle.std.proofs.Common.{◌≡◌, ◌∙◌, ℕ, ◌+◌, ◌-◌, ◌≤◌, Bool, true, false, [], ◌∷◌, Some, None, zero, suc, length, length-drop, drop, drop-drop, refl, slice_get, sym, subst, ap, arith}
+use Rattle.std.proofs.Common.{is_some, ◌≡◌, ◌∙◌, ℕ, ◌+◌, ◌-◌, ◌≤◌, Bool, true, false, [], ◌∷◌, Some, None, zero, suc, length, length-drop, drop, drop-drop, refl, slice_get, sym, subst, ap, arith}
 use Rattle.std.proofs.lemmas.Option.{none-some}
 use Rattle.ecma_place.specs.Cursor.{Cursor, HasPlace, passed, place, rest}
 use Rattle.ecma_place.specs.Text.{Text}
@@ -16,12 +16,13 @@ use Rattle.ecma_state.specs.Mode.{gap_mode, is_template}
 use Rattle.ecma_state.specs.Reading.{Reading, reading}
 use Rattle.ecma_state.specs.Run.{at_place, mode_of, reading_from, reading_of, state_behind}
 use Rattle.ecma_state.specs.Session.{LexerValue, LexerState, kept_of, lexer_state}
-use Rattle.ecma_stream.specs.Plain.{IsBehindGap, IsPlain, PassesWord, StandsPlain, back_at, begins_word, plain_reading}
+use Rattle.ecma_plain.specs.Plain.{IsPlain, PassesWord, StandsPlain, begins_word, plain_reading}
+use Rattle.ecma_stream.specs.Giving.{IsBehindGap, back_at}
 use Rattle.ecma_state.specs.declared.mode.Mode.{Mode}
 use Rattle.ecma_stream.specs.Slashes.{IsAnswer}
 use Rattle.ecma_stream.specs.View.{IsLexer, lexer_view}
 use Rattle.ecma_stream.specs.declared.lexer.Lexer.TheInside.{Inside}
-use Rattle.ecma_stream.proofs.PlainLemmas.{plain-read}
+use Rattle.ecma_plain.proofs.PlainLemmas.{none-is, plain-read}
 use Rattle.ecma_stream.proofs.SlashLemmas.{at-index, is-answer, place-there, stands-moved}
 
 -- Places
@@ -52,27 +53,6 @@ at-text old now p n c moved e first =
     within =
         let there : length (rest old) ≡ length old.text - old.at = length-drop old.at old.text in
         omega (arith, some, there)
-
--- nothing stands behind the end
-pub none-behind : (old now : Cursor) (n c : ℕ) → now ≡ passed n old → rest old ≡ [] → slice_get (rest now) 0 ≡ Some c → ⊥
-none-behind old now n c moved end first =
-    go n
-    (ap (λ (t : Text). slice_get (drop n t) 0) (sym end) ∙ ap (λ (t : Text). slice_get t 0) (drop-drop n old.at old.text) ∙ ap (λ (i : Cursor). slice_get (rest i) 0) (sym moved)
-    ∙ first)
-  where
-    empty : Text
-    empty = []
-
-    go : (n : ℕ) → slice_get (drop n empty) 0 ≡ Some c → ⊥
-    go zero e = cc
-    go (suc n) e = cc
-
-pub some-before : (old now : Cursor) (n c : ℕ) → now ≡ passed n old → slice_get (rest now) 0 ≡ Some c → (x : ℕ) × (slice_get (rest old) 0 ≡ Some x)
-some-before old now n c moved first = go (rest old) refl
-  where
-    go : (text : Text) → rest old ≡ text → (x : ℕ) × (slice_get (rest old) 0 ≡ Some x)
-    go [] e = absurd (none-behind old now n c moved e first)
-    go (x ∷ xs) e = (x, ap (λ (t : Text). slice_get t 0) e)
 
 -- it is the same from further on
 pub at-moved : (here now : Cursor) (p : BytePos) (n : ℕ) → now ≡ passed n here → at_place p now ≡ at_place p here
@@ -149,6 +129,15 @@ pub given-state : (before : BytePos) (l : LexerValue) (t : SpannedView) (now : L
     → now ≡ state_behind (lexer_state (back_at before l)) (reading_of (lexer_state (back_at before l)))
 given-state before l t now none found taken =
     taken ∙ ap (state_behind (lexer_state (back_at before l))) (sym (from-plain before l t none found))
+
+-- where no slash is read again, that is what the lexer reads
+pub reads-plain : (a : Inside) (l : LexerValue) (mode : Mode) (input : Cursor) (r : Reading) → lexer_view a ≡ l → is_some a.reread ≡ false
+    → mode ≡ mode_of (lexer_state l) → input ≡ a.input → reading mode input ≡ r → reading_of (lexer_state l) ≡ r
+reads-plain a l mode input r shows none is at reads =
+    ap (λ o. reading_from o (lexer_state l)) (sym (ap (λ k. k.reread) shows) ∙ none-is a.reread none)
+    ∙ ap (λ m. reading m l.input) (sym is)
+    ∙ ap (reading mode) (sym (ap (λ k. k.input) shows) ∙ sym at)
+    ∙ reads
 
 -- An arm, by what the lexer holds
 

@@ -1,6 +1,6 @@
 pub mod Ending
+pub mod Giving
 pub mod Items
-pub mod Plain
 pub mod Slashes
 pub mod View
 pub use Rattle.ecma_state.specs.Attachment
@@ -18,6 +18,7 @@ pub use Rattle.ecma_state.specs.State
 pub use Rattle.ecma_state.specs.TokenAt
 pub use Rattle.ecma_state.specs.Transition
 pub use Rattle.ecma_dispatch.specs.Besides
+pub use Rattle.ecma_plain.specs.Plain
 pub use Rattle.ecma_place.specs.Atom
 pub use Rattle.ecma_place.specs.Cursor
 pub use Rattle.ecma_place.specs.Text

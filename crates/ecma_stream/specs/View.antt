@@ -3,8 +3,9 @@ use Rattle.std.specs.Prelude.{◌≡◌, ◌≤◌, [], Some, length, take}
 use Rattle.ecma_place.specs.Cursor.{place}
 use Rattle.ecma_place.specs.declared.place.BytePos.{BytePos}
 use Rattle.ecma_stream.specs.declared.lexer.Lexer.TheInside.{Inside}
+use Rattle.ecma_state.specs.Disposition.{no_errors}
 use Rattle.ecma_state.specs.Errors.{Begins}
-use Rattle.ecma_state.specs.Session.{LexerValue}
+use Rattle.ecma_state.specs.Session.{LexerState, LexerValue}
 use Rattle.ecma_checkpoint.specs.declared.checkpoint.Counts.{Counts}
 use Rattle.ecma_stream.specs.Slashes.{StandsSlash}
 use Rattle.ecma_state.specs.State.{last_slash}
@@ -49,3 +50,7 @@ cut_to n l =
       errors = record { recorded = take n.recorded l.errors.recorded; waiting = take n.waiting l.errors.waiting };
       comments = take n.comments l.comments;
     }
+
+-- a lexer that keeps no errors and no comments
+abbrev pub drained : LexerState → LexerState
+drained l = record l { errors = no_errors; comments = [] }

@@ -4,8 +4,8 @@ ghost use Rattle.ecma_syntax.specs.declared.settings.NumberRule.TheVariants.{Cra
 ghost use Rattle.ecma_token.specs.View.{error_view, spanned_view};
 ghost use Rattle.ecma_dispatch.specs.Besides.{IsBeside, TakesNone, bare, seen_beside, state_taking};
 ghost use Rattle.ecma_place.specs.Cursor.{rest};
-ghost use Rattle.ecma_stream.specs.Plain.{back_at, Gives, IsBehindGap, IsRefused};
-ghost use Rattle.ecma_stream.specs.View.{HasMore, IsGivenAs};
+ghost use Rattle.ecma_stream.specs.Giving.{back_at, Gives, IsBehindGap, IsRefused};
+ghost use Rattle.ecma_stream.specs.View.{HasMore, IsGivenAs, drained};
 ghost use Rattle.ecma_stream.specs.Slashes.{IsAnswer, MayReread, slash_answered};
 ghost use Rattle.ecma_state.specs.Session.{Session, kept_in, lexer_state, state_of};
 ghost use Rattle.ecma_state.specs.declared.step.Step.{Step};
@@ -240,6 +240,17 @@ impl<'a> Lexer<'a> {
             refused: _,
         } = self;
         (errors, comments.take_comments(), state.seen.ended)
+    }
+
+    /// Takes the errors, those that were recorded and those that wait, and the comments, in order: for who keeps them elsewhere,
+    /// with those of later reads behind them. None is kept then; it does not allocate. Our own.
+    pub fn take_found(&mut self) -> (ErrorLists<'a>, Vec<BufferedComment<'a>>)
+        ensures errors { errors_view result.0 ≡ (lexer_state self.old).errors }
+        ensures comments { result.1.items ≡ self.old.comments }
+        ensures after { lexer_state self.new ≡ drained (lexer_state self.old) }
+    {
+        let errors = mem::replace(&mut self.errors, ErrorLists::new(self.alloc));
+        (errors, self.comments.take_comments())
     }
 
     /// What the next read goes by.

@@ -3,7 +3,6 @@
 
 mod hand_over;
 pub mod lexer;
-mod plain;
 pub mod tokens;
 
 pub use ecma_checkpoint::{Checkpoint, Counts};

@@ -16,6 +16,17 @@ use ecma_token::Error;
 use std::alloc::AllocError;
 
 /// What the layer above asks of what it reads tokens from.
+///
+/// A parser that looks ahead makes a checkpoint of its [`Lexer`](crate::Lexer), reads on, and goes back, which copies nothing
+/// of what was read:
+///
+/// ```
+/// let before = lexer.checkpoint()?;
+/// let follows = lexer.read()?;
+/// if !lexer.rewind(&before)? {
+///     // Errors or comments that were there have been taken since.
+/// }
+/// ```
 pub trait Tokens<'a> {
     ghost state: { Self → LexerState };
 

@@ -4,7 +4,8 @@ ghost use Rattle.std.specs.Prelude.{◌≡◌, ◌<◌, ◌≤◌, true, false, 
 ghost use Rattle.ecma_token.specs.View.{spanned_view};
 ghost use Rattle.ecma_place.specs.Cursor.{HasPlace, place, rest};
 ghost use Rattle.ecma_scan.specs.Alone.{IsSpelledBy, StandsAlone};
-ghost use Rattle.ecma_stream.specs.Plain.{back_at, Gives, IsBehindGap, IsKept, IsRefused, begins_word, plain_reading};
+ghost use Rattle.ecma_plain.specs.Plain.{IsKept, begins_word, plain_reading};
+ghost use Rattle.ecma_stream.specs.Giving.{back_at, Gives, IsBehindGap, IsRefused};
 ghost use Rattle.ecma_state.specs.Reading.{reading};
 ghost use Rattle.ecma_state.specs.TokenAt.{lookahead};
 ghost use Rattle.ecma_state.specs.declared.lookahead.Lookahead.TheVariants as opens;
@@ -12,11 +13,11 @@ ghost use Rattle.ecma_state.specs.Session.{lexer_state};
 ghost use Rattle.ecma_state.specs.Run.{at_place, is_free_read, mode_of};
 
 use super::Lexer;
-use crate::plain::{
+use ecma_place::BytePos;
+use ecma_plain::plain::{
     Plain, eaten_number, eaten_string, plain_alone, plain_foreign, plain_gap, plain_number,
     plain_punctuator, plain_string, with_kept, word_behind,
 };
-use ecma_place::BytePos;
 use ecma_scan::{BlankGap, PunctuatorKind, eat_plain_kind};
 use ecma_slot::put;
 use ecma_syntax::{IdentKind, WordKind};

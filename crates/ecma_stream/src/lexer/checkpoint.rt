@@ -1,5 +1,6 @@
 //! Where a lexer is, and going back to where it was. Our own.
 ghost use Rattle.std.specs.Prelude.{◌≡◌, ◌≤◌, ◌↔◌, true, false, length, IfOk, IsOk, IsTrue, OnErr};
+ghost use Rattle.ecma_place.specs.Cursor.{IsWithin};
 ghost use Rattle.ecma_state.specs.Session.{lexer_state};
 ghost use Rattle.ecma_checkpoint.specs.Checkpoints.{GoesBack, checkpoint_of, counts_of, rewound};
 ghost use Rattle.ecma_stream.specs.View.{cut_to};
@@ -38,10 +39,12 @@ impl<'a> Lexer<'a> {
     pub fn checkpoint(&self) -> Result<Checkpoint, AllocError>
         ensures same { IfOk result (λ c. c ≡ checkpoint_of (lexer_state self.now)) }
         ensures goes { GoesBack (checkpoint_of (lexer_state self.now)) (lexer_state self.now) }
+        ensures within { IsWithin self.now.input }
         ensures free { length self.now.state.contexts ≤ 128 → IsOk result }
     {
+        let at = self.input.last_pos();
         Ok(Checkpoint {
-            at: self.input.cur_pos(),
+            at,
             context: self.context,
             state: self.state.copy()?,
             reread: self.reread,

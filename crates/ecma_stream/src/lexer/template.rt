@@ -4,12 +4,13 @@ ghost use Rattle.ecma_place.specs.Cursor.{HasPlace, rest};
 ghost use Rattle.ecma_state.specs.Reading.{reading};
 ghost use Rattle.ecma_state.specs.Run.{at_place, is_free_read, mode_of};
 ghost use Rattle.ecma_state.specs.Session.{lexer_state};
-ghost use Rattle.ecma_stream.specs.Plain.{back_at, Gives, IsKept, IsRefused, ReadsText, text_reading};
+ghost use Rattle.ecma_plain.specs.Plain.{IsKept, ReadsText, text_reading};
+ghost use Rattle.ecma_stream.specs.Giving.{back_at, Gives, IsRefused};
 ghost use Rattle.ecma_token.specs.View.{spanned_view};
 
 use super::Lexer;
-use crate::plain::{Plain, plain_text, text_between};
 use ecma_place::BytePos;
+use ecma_plain::plain::{Plain, plain_text, text_between};
 use ecma_scan::{PlainTemplate, eat_plain_template};
 use ecma_slot::put;
 use ecma_state::mode::Mode;

@@ -1,5 +1,4 @@
-use Rattle.std.proofs.Common.{◌∙◌, ap, refl, reverse, subst, sym}
-use Rattle.std.proofs.lemmas.List.{reverse-reverse}
+use Rattle.std.proofs.Common.{refl, subst, sym}
 use Rattle.ecma_state.specs.Counting.{counting}
 use Rattle.ecma_state.specs.Run.{act_all}
 use Rattle.ecma_replay.specs.Playing.{IsAt, Stands}
@@ -8,6 +7,5 @@ use Rattle.ecma_replay.proofs.course.Course.finish.Goals as goal
 pub returns : goal.returns
 returns c = λ begin xs stands.
     let shown = subst (Stands begin xs) (sym c.self.view_is) stands in
-    let at = subst (IsAt c.self.inside.kept (act_all begin (counting xs))) (sym c.branch.view_is) shown.branch in
-    c.of.ensures begin (act_all begin (counting xs)) xs refl (sym at.state)
-    (sym (reverse-reverse c.in_ok-kept.kept.items) ∙ ap reverse (c.in_ok-kept.ensures ∙ at.kept))
+    let at = subst (IsAt c.self.inside.trees (act_all begin (counting xs))) (sym c.branch.view_is) shown.branch in
+    c.joined.ensures begin (act_all begin (counting xs)) xs refl at

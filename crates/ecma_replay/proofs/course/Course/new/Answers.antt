@@ -5,4 +5,4 @@ use Rattle.ecma_replay.proofs.course.Course.new.Goals as goal
 
 pub returns : goal.returns
 returns c =
-    start_stands (start_of c.args.settings.now c.args.input) _ c.new-2.ensures (c.new.ensures (start_of c.args.settings.now c.args.input) c.with_settings-lexer.ensures refl) c.new-3.ensures.items
+    start_stands (start_of c.args.settings.now c.args.input) _ (c.new.ensures _ (start_of c.args.settings.now c.args.input) c.with_settings-lexer.ensures refl) c.new-3.ensures.items

@@ -1,12 +1,12 @@
 use Rattle.std.proofs.Common.{refl}
 use Rattle.ecma_state.specs.declared.step.Step.TheVariants.{SetCtx, SetExprAllowed, SetContexts, PopContext, Reread, Withdraw, TakeErrors}
 use Rattle.ecma_replay.proofs.ReplayLemmas.{counts_pop_context, counts_reread, counts_set_contexts, counts_set_ctx, counts_set_expr_allowed, counts_take_errors, counts_withdraw, step_responds, step_responds_ok}
-use Rattle.ecma_replay.proofs.KeptLemmas.{stays, stays_ok}
+use Rattle.ecma_replay.proofs.WayLemmas.{stays, stays-ok}
 use Rattle.ecma_replay.proofs.course.Course.respond.Goals as goal
 
 pub returns-in-SetCtx : goal.returns-in-SetCtx
 returns-in-SetCtx c =
-    step_responds_ok (SetCtx c.in-SetCtx.context) c.args.step.now c.in-SetCtx.is (counts_set_ctx c.in-SetCtx.context) c.args.self.now _ _ c.set_ctx.result c.self.view_is refl (stays_ok c.set_ctx.result _) (c.set_ctx.ensures _)
+    step_responds_ok (SetCtx c.in-SetCtx.context) c.args.step.now c.in-SetCtx.is (counts_set_ctx c.in-SetCtx.context) c.args.self.now _ _ c.set_ctx.result c.self.view_is refl c.set_ctx.ensures.grows c.set_ctx.ensures.acts
 
 pub returns-in-SetExprAllowed : goal.returns-in-SetExprAllowed
 returns-in-SetExprAllowed c =
@@ -14,7 +14,7 @@ returns-in-SetExprAllowed c =
 
 pub returns-in-SetContexts : goal.returns-in-SetContexts
 returns-in-SetContexts c =
-    step_responds_ok (SetContexts c.in-SetContexts.contexts) c.args.step.now c.in-SetContexts.is (counts_set_contexts c.in-SetContexts.contexts) c.args.self.now _ _ c.set_contexts.result c.self-in-SetContexts.view_is refl (stays_ok c.set_contexts.result _) (c.set_contexts.ensures _)
+    step_responds_ok (SetContexts c.in-SetContexts.contexts) c.args.step.now c.in-SetContexts.is (counts_set_contexts c.in-SetContexts.contexts) c.args.self.now _ _ c.set_contexts.result c.self-in-SetContexts.view_is refl (stays-ok c.set_contexts.result _) (c.set_contexts.ensures _)
 
 pub returns-in-PopContext : goal.returns-in-PopContext
 returns-in-PopContext c =
@@ -30,4 +30,4 @@ returns-in-Withdraw c =
 
 pub returns-in-TakeErrors : goal.returns-in-TakeErrors
 returns-in-TakeErrors c =
-    step_responds TakeErrors c.args.step.now c.in-TakeErrors.is counts_take_errors c.args.self.now _ _ c.take_errors.result c.self-in-TakeErrors.view_is refl (stays _) (c.take_errors.ensures _)
+    step_responds_ok TakeErrors c.args.step.now c.in-TakeErrors.is counts_take_errors c.args.self.now _ _ c.take_errors.result c.self-in-TakeErrors.view_is refl (stays-ok c.take_errors.result _) c.take_errors.ensures

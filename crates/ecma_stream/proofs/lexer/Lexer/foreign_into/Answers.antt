@@ -3,7 +3,7 @@ use Rattle.std.specs.Prelude.{OnErr, OnOk}
 use Rattle.ecma_state.specs.Reading.{reading}
 use Rattle.ecma_state.specs.Run.{mode_of}
 use Rattle.ecma_state.specs.Session.{LexerValue, lexer_state}
-use Rattle.ecma_stream.specs.Plain.{Gives, IsRefused}
+use Rattle.ecma_stream.specs.Giving.{Gives, IsRefused}
 use Rattle.ecma_stream.specs.View.{lexer_view}
 use Rattle.ecma_stream.proofs.ArmLemmas.{at-text, has-before, moved-lexer, text-back}
 use Rattle.ecma_stream.proofs.lexer.Lexer.foreign_into.Goals as goal

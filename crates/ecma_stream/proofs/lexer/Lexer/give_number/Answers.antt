@@ -6,9 +6,9 @@ use Rattle.ecma_state.specs.Run.{mode_of}
 use Rattle.ecma_state.specs.Session.{lexer_state}
 use Rattle.ecma_state.specs.TokenAt.{lookahead}
 use Rattle.ecma_state.specs.declared.mode.Mode.{Mode}
-use Rattle.ecma_stream.specs.Plain.{IsPlain, plain_reading}
+use Rattle.ecma_plain.specs.Plain.{IsPlain, plain_reading}
 use Rattle.ecma_stream.proofs.ArmLemmas.{arm-read, moved-lexer}
-use Rattle.ecma_stream.proofs.PlainLemmas.{plain-of-number}
+use Rattle.ecma_plain.proofs.PlainLemmas.{plain-of-number}
 use Rattle.ecma_stream.proofs.SlashLemmas.{same-lexer}
 use Rattle.ecma_stream.proofs.lexer.Lexer.give_number.Goals as goal
 

@@ -3,7 +3,7 @@ use Rattle.ecma_token.specs.View.{spanned_view}
 use Rattle.ecma_state.specs.Run.{mode_of}
 use Rattle.ecma_state.specs.Session.{lexer_state}
 use Rattle.ecma_state.specs.declared.mode.Mode.{Mode}
-use Rattle.ecma_stream.specs.Plain.{IsPlain}
+use Rattle.ecma_plain.specs.Plain.{IsPlain}
 use Rattle.ecma_stream.proofs.ArmLemmas.{arm-read, moved-lexer}
 use Rattle.ecma_stream.proofs.lexer.Lexer.give_punctuator.Goals as goal
 

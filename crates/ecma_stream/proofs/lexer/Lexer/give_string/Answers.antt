@@ -5,10 +5,10 @@ use Rattle.ecma_token.specs.declared.token.TokenAndSpan.{TokenAndSpan}
 use Rattle.ecma_state.specs.Run.{mode_of}
 use Rattle.ecma_state.specs.Session.{lexer_state}
 use Rattle.ecma_state.specs.TokenAt.{lookahead}
-use Rattle.ecma_stream.specs.Plain.{plain_reading}
+use Rattle.ecma_plain.specs.Plain.{plain_reading}
 use Rattle.ecma_stream.specs.View.{lexer_view}
 use Rattle.ecma_stream.proofs.ArmLemmas.{arm-read, moved-lexer}
-use Rattle.ecma_stream.proofs.PlainLemmas.{plain-of-string}
+use Rattle.ecma_plain.proofs.PlainLemmas.{plain-of-string}
 use Rattle.ecma_stream.proofs.SlashLemmas.{same-lexer}
 use Rattle.ecma_stream.proofs.lexer.Lexer.give_string.Goals as goal
 

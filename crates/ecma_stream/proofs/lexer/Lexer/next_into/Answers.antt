@@ -3,9 +3,9 @@ use Rattle.std.specs.Prelude.{IsOk, OnErr, OnOk}
 use Rattle.ecma_place.specs.Cursor.{rest}
 use Rattle.ecma_state.specs.Run.{is_free_read}
 use Rattle.ecma_state.specs.Session.{LexerValue, lexer_state}
-use Rattle.ecma_stream.specs.Plain.{Gives, IsRefused}
-use Rattle.ecma_stream.proofs.ArmLemmas.{arm-back, arm-behind, moved-lexer, none-behind}
-use Rattle.ecma_stream.proofs.PlainLemmas.{none-is}
+use Rattle.ecma_stream.specs.Giving.{Gives, IsRefused}
+use Rattle.ecma_stream.proofs.ArmLemmas.{arm-back, arm-behind, moved-lexer}
+use Rattle.ecma_plain.proofs.PlainLemmas.{none-behind, none-is}
 use Rattle.ecma_stream.proofs.lexer.Lexer.next_into.Goals as goal
 
 pub invariant_of-self : goal.invariant_of-self

@@ -4,10 +4,11 @@ use Rattle.ecma_token.specs.View.{spanned_view}
 use Rattle.ecma_state.specs.Reading.{is_free, reading}
 use Rattle.ecma_state.specs.Run.{is_free_read, mode_of}
 use Rattle.ecma_state.specs.Session.{LexerValue, lexer_state}
-use Rattle.ecma_stream.specs.Plain.{Gives, IsRefused, ReadsText}
+use Rattle.ecma_plain.specs.Plain.{ReadsText}
+use Rattle.ecma_stream.specs.Giving.{Gives, IsRefused}
 use Rattle.ecma_stream.specs.View.{lexer_view}
 use Rattle.ecma_stream.proofs.ArmLemmas.{at-text, first-at, has-before, moved-lexer, text-back}
-use Rattle.ecma_stream.proofs.PlainLemmas.{free-text, text-read}
+use Rattle.ecma_plain.proofs.PlainLemmas.{free-text, text-read}
 use Rattle.ecma_stream.proofs.SlashLemmas.{same-lexer}
 use Rattle.ecma_stream.proofs.lexer.Lexer.scanned_text_into.Goals as goal
 

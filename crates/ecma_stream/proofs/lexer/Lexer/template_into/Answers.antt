@@ -7,10 +7,11 @@ use Rattle.ecma_state.specs.Reading.{reading}
 use Rattle.ecma_state.specs.Run.{is_free_read, mode_of}
 use Rattle.ecma_state.specs.Mode.{is_tpl_element}
 use Rattle.ecma_state.specs.Session.{LexerValue, lexer_state}
-use Rattle.ecma_stream.specs.Plain.{Gives, IsRefused, ReadsText}
+use Rattle.ecma_plain.specs.Plain.{ReadsText}
+use Rattle.ecma_stream.specs.Giving.{Gives, IsRefused}
 use Rattle.ecma_stream.specs.View.{lexer_view}
 use Rattle.ecma_stream.proofs.ArmLemmas.{at-text, first-at, has-before, moved-lexer, same-back, text-back}
-use Rattle.ecma_stream.proofs.PlainLemmas.{eaten-text}
+use Rattle.ecma_plain.proofs.PlainLemmas.{eaten-text}
 use Rattle.ecma_stream.proofs.lexer.Lexer.template_into.Goals as goal
 
 pub invariant_of-self : goal.invariant_of-self

@@ -1,0 +1,6 @@
+//! Lists that share their beginnings.
+#![tactic(auto)]
+
+pub mod tree;
+
+pub use tree::Tree;
