@@ -18,7 +18,9 @@ enum ecma_option {
     ECMA_MODULE = 2,
     ECMA_STRICT = 4,
     /* Whether a slash begins a regular expression is told by the lexer's own flag; no places are given then. */
-    ECMA_SLASHES_BY_FLAG = 8
+    ECMA_SLASHES_BY_FLAG = 8,
+    /* It is told by the tokens before it, which errs in fewer texts; no places are given then. */
+    ECMA_SLASHES_BY_ROLE = 16
 };
 
 /* What a call came to. */

@@ -1,23 +1,42 @@
-//! Reads a text and writes where each of its tokens is: how a program uses the lexer, and no more.
+//! Reads a text from standard input and writes where each of its identifiers is: how a program uses the layer, and no more.
 #![tactic(auto)]
 
-use ecma_lexer::Lexer;
 use ecma_lexer::place::{BytePos, StringInput};
-use ecma_lexer::syntax::{EsVersion, Syntax};
+use ecma_lexer::syntax::{Context, EsVersion, NumberRule, Syntax, TsSyntax, WordKind};
+use ecma_lexer::token::TokenKind;
+use ecma_lexer::{LineStarts, Settings, Slashes, tokenize};
 use std::io;
 
-const SOURCE: &str = "let x = 1;";
+const START: BytePos = BytePos(0);
 
 fn main(rt: HostRuntime) -> io::Result<()> {
-    let input = StringInput::new(SOURCE, BytePos(0));
-    let syntax = Syntax::default();
-    let lexer = Lexer::new(rt.alloc(), syntax, EsVersion::default(), input, false);
-    for token in lexer {
-        let token = token?;
-        println!(rt;
-            "{}..{} {:?}",
-            token.span.lo.0, token.span.hi.0, token.token
-        )?;
+    let text = io::read_to_string(rt.alloc(), rt.stdin())?;
+    if !StringInput::fits(&text, START) {
+        println!(rt.stderr(); "the text is longer than 4,294,967,295 bytes")?;
+        return Ok(());
+    }
+    let settings = Settings {
+        syntax: Syntax::Typescript(TsSyntax::default()),
+        target: EsVersion::default(),
+        comments: false,
+        numbers: NumberRule::default(),
+    };
+    let context = Context::default();
+    let lines = LineStarts::of(rt.alloc(), text.as_bytes())?;
+    let output = tokenize(
+        rt.alloc(),
+        &settings,
+        context,
+        &text,
+        START,
+        Slashes::ByRole,
+    )?;
+    for token in &output.gathered.kept {
+        if let TokenKind::Word(WordKind::Ident(_)) = token.kind {
+            let at = lines.position(token.span.lo);
+            let name = text.get(token.span.lo.0 as usize..token.span.hi.0 as usize);
+            println!(rt; "{}:{} {}", at.line, at.column, name.unwrap_or(""))?;
+        }
     }
     Ok(())
 }

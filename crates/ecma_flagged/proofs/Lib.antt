@@ -1,1 +1,1 @@
-pub mod FlagLemmas
+pub mod RuleLemmas

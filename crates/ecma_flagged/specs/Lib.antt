@@ -1,1 +1,3 @@
 pub mod ByFlag
+pub mod ByRole
+pub mod ByRule

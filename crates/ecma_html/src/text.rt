@@ -10,10 +10,11 @@ use crate::class::token_classes;
 use crate::markup::html;
 use ecma_classes::classes;
 use ecma_place::BytePos;
+use ecma_reader::tokenize;
 use ecma_replay::{Gathered, gather};
+use ecma_slashes::Slashes;
 use ecma_state::{Settings, Step};
 use ecma_syntax::Context;
-use ecma_texts::gather_by_flag;
 use std::alloc::{AllocError, Global};
 
 /// A text as HTML ([`html`]), by what was gathered of it: the tokens that were kept, and the comments that were collected. The
@@ -78,6 +79,13 @@ pub fn html_text(
     ensures same { IfOk result (λ v. v.items ≡ html_text_of settings.now context source.now) }
     ensures back { IfOk result (λ v. unmark v.items ≡ shown source.now) }
 {
-    let gathered = gather_by_flag(alloc, settings, context, source, BytePos(0))?;
-    html_of_gathered(alloc, source, &gathered)
+    let read = tokenize(
+        alloc,
+        settings,
+        context,
+        source,
+        BytePos(0),
+        Slashes::ByFlag,
+    )?;
+    html_of_gathered(alloc, source, &read.gathered)
 }

@@ -9,11 +9,12 @@ ghost use Rattle.ecma_imports.specs.Lines.{LiesWithin, imports_of, imports_of_st
 
 use crate::imported::{Form, Specifier, specifiers};
 use ecma_place::BytePos;
+use ecma_reader::tokenize;
 use ecma_replay::gather;
+use ecma_slashes::Slashes;
 use ecma_state::{Kept, Settings, Step};
 use ecma_stdio::push_pair;
 use ecma_syntax::Context;
-use ecma_texts::gather_by_flag;
 use std::alloc::{AllocError, Global};
 
 fn form_name(form: Form) -> &'static str
@@ -108,6 +109,13 @@ pub fn imports_text(
     requires { length source.now < 2 ^ 32 }
     ensures { IfOk result (λ v. v.items ≡ imports_of settings.now context source.now) }
 {
-    let gathered = gather_by_flag(alloc, settings, context, source, BytePos(0))?;
-    imports_of_kept(alloc, source, gathered.kept.as_slice())
+    let read = tokenize(
+        alloc,
+        settings,
+        context,
+        source,
+        BytePos(0),
+        Slashes::ByFlag,
+    )?;
+    imports_of_kept(alloc, source, read.gathered.kept.as_slice())
 }

@@ -15,7 +15,6 @@ pub use Rattle.ecma_laws.proofs.NestedLemmas
 pub use Rattle.ecma_laws.proofs.NothingLemmas
 pub use Rattle.ecma_state.proofs.LookaheadLemmas
 pub use Rattle.ecma_laws.proofs.OrderLemmas
-pub use Rattle.ecma_stream.proofs.PlainLemmas
 pub use Rattle.ecma_stream.proofs.ProgressLemmas
 pub use Rattle.ecma_dispatch.proofs.ReadingLemmas
 pub use Rattle.ecma_replay.proofs.ReplayLemmas

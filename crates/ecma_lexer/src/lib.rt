@@ -7,13 +7,15 @@ pub use ecma_canonical::{Canon, canonical, canonical_text, clean_text, joined};
 pub use ecma_classes::{Class, Piece, classes, piece};
 pub use ecma_pieces::classes_of_steps;
 pub use ecma_place as place;
+pub use ecma_positions::{LineStarts, Position};
+pub use ecma_reader::{LexOutput, Outcome, Reader, tokenize};
 pub use ecma_replay::{
     Answer, Gathered, Replay, answer, gather, gathered, replay, replayed, runner,
 };
 pub use ecma_scan as scan;
 pub use ecma_slashes::{
-    Slashes, add_steps_by, add_steps_to_end, ascend, count_rereads, read_by, read_by_flag,
-    read_telling, steps_by, steps_by_flag,
+    Decider, Slashes, add_steps_by, add_steps_to_end, ascend, count_rereads, read_by, read_by_flag,
+    read_deciding, read_telling, steps_by, steps_by_flag,
 };
 pub use ecma_state::{
     BufferedComment, BufferedCommentKind, CommentsBuffer, ErrorList, Kept, Settings, State, Step,

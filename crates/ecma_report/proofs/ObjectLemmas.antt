@@ -8,7 +8,7 @@ use Rattle.ecma_place.specs.declared.place.Span.{Span}
 use Rattle.ecma_positions.specs.declared.position.Position.{Position}
 use Rattle.ecma_report.specs.declared.report.More.{More}
 use Rattle.ecma_report.specs.declared.report.More.TheVariants.{Nothing, LineBreak, Beside}
-use Rattle.ecma_report.specs.Rows.{line_break_text, members, side_text, token_text}
+use Rattle.ecma_report.specs.Rows.{line_break_text, members, side_text, text_data, token_text}
 
 -- a piece that was added before others
 pub behind : (before middle after piece rest : List ℕ) → middle ≡ before ++ piece → after ≡ middle ++ rest → after ≡ before ++ (piece ++ rest)
@@ -34,3 +34,12 @@ parts-object file at span kind text Nothing = refl
 parts-object file at span kind text (LineBreak true) = refl
 parts-object file at span kind text (LineBreak false) = refl
 parts-object file at span kind text (Beside side token) = refl
+
+-- the same of a whole text
+
+abbrev pub text_parts : List ℕ → List ℕ → List ℕ
+text_parts file text = (codes "{\"file\":" ++ quoted file) ++ ((codes ",\"text\":" ++ quoted text) ++ codes "}")
+
+pub text-parts-object : (file text : List ℕ) → text_parts file text ≡ compact_text (text_data file text)
+unfolding escape_byte
+text-parts-object file text = refl

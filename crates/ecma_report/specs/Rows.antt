@@ -1,12 +1,17 @@
 -- What is written of a row.
-use Rattle.std.specs.Prelude.{ℕ, List, [], ◌∷◌, ◌++◌, ◌==◌, ◌||◌, Bool, true, false, nat_lt, Option, Some, None, codes, decimal}
+use Rattle.std.specs.Prelude.{ℕ, List, [], ◌∷◌, ◌++◌, ◌==◌, ◌||◌, Bool, true, false, ◌&&◌, if◌then◌else◌, length, nat_le, nat_lt, slice_index, slice_range, Option, Some, None, codes, decimal}
 use Rattle.json.specs.Print.{quoted}
+use Rattle.serde_json.specs.Written.{compact_text}
 use Rattle.serde_json.specs.Data.{Data, Members, unsigned, boolean, number, string, object, no_members, member}
+use Rattle.ecma_place.specs.declared.place.BytePos.{BytePos}
 use Rattle.ecma_place.specs.declared.place.Span.{Span}
+use Rattle.ecma_stdio.specs.Escaped.{escaped}
+use Rattle.ecma_positions.specs.Positions.{position_in}
 use Rattle.ecma_positions.specs.declared.position.Position.{Position}
 use Rattle.ecma_report.specs.declared.report.More.{More}
 use Rattle.ecma_report.specs.declared.report.More.TheVariants.{Nothing, LineBreak, Beside}
 use Rattle.ecma_report.specs.declared.report.Row.{Row}
+use Rattle.ecma_report.specs.declared.words.Asked.{Asked}
 
 abbrev pub needs_escape : ℕ → Bool
 needs_escape byte = nat_lt byte 32 || (byte == 34 || byte == 92)
@@ -45,6 +50,10 @@ members file at span kind text more =
 abbrev pub row_data : List ℕ → Position → Row → Data
 row_data file at row = object (members file at row.span row.kind.now row.text.now row.more)
 
+-- a whole text
+abbrev pub text_data : List ℕ → List ℕ → Data
+text_data file text = object (member (codes "file") (string file) (member (codes "text") (string text) no_members))
+
 -- the members that not each row has, as they are written behind others
 
 abbrev pub line_break_text : More → List ℕ
@@ -76,5 +85,40 @@ more_text (LineBreak false) = codes " - "
 more_text (Beside side token) = 32 ∷ (side.now ++ 32 ∷ (decimal token.0 ++ codes " "))
 
 -- what it is, its line and column where they are asked for, where it begins and ends, and what else is told
+abbrev pub head_of : Option Position → List ℕ → Span → More → List ℕ
+head_of at kind span more = kind ++ (position_text at ++ 32 ∷ (decimal span.lo.0 ++ 32 ∷ (decimal span.hi.0 ++ more_text more)))
+
 abbrev pub head : Option Position → Row → List ℕ
-head at row = row.kind.now ++ (position_text at ++ 32 ∷ (decimal row.span.lo.0 ++ 32 ∷ (decimal row.span.hi.0 ++ more_text row.more)))
+head at row = head_of at row.kind.now row.span row.more
+
+-- A row as it is written
+
+-- its line and column, where they are asked for
+abbrev pub place_asked : Asked → List ℕ → BytePos → Option Position
+place_asked asked text place = if asked.lines then Some (position_in text place) else None
+
+-- an object, or a line: of what kind it is, where it lies, what else is told, and its text
+abbrev pub parts_of : Asked → List ℕ → List ℕ → List ℕ → Span → More → List ℕ → List ℕ
+parts_of asked file text kind span more own =
+    if asked.json then compact_text (object (members file (position_in text span.lo) span kind own more)) else head_of (place_asked asked text span.lo) kind span more ++ escaped own
+
+-- with the end of its line
+abbrev pub row_of : Asked → List ℕ → List ℕ → List ℕ → Span → More → List ℕ → List ℕ
+row_of asked file text kind span more own = parts_of asked file text kind span more own ++ 10 ∷ []
+
+abbrev pub row_parts : Asked → List ℕ → List ℕ → Row → List ℕ
+row_parts asked file text row = parts_of asked file text row.kind.now row.span row.more row.text.now
+
+abbrev pub row_text : Asked → List ℕ → List ℕ → Row → List ℕ
+row_text asked file text row = row_of asked file text row.kind.now row.span row.more row.text.now
+
+-- The text at a span, where it begins and ends with characters
+
+abbrev pub is_boundary : List ℕ → ℕ → Bool
+is_boundary text place = nat_le place (length text) && (nat_le (length text) place || (nat_lt (slice_index text place) 128 || nat_le 192 (slice_index text place)))
+
+abbrev pub is_part : List ℕ → Span → Bool
+is_part text span = nat_le span.lo.0 span.hi.0 && (is_boundary text span.lo.0 && is_boundary text span.hi.0)
+
+abbrev pub part_at : List ℕ → Span → List ℕ
+part_at text span = if is_part text span then slice_range text span.lo.0 span.hi.0 else []

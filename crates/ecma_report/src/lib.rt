@@ -1,6 +1,14 @@
-//! The words of the command `ecma`, and what it writes of a part of a text: a line, or a JSON object.
+//! The command `ecma` but for its files: its words, and what it writes of a text, while the text is read.
 #![tactic(auto)]
 
+mod comments;
+mod faults;
+mod imports;
+mod lines;
 pub mod report;
+mod slashes;
+pub mod telling;
+mod tokens;
+mod whole;
 pub mod words;
 mod written;

@@ -1,15 +1,41 @@
-//! What is written of a text: lines, or JSON objects.
-ghost use Rattle.std.specs.Prelude.{◌≡◌, ℕ, List};
-ghost use Rattle.ecma_positions.specs.Positions.{line_starts, position_in};
+//! What is written of a text: lines, or JSON objects, in blocks.
+ghost use Rattle.std.specs.Prelude.{◌≡◌, ◌++◌, [], IfOk, OnOk, OnErr};
+ghost use Rattle.std.specs.Io.KnownBytes.{Appends};
+ghost use Rattle.ecma_positions.specs.Positions.{position_in};
+ghost use Rattle.ecma_report.specs.Lines.{Counts};
+ghost use Rattle.ecma_report.specs.Reports.{Adds, IsOf, Stays};
+ghost use Rattle.ecma_report.specs.Rows.{part_at, row_parts, row_text};
 
+use crate::lines::Lines;
 use crate::words::Asked;
-use crate::written::{push_head, push_object};
+use crate::written::{push_head, push_object, push_text_object};
 use ecma_place::{BytePos, Span};
-use ecma_positions::{LineStarts, Position};
-use ecma_stdio::push_escaped;
+use ecma_positions::Position;
+use ecma_stdio::{FAILED, push_escaped, send};
 use ecma_token::SyntaxError;
-use serde_json::Value;
 use std::alloc::{AllocError, Global};
+use std::io::Write;
+
+/// So many bytes are written at once, or more where a row is longer.
+const BLOCK: usize = 65_536;
+
+/// Why a report ends before its text does.
+#[derive(Clone, Copy, Debug, PartialEq, Eq)]
+pub enum Stop {
+    OutOfMemory,
+    /// A write failed, or took nothing.
+    Closed,
+}
+
+impl From<AllocError> for Stop {
+    ghost use Rattle.ecma_report.specs.declared.report.Stop.{Stop};
+
+    ghost from_gives = { λ _ stop. stop ≡ Stop.OutOfMemory };
+
+    fn from(_: AllocError) -> Stop {
+        Stop::OutOfMemory
+    }
+}
 
 /// What is reported of a part of a text besides what all rows have.
 #[derive(Clone, Copy, Debug, PartialEq, Eq)]
@@ -37,61 +63,112 @@ pub struct Report<'a> {
     pub asked: Asked,
     pub name: &'a str,
     pub text: &'a str,
-    lines: LineStarts,
-    /// The line in which the last row begins.
-    line: usize,
+    lines: Lines,
+    /// The rows that were added and not written yet.
     pub out: Vec<u8>,
+    /// The lines of faults, each with the name of the file.
     pub faults: Vec<u8>,
     /// Whether the text has an error.
     pub is_faulty: bool,
 }
 
+/// Writes all of these bytes.
+///
+/// # Errors
+///
+/// `Closed` where not all of them went out.
+pub(crate) fn write_all<W: Write>(out: &mut W, bytes: &[u8]) -> Result<(), Stop>
+    ensures { OnOk result (Appends (W.contents out.old) (W.contents out.new) bytes.now) }
+{
+    if send(out, 0, bytes) == FAILED {
+        return Err(Stop::Closed);
+    }
+    Ok(())
+}
+
 impl<'a> Report<'a> {
+    /// Of a text of which nothing is told yet. It takes no memory.
+    ///
+    /// # Errors
+    ///
+    /// None.
     pub fn new(
         alloc: Global,
         asked: Asked,
         name: &'a str,
         text: &'a str,
-    ) -> Result<Report<'a>, AllocError> {
+    ) -> Result<Report<'a>, AllocError>
+        ensures { IfOk result (λ report. IsOf asked name.now text.now report × (report.out.items ≡ [])) }
+    {
         Ok(Report {
             alloc,
             asked,
             name,
             text,
-            lines: LineStarts::of(alloc, text.as_bytes())?,
-            line: 1,
+            lines: Lines::new(),
             out: Vec::new(alloc),
             faults: Vec::new(alloc),
             is_faulty: false,
         })
     }
 
-    /// The text at a span.
-    pub fn at(&self, span: Span) -> &'a str {
-        self.text
-            .get(span.lo.0 as usize..span.hi.0 as usize)
-            .unwrap_or("")
+    /// The text at a span, or none where that begins or ends within a character, or behind the text.
+    pub fn at(&self, span: Span) -> &'a str
+        ensures { result.now ≡ part_at self.now.text.now span }
+    {
+        let (from, to) = (span.lo.0 as usize, span.hi.0 as usize);
+        if from <= to && self.text.is_char_boundary(from) && self.text.is_char_boundary(to) {
+            &self.text[from..to]
+        } else {
+            ""
+        }
     }
 
-    /// Adds a JSON object in a line of its own.
-    pub fn push_json(&mut self, value: Value) -> Result<(), AllocError> {
-        let line = value.to_string(self.alloc)?;
-        self.out.extend_from_slice(line.as_bytes())?;
-        self.out.push(b'\n')?;
+    /// Writes the rows that were added.
+    ///
+    /// # Errors
+    ///
+    /// `Closed` where not all of them went out.
+    pub(crate) fn flush<W: Write>(&mut self, out: &mut W) -> Result<(), Stop>
+        ensures written { OnOk result (Appends (W.contents out.old) (W.contents out.new) self.old.out.items) }
+        ensures none { OnOk result (self.new.out.items ≡ []) }
+        ensures stays { Stays self.old self.new }
+    {
+        write_all(out, &self.out)?;
+        self.out.clear();
         Ok(())
     }
 
-    /// The line and the column of a place, most often that of a row in the line of the last one.
-    fn position(&mut self, place: BytePos) -> Position
-        ensures { (bytes : List ℕ) → self.old.lines.starts.items ≡ line_starts bytes → result ≡ position_in bytes place }
+    /// Writes the rows that were added where they fill a block.
+    ///
+    /// # Errors
+    ///
+    /// `Closed` where not all of them went out.
+    pub(crate) fn pass_on<W: Write>(&mut self, out: &mut W) -> Result<(), Stop>
+        ensures adds { OnOk result (Adds (W.contents out.old) (W.contents out.new) self.old.out.items self.new.out.items []) }
+        ensures stays { Stays self.old self.new }
     {
-        let position = self.lines.position_near(place, self.line);
-        self.line = position.line;
-        position
+        if self.out.len() < BLOCK {
+            return Ok(());
+        }
+        self.flush(out)
+    }
+
+    /// The line and the column of a place, most often one behind that of the last row.
+    fn position(&mut self, place: BytePos) -> Position
+        ensures position { Counts self.old.text.now self.old.lines → result ≡ position_in self.old.text.now place }
+        ensures stays { Stays self.old self.new }
+        ensures out { self.new.out ≡ self.old.out }
+    {
+        self.lines.position(self.text.as_bytes(), place)
     }
 
     /// Adds a row, but not the end of its line.
-    fn push_parts(&mut self, row: Row) -> Result<(), AllocError> {
+    fn push_parts(&mut self, row: Row) -> Result<(), AllocError>
+        ensures added { Counts self.old.text.now self.old.lines
+            → OnOk result (self.new.out.items ≡ self.old.out.items ++ row_parts self.old.asked self.old.name.now self.old.text.now row.entry) }
+        ensures stays { Stays self.old self.new }
+    {
         if self.asked.json {
             let position = self.position(row.span.lo);
             return push_object(&mut self.out, self.name, position, row);
@@ -106,7 +183,11 @@ impl<'a> Report<'a> {
     }
 
     /// Adds a row with the end of its line.
-    fn push_whole(&mut self, row: Row) -> Result<(), AllocError> {
+    fn push_whole(&mut self, row: Row) -> Result<(), AllocError>
+        ensures added { Counts self.old.text.now self.old.lines
+            → OnOk result (self.new.out.items ≡ self.old.out.items ++ row_text self.old.asked self.old.name.now self.old.text.now row.entry) }
+        ensures stays { Stays self.old self.new }
+    {
         self.push_parts(row)?;
         self.out.push(b'\n')?;
         Ok(())
@@ -117,7 +198,11 @@ impl<'a> Report<'a> {
     /// # Errors
     ///
     /// `AllocError` where there is no memory. Nothing is added then.
-    pub fn push_row(&mut self, row: Row) -> Result<(), AllocError> {
+    pub fn push_row(&mut self, row: Row) -> Result<(), AllocError>
+        ensures added { Counts self.old.text.now self.old.lines
+            → OnOk result (self.new.out.items ≡ self.old.out.items ++ row_text self.old.asked self.old.name.now self.old.text.now row.entry) }
+        ensures stays { Stays self.old self.new }
+    {
         let before = self.out.len();
         let pushed = self.push_whole(row);
         if pushed.is_err() {
@@ -126,9 +211,19 @@ impl<'a> Report<'a> {
         pushed
     }
 
+    /// Adds a whole text with these bytes as a JSON object in a line.
+    pub(crate) fn push_text(&mut self, bytes: &[u8]) -> Result<(), AllocError> {
+        push_text_object(&mut self.out, self.name, bytes)?;
+        self.out.push(b'\n')?;
+        Ok(())
+    }
+
     /// Adds an error to the faults, with the name of the file, its line and its column.
-    pub fn push_fault(&mut self, span: Span, kind: &SyntaxError) -> Result<(), AllocError> {
-        let Position { line, column } = self.lines.position(span.lo);
+    pub fn push_fault(&mut self, span: Span, kind: &SyntaxError) -> Result<(), AllocError>
+        ensures out { self.new.out ≡ self.old.out }
+        ensures stays { Stays self.old self.new }
+    {
+        let Position { line, column } = self.position(span.lo);
         let name = self.name;
         let message = kind.msg(self.alloc)?;
         let head = format!(in self.alloc; "{name}:{line}:{column}: ")?;

@@ -97,7 +97,10 @@ impl Asked {
 
     /// The same for a file: its ending may say that it is TypeScript, or a module.
     pub fn for_file(self, name: &str) -> Asked {
-        let typescript = name.ends_with(".ts") || name.ends_with(".mts") || name.ends_with(".cts");
+        let typescript = name.ends_with(".ts")
+            || name.ends_with(".mts")
+            || name.ends_with(".cts")
+            || name.ends_with(".tsx");
         let module = name.ends_with(".mts") || name.ends_with(".mjs");
         Asked {
             options: Options {
@@ -109,6 +112,18 @@ impl Asked {
         }
     }
 }
+
+/// Which slashes begin regular expressions, as the words say.
+#[derive(Clone, Copy, Debug)]
+pub struct Named<'a> {
+    /// Those at these places, where there are any.
+    pub places: &'a [BytePos],
+    /// Where there are none: those that the lexer's own flag says, and not those where the tokens before expect an operand.
+    pub by_flag: bool,
+}
+
+/// The rules by which a slash may be told.
+const RULES: &[&str] = &["role", "flag"];
 
 fn flag<'a>(alloc: Global, name: &'a str, help: &'a str) -> Arg<'a> {
     Arg::new(alloc, name)
@@ -131,10 +146,18 @@ fn subcommand<'a>(alloc: Global, face: Face) -> Result<Command<'a>, AllocError> 
         .help(
             "Read the slash at the byte place N as a regular expression, and no other; once for each",
         );
+    let slashes = Arg::new(alloc, "slashes")
+        .long("slashes")
+        .value_name("RULE")
+        .value_parser(RULES)
+        .help(
+            "Tell regular expressions by the tokens before them (role, if left out), or by the lexer's own flag (flag)",
+        );
     Command::new(alloc, face.name())
         .about(face.help())
         .arg(files)?
         .arg(slash)?
+        .arg(slashes)?
         .arg(flag(
             alloc,
             "ts",
@@ -146,6 +169,11 @@ fn subcommand<'a>(alloc: Global, face: Face) -> Result<Command<'a>, AllocError> 
             "Read as a module, as files ending in .mjs and .mts are",
         ))?
         .arg(flag(alloc, "strict", "Read as strict code"))?
+        .arg(flag(
+            alloc,
+            "as-is",
+            "Read files ending in .jsx and .tsx too, as JavaScript and TypeScript: JSX is misread",
+        ))?
         .arg(flag(alloc, "json", "Write one JSON object a line"))?
         .arg(flag(alloc, "lines", "Write line:column beside byte places"))
 }
@@ -161,6 +189,16 @@ pub fn command<'a>(alloc: Global) -> Result<Command<'a>, AllocError> {
         command = command.subcommand(subcommand(alloc, face)?)?;
     }
     Ok(command)
+}
+
+/// Whether the words say that slashes are told by the lexer's own flag.
+pub fn is_by_flag(matches: &ArgMatches) -> bool {
+    matches.get_str("slashes") == Some("flag")
+}
+
+/// Whether a file's ending says that it has JSX, which is not read.
+pub fn has_jsx(name: &str) -> bool {
+    name.ends_with(".jsx") || name.ends_with(".tsx")
 }
 
 /// The places of the slashes that the words name, in order and each once.

@@ -77,14 +77,39 @@ fn push_number_member(out: &mut Vec<u8>, before: &[u8], number: usize) -> Result
     push_number(out, number)
 }
 
-/// Adds a member of a JSON object that is a string, behind what comes before it, the opening quote with it.
-fn push_text_member(out: &mut Vec<u8>, before: &[u8], text: &str) -> Result<(), AllocError>
-    ensures { OnOk result (out.new.items ≡ out.old.items ++ (before.now ++ quoted text.now)) }
+/// Adds a member of a JSON object that is a string of these bytes, behind what comes before it.
+fn push_bytes_member(out: &mut Vec<u8>, before: &[u8], bytes: &[u8]) -> Result<(), AllocError>
+    ensures { OnOk result (out.new.items ≡ out.old.items ++ (before.now ++ quoted bytes.now)) }
 {
     out.extend_from_slice(before)?;
     out.push(b'"')?;
-    push_inside(out, text.as_bytes())?;
+    push_inside(out, bytes)?;
     out.push(b'"')?;
+    Ok(())
+}
+
+/// Adds a member of a JSON object that is a string, behind what comes before it.
+fn push_text_member(out: &mut Vec<u8>, before: &[u8], text: &str) -> Result<(), AllocError>
+    ensures { OnOk result (out.new.items ≡ out.old.items ++ (before.now ++ quoted text.now)) }
+{
+    push_bytes_member(out, before, text.as_bytes())
+}
+
+/// Adds a whole text of a file as a JSON object.
+///
+/// # Errors
+///
+/// `AllocError` where there is no memory; a part of the object may have been added then.
+pub(crate) fn push_text_object(
+    out: &mut Vec<u8>,
+    file: &str,
+    bytes: &[u8],
+) -> Result<(), AllocError>
+    ensures { OnOk result (out.new.items ≡ out.old.items ++ compact_text (row_specs.text_data file.now bytes.now)) }
+{
+    push_text_member(out, b"{\"file\":", file)?;
+    push_bytes_member(out, b",\"text\":", bytes)?;
+    out.push(b'}')?;
     Ok(())
 }
 

@@ -1,12 +1,13 @@
 -- Rows of errors, one behind another.
-use Rattle.std.proofs.Common.{◌≡◌, ◌∙◌, ℕ, ◌+◌, List, [], ◌∷◌, ◌++◌, append-nil, length, sym, subst, ap, arith}
-use Rattle.std.proofs.lemmas.List.{append_assoc, length-append}
+use Rattle.std.proofs.Common.{◌≡◌, ◌∙◌, ℕ, ◌+◌, List, [], ◌∷◌, ◌++◌, append-nil, Option, Some, length, sym, subst, ap, arith}
+use Rattle.std.proofs.lemmas.List.{append_assoc, length-append, map-append}
 use Rattle.std.proofs.lemmas.Grind.{flat_map-append}
 use Rattle.ecma_place.specs.declared.place.Span.{Span}
-use Rattle.ecma_token.specs.View.{ErrorView}
+use Rattle.ecma_token.specs.View.{ErrorView, SpannedView, refusal_of}
 use Rattle.ecma_state.specs.Session.{Session}
-use Rattle.ecma_rows.specs.ErrorRows.{IsGathered, IsSaid, Sourced, all_errors, error_row, message_of, messages, rows_from, source_number, sourced}
-use Rattle.ecma_texts.specs.ReadingOut.{refusals}
+use Rattle.ecma_rows.specs.ErrorRows.{IsGathered, IsSaid, Sourced, all_errors, error_row, message_of, messages, of_tokens, rows_from, source_number, sourced}
+use Rattle.ecma_reader.specs.Outputs.{error_tokens, errors_among}
+use Rattle.ecma_reader.specs.Readers.{tokens_found}
 use Rattle.ecma_rows.specs.declared.errors.ErrorRow.{ErrorRow}
 use Rattle.ecma_rows.specs.declared.errors.Gathered.{Gathered}
 use Rattle.ecma_rows.specs.declared.errors.Source.{Source}
@@ -50,11 +51,19 @@ gathers es e source span message old new row said is bytes rows lo hi number fro
     }
 
 -- all were
-pub gathers-all : (s : Session) (refused recorded waiting : List ErrorView) (g : Gathered) → refused ≡ refusals s → recorded ≡ s.errors.recorded → waiting ≡ s.errors.waiting
-    → IsGathered ((sourced Token refused ++ sourced Recorded recorded) ++ sourced Waiting waiting) g → IsGathered (all_errors s) g
-gathers-all s refused recorded waiting g tokens first last is =
-    let apart = append_assoc (sourced Token refused) (sourced Recorded recorded) (sourced Waiting waiting) in
-    let here = ap (λ (es : List ErrorView). sourced Token es ++ (sourced Recorded recorded ++ sourced Waiting waiting)) tokens in
-    let there = ap (λ (es : List ErrorView). sourced Token (refusals s) ++ (sourced Recorded es ++ sourced Waiting waiting)) first in
-    let end = ap (λ (es : List ErrorView). sourced Token (refusals s) ++ (sourced Recorded s.errors.recorded ++ sourced Waiting es)) last in
-    subst (λ es. IsGathered es g) (apart ∙ here ∙ there ∙ end) is
+pub gathers-all : (s : Session) (recorded waiting : List ErrorView) (g : Gathered) → recorded ≡ s.errors.recorded → waiting ≡ s.errors.waiting
+    → IsGathered ((of_tokens (error_tokens s) ++ sourced Recorded recorded) ++ sourced Waiting waiting) g → IsGathered (all_errors s) g
+gathers-all s recorded waiting g first last is =
+    let apart = append_assoc (of_tokens (error_tokens s)) (sourced Recorded recorded) (sourced Waiting waiting) in
+    let there = ap (λ (es : List ErrorView). of_tokens (error_tokens s) ++ (sourced Recorded es ++ sourced Waiting waiting)) first in
+    let end = ap (λ (es : List ErrorView). of_tokens (error_tokens s) ++ (sourced Recorded s.errors.recorded ++ sourced Waiting es)) last in
+    subst (λ es. IsGathered es g) (apart ∙ there ∙ end) is
+
+-- those of one token more
+pub tokens-on : (ts : List SpannedView) (found : Option SpannedView) (t : SpannedView) → found ≡ Some t
+    → of_tokens (errors_among ts) ++ of_tokens (errors_among (tokens_found found)) ≡ of_tokens (errors_among (ts ++ t ∷ []))
+tokens-on ts found t e =
+    let of_token : ErrorView → Sourced = λ error. record { source = Token; error = error } in
+    ap (λ o. of_tokens (errors_among ts) ++ of_tokens (errors_among (tokens_found o))) e
+    ∙ sym (map-append of_token (errors_among ts) (errors_among (t ∷ [])))
+    ∙ ap of_tokens (sym (flat_map-append (λ (x : SpannedView). refusal_of x.token) ts (t ∷ [])))

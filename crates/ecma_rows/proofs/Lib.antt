@@ -1,7 +1,6 @@
 pub mod TokenViews
 pub mod RoomLemmas
-pub mod Telling
-pub mod FewTokens
+pub mod RowLemmas
 pub mod Judging
 pub mod CanonCases
 pub mod ErrorLemmas

@@ -4,7 +4,7 @@ use Rattle.ecma_place.specs.declared.place.Span.{Span}
 use Rattle.ecma_token.specs.MessageView.{view_message}
 use Rattle.ecma_token.specs.View.{ErrorView}
 use Rattle.ecma_state.specs.Session.{Session}
-use Rattle.ecma_texts.specs.ReadingOut.{refusals}
+use Rattle.ecma_reader.specs.Outputs.{error_tokens}
 use Rattle.ecma_rows.specs.Told.{Told, Nothing, Rows, room_behind, status_of}
 use Rattle.ecma_rows.specs.declared.errors.ErrorRow.{ErrorRow}
 use Rattle.ecma_rows.specs.declared.errors.Gathered.{Gathered}
@@ -24,6 +24,9 @@ pub record Sourced : Type 0 where
 
 abbrev pub sourced : Source → List ErrorView → List Sourced
 sourced source errors = map (λ e. record { source = source; error = e }) errors
+
+abbrev pub of_tokens : List ErrorView → List Sourced
+of_tokens errors = sourced Token errors
 
 abbrev pub message_of : Sourced → List ℕ
 message_of e = view_message e.error.kind
@@ -59,7 +62,7 @@ messages es = flat_map message_of es
 
 -- the errors of the tokens that are kept, those that were recorded, and those that wait for module code, each in order
 abbrev pub all_errors : Session → List Sourced
-all_errors s = sourced Token (refusals s) ++ (sourced Recorded s.errors.recorded ++ sourced Waiting s.errors.waiting)
+all_errors s = of_tokens (error_tokens s) ++ (sourced Recorded s.errors.recorded ++ sourced Waiting s.errors.waiting)
 
 -- rows and messages are those of these errors
 pub record IsGathered (es : List Sourced) (gathered : Gathered) : Type 0 where

@@ -2,5 +2,4 @@ pub mod Asked
 pub mod Canon
 pub mod ErrorRows
 pub mod Rows
-pub mod Tally
 pub mod Told

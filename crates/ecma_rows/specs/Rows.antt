@@ -1,5 +1,5 @@
 -- Rows of tokens and comments. Their form is our own choice.
-use Rattle.std.specs.Prelude.{ℕ, ◌+◌, ◌-◌, ◌==◌, Bool, true, false, not, List, map, reverse, length, if◌then◌else◌}
+use Rattle.std.specs.Prelude.{◌≡◌, ℕ, ◌+◌, ◌-◌, ◌==◌, Bool, true, false, not, List, map, length, if◌then◌else◌}
 use Rattle.ecma_place.specs.declared.place.Span.{Span}
 use Rattle.ecma_place.specs.declared.comment.CommentKind.{CommentKind}
 use Rattle.ecma_place.specs.declared.comment.CommentKind.TheVariants.{Line, Block}
@@ -9,11 +9,15 @@ use Rattle.ecma_syntax.specs.declared.word.Word.{Word as Word'}
 use Rattle.ecma_token.specs.Kinds.{kind_of}
 use Rattle.ecma_token.specs.View.{SpannedView, TokenView, plain_token, refused_template, error_token}
 use Rattle.ecma_token.specs.declared.token.Token.{Token, Word, Template', Str, Regex, Num, BigInt, JSXText, Ok', Err'}
-use Rattle.ecma_state.specs.Session.{Session, kept_back}
+use Rattle.ecma_state.specs.Session.{Session}
+use Rattle.ecma_slashes.specs.Rereads.{SlashRule}
+use Rattle.ecma_reader.specs.Readers.{HasRead, end_by, tokens_kept}
+use Rattle.ecma_reader.specs.declared.reader.Reader.{Reader}
 use Rattle.ecma_comments.specs.declared.comments_buffer.BufferedComment.{BufferedComment}
 use Rattle.ecma_comments.specs.declared.comments_buffer.BufferedCommentKind.{BufferedCommentKind}
 use Rattle.ecma_comments.specs.declared.comments_buffer.BufferedCommentKind.TheVariants.{Leading, Trailing}
 use Rattle.ecma_kinds.specs.KindNumbers.{kind_number}
+use Rattle.ecma_rows.specs.Told.{written}
 use Rattle.ecma_rows.specs.declared.tokens.TokenRow.{TokenRow}
 use Rattle.ecma_rows.specs.declared.comments.CommentRow.{CommentRow}
 
@@ -56,7 +60,13 @@ token_row t =
 
 -- the tokens that are kept, in order
 abbrev pub token_rows : Session → List TokenRow
-token_rows s = map token_row (reverse (kept_back s.past))
+token_rows s = map token_row (tokens_kept s)
+
+-- All was read, rows were written to room that held others before, and so many tokens were counted.
+pub record HasWritten (rule : SlashRule) (begin : Session) (before room : List TokenRow) (count : ℕ) (reader : Reader) : Type 0 where
+  pub tokens : count ≡ length (token_rows (end_by rule begin))
+  pub rows : room ≡ written (token_rows (end_by rule begin)) before
+  pub read : HasRead rule begin reader
 
 -- Comments
 

@@ -2,8 +2,9 @@
 use Rattle.std.specs.Prelude.{ℕ, ◌≡◌, ◌==◌, Bool, true, false, List, [], ◌∷◌, Result, Ok, Err, length, nat_le}
 use Rattle.ecma_state.specs.Session.{Session}
 use Rattle.ecma_state.specs.declared.step.Step.{Step}
-use Rattle.ecma_slashes.specs.Rereads.{SlashRule, at_places, by_flag, rereads, steps_to_end_by}
-use Rattle.ecma_rows.specs.Asked.{AskedView, begin, read_out}
+use Rattle.ecma_slashes.specs.Rereads.{SlashRule, at_places, by_flag, by_role, rereads, steps_to_end_by}
+use Rattle.ecma_reader.specs.Readers.{end_by}
+use Rattle.ecma_rows.specs.Asked.{AskedView, begin}
 use Rattle.ecma_rows.specs.declared.outcome.Answer.{Answer}
 use Rattle.ecma_rows.specs.declared.outcome.Status.{Status}
 use Rattle.ecma_rows.specs.declared.outcome.Status.TheVariants.{Done, NoSlash, NotUtf8, NotClean, OutOfMemory, NoRoom, Refused, TooLong}
@@ -33,6 +34,7 @@ written (r ∷ rows) (old ∷ room) = r ∷ written rows room
 -- each place that was named is that of a slash which is read there
 abbrev pub are_met : SlashRule → List Step → Bool
 are_met by_flag steps = true
+are_met by_role steps = true
 are_met (at_places places) steps = rereads steps == length places
 
 -- There is nothing to tell, for this reason, or these rows are to be told, of a text whose slashes are met or not.
@@ -43,7 +45,7 @@ pub data Told (R : Type 0) : Type 0 where
 abbrev pub told_by : {R : Type 0} → Bool → (Session → List R) → Result AskedView Status → Told R
 told_by comments rows (Err status) = Nothing status
 told_by comments rows (Ok asked) =
-    Rows (are_met asked.rule (steps_to_end_by asked.rule (begin comments asked))) (rows (read_out asked.rule (begin comments asked)))
+    Rows (are_met asked.rule (steps_to_end_by asked.rule (begin comments asked))) (rows (end_by asked.rule (begin comments asked)))
 
 -- what is answered, where room was given
 abbrev pub answer_of : {R : Type 0} → Told R → List R → Answer

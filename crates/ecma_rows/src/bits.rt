@@ -12,12 +12,14 @@ const STRICT: u32 = 4;
 
 const BY_FLAG: u32 = 8;
 
-/// The options of a sum of 1 for TypeScript, 2 for module code, 4 for strict mode code, and 8 for slashes by the lexer's own
-/// flag; nothing for any other number. Our own.
+const BY_ROLE: u32 = 16;
+
+/// The options of a sum of 1 for TypeScript, 2 for module code, 4 for strict mode code, 8 for slashes by the lexer's own flag,
+/// and 16 for slashes by the tokens before them; nothing for any other number. Our own.
 pub fn options_of_bits(bits: u32) -> Option<Options>
     ensures { result ≡ requests.options_of bits }
 {
-    if bits >= 2 * BY_FLAG {
+    if bits >= 2 * BY_ROLE {
         return None;
     }
     Some(Options {
@@ -33,4 +35,11 @@ pub(crate) fn is_by_flag(bits: u32) -> bool
     ensures { result ≡ requests.is_by_flag bits }
 {
     bits / BY_FLAG % 2 == 1
+}
+
+/// Whether the tokens before say which slashes begin regular expressions.
+pub(crate) fn is_by_role(bits: u32) -> bool
+    ensures { result ≡ requests.is_by_role bits }
+{
+    bits / BY_ROLE % 2 == 1
 }

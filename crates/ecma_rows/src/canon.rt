@@ -3,7 +3,7 @@ ghost use Rattle.std.specs.Prelude.{◌≡◌, ◌<◌, ◌^◌, false, length, 
 ghost use Rattle.std.specs.Str.{chars};
 ghost use Rattle.ecma_state.specs.Run.{start_of};
 ghost use Rattle.ecma_options.specs.Begin as reading;
-ghost use Rattle.ecma_texts.specs.ReadingOut.{IsReadOut};
+ghost use Rattle.ecma_reader.specs.Outputs.{IsLexed};
 ghost use Rattle.ecma_canonical.specs.Canonical.{IsCanon};
 ghost use Rattle.ecma_rows.specs.Asked.{asked_view, judged, place_at};
 ghost use Rattle.ecma_rows.specs.Canon.{canon_told, steps_of};
@@ -14,13 +14,13 @@ use crate::request::{Asked, judge, places};
 use crate::room::write_all;
 use ecma_canonical::{Canon, canonical_of_gathered};
 use ecma_place::BytePos;
-use ecma_texts::{ReadOut, read_out};
+use ecma_reader::{LexOutput, tokenize};
 use std::alloc::{AllocError, Global};
 
 /// The canonical text of a text, by what was read of it as it was asked for.
-fn canon_of_read(alloc: Global, asked: &Asked, read: &ReadOut) -> Result<Canon, AllocError>
+fn canon_of_read(alloc: Global, asked: &Asked, read: &LexOutput) -> Result<Canon, AllocError>
     requires short { length asked.now.text.now < 2 ^ 32 }
-    requires read { IsReadOut (start_of (reading.settings false asked.now.options) (reading.whole asked.now.text.now)) (steps_of (asked_view asked.now)) read.now }
+    requires read { IsLexed (start_of (reading.settings false asked.now.options) (reading.whole asked.now.text.now)) (steps_of (asked_view asked.now)) read.now }
     ensures { IfOk result (IsCanon (reading.settings false asked.now.options) 0 (chars asked.now.text.now) (steps_of (asked_view asked.now))) }
 {
     canonical_of_gathered(alloc, asked.text, BytePos(0), &read.gathered)
@@ -53,7 +53,7 @@ pub fn write_canonical(
     let settings = asked.options.settings(false);
     let context = asked.options.context();
     let start = BytePos(0);
-    let read = read_out(alloc, &settings, context, asked.text, start, asked.slashes)?;
+    let read = tokenize(alloc, &settings, context, asked.text, start, asked.slashes)?;
     if !asked.is_met(read.rereads) {
         return Ok(Answer::of_status(Status::NoSlash));
     }

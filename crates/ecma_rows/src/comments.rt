@@ -8,8 +8,6 @@ ghost use Rattle.ecma_rows.specs.Told.{IsTold, Rows, told_by, written};
 use crate::outcome::Answer;
 use crate::request::{judge, places};
 use crate::room::put;
-use crate::tally::tally_all;
-use ecma_options::begin;
 use ecma_place::CommentKind;
 use ecma_state::{BufferedComment, BufferedCommentKind};
 use std::alloc::{AllocError, Global};
@@ -108,9 +106,9 @@ pub fn write_comments(
         Ok(asked) => asked,
         Err(status) => return Ok(Answer::of_status(status)),
     };
-    let lexer = begin(alloc, true, asked.options, asked.text)?;
-    let tally = tally_all(alloc, lexer, asked.slashes, &mut [])?;
-    let is_met = asked.is_met(tally.rereads);
-    let (_, comments, _) = tally.lexer.into_parts();
-    Ok(write(&comments, is_met, out))
+    let mut reader = asked.reader(alloc, true)?;
+    reader.count_rest()?;
+    let outcome = reader.finish();
+    let is_met = asked.is_met(outcome.rereads);
+    Ok(write(&outcome.comments, is_met, out))
 }

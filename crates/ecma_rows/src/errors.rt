@@ -1,20 +1,21 @@
 //! Rows of errors, and their messages.
-ghost use Rattle.std.specs.Prelude.{◌≡◌, ◌∷◌, ◌++◌, [], List, false, map, IfOk, OnOk, OnErr};
-ghost use Rattle.ecma_token.specs.View.{error_view};
-ghost use Rattle.ecma_state.specs.Session.{Session, lexer_state, state_of};
-ghost use Rattle.ecma_texts.specs.ReadingOut.{refusals};
+ghost use Rattle.std.specs.Prelude.{◌≡◌, ◌∷◌, ◌++◌, [], List, false, map, option_map, IfOk, OnOk, OnErr};
+ghost use Rattle.ecma_token.specs.View.{error_view, spanned_view};
+ghost use Rattle.ecma_state.specs.Session.{Session};
+ghost use Rattle.ecma_slashes.specs.Rereads.{SlashRule};
+ghost use Rattle.ecma_reader.specs.Outputs.{error_tokens, errors_among};
+ghost use Rattle.ecma_reader.specs.Readers.{HasRead, IsReady, Leaves, Shows, tokens_by, tokens_found};
 ghost use Rattle.ecma_rows.specs.Asked.{judged, place_at};
 ghost use Rattle.ecma_rows.specs.ErrorRows as rows;
-ghost use Rattle.ecma_rows.specs.ErrorRows.{IsGathered, IsSaid, Sourced, TellsErrors, all_errors, sourced};
+ghost use Rattle.ecma_rows.specs.ErrorRows.{IsGathered, IsSaid, Sourced, TellsErrors, all_errors, of_tokens, sourced};
 ghost use Rattle.ecma_rows.specs.Told.{Rows, told_by};
 
 use crate::outcome::Answer;
 use crate::request::{judge, places};
 use crate::room::write_all;
-use crate::tally::{Tally, tally_all};
-use ecma_options::begin;
 use ecma_place::{Span, Spanned};
-use ecma_token::Error;
+use ecma_reader::{Outcome, Reader};
+use ecma_token::{Error, Token, TokenAndSpan};
 use std::alloc::{AllocError, Global};
 
 /// An error: where it lies, in bytes from the text's start; where it was found, 0 as a token, 1 where it was recorded, 2 where
@@ -98,6 +99,45 @@ impl Gathered {
         Ok(())
     }
 
+    /// Adds the error of the token that was read, where it is one.
+    fn push_token(&mut self, alloc: Global, slot: &Option<TokenAndSpan>) -> Result<(), AllocError>
+        ensures { (es : List Sourced) → IsGathered es self.old
+            → OnOk result (IsGathered (es ++ of_tokens (errors_among (tokens_found (option_map spanned_view slot.now)))) self.new) }
+    {
+        match slot {
+            Some(
+                TokenAndSpan {
+                    token: Token::Error(error),
+                    ..
+                },
+            ) => self.push(alloc, Source::Token, error),
+            _ => Ok(()),
+        }
+    }
+
+    /// Reads to the end, and adds the errors of the tokens that are one.
+    fn push_tokens(&mut self, alloc: Global, reader: &mut Reader) -> Result<(), AllocError>
+        requires ready { IsReady reader.old }
+        ensures gathered { (rule : SlashRule) (begin : Session) → Shows rule begin [] reader.old → IsGathered [] self.old
+            → OnOk result (IsGathered (of_tokens (errors_among (tokens_by rule begin))) self.new) }
+        ensures read { (rule : SlashRule) (begin : Session) → Shows rule begin [] reader.old → IsGathered [] self.old → OnOk result (HasRead rule begin reader.new) }
+    {
+        let mut slot = None;
+        'tokens: while reader.read_into(&mut slot)? {
+            self.push_token(alloc, &slot)?;
+        }
+        Ok(())
+    }
+
+    /// Adds the errors that a reader leaves, behind those of the tokens.
+    fn push_outcome(&mut self, alloc: Global, outcome: &Outcome) -> Result<(), AllocError>
+        ensures { (s : Session) → Leaves s outcome.now → IsGathered (of_tokens (error_tokens s)) self.old → OnOk result (IsGathered (all_errors s) self.new) }
+    {
+        self.push_all(alloc, Source::Recorded, outcome.errors.as_slice())?;
+        self.push_all(alloc, Source::Waiting, outcome.waiting.as_slice())?;
+        Ok(())
+    }
+
     /// Writes rows and messages, as many as fit, where each place that was named is that of a slash, or not.
     fn write(self, is_met: bool, out: &mut [ErrorRow], messages: &mut [u8]) -> Answer
         ensures { (es : List Sourced) → IsGathered es self → TellsErrors (Rows is_met es) out.old out.new messages.old messages.new result }
@@ -107,26 +147,6 @@ impl Gathered {
         write_all(&self.messages, messages);
         Answer::of_count(is_met, fits, self.rows.len())
     }
-}
-
-/// Rows and messages of the errors of what was read: of the tokens that are one, and of those that the lexer has.
-fn gather(alloc: Global, tally: Tally) -> Result<Gathered, AllocError>
-    ensures { (s : Session) → map error_view tally.entry.errors.items ≡ refusals s → lexer_state tally.entry.lexer ≡ state_of s → IfOk result (λ gathered. IsGathered (all_errors s) gathered) }
-{
-    let Tally {
-        lexer,
-        errors: refused,
-        ..
-    } = tally;
-    let (errors, _, _) = lexer.into_parts();
-    let mut gathered = Gathered {
-        rows: Vec::new(alloc),
-        messages: Vec::new(alloc),
-    };
-    gathered.push_all(alloc, Source::Token, &refused)?;
-    gathered.push_all(alloc, Source::Recorded, errors.recorded.as_slice())?;
-    gathered.push_all(alloc, Source::Waiting, errors.waiting.as_slice())?;
-    Ok(gathered)
 }
 
 /// Writes a row for each error of a text to `out`, as many as fit: of the tokens that are one, then of those that were
@@ -154,9 +174,14 @@ pub fn write_errors(
         Ok(asked) => asked,
         Err(status) => return Ok(Answer::of_status(status)),
     };
-    let lexer = begin(alloc, false, asked.options, asked.text)?;
-    let tally = tally_all(alloc, lexer, asked.slashes, &mut [])?;
-    let is_met = asked.is_met(tally.rereads);
-    let gathered = gather(alloc, tally)?;
+    let mut reader = asked.reader(alloc, false)?;
+    let mut gathered = Gathered {
+        rows: Vec::new(alloc),
+        messages: Vec::new(alloc),
+    };
+    gathered.push_tokens(alloc, &mut reader)?;
+    let outcome = reader.finish();
+    gathered.push_outcome(alloc, &outcome)?;
+    let is_met = asked.is_met(outcome.rereads);
     Ok(gathered.write(is_met, out, messages))
 }

@@ -8,7 +8,6 @@ mod errors;
 mod outcome;
 mod request;
 mod room;
-mod tally;
 mod tokens;
 
 pub use bits::options_of_bits;

@@ -1,16 +1,18 @@
 //! Whether a text can be read as it is asked for.
-ghost use Rattle.std.specs.Prelude.{◌≡◌, ◌<◌, ◌^◌, List, None, Ok, Err, Some, true, length, map, IfOk, IfSome, MatchResult};
+ghost use Rattle.std.specs.Prelude.{◌≡◌, ◌<◌, ◌^◌, List, None, Ok, Err, Some, [], true, length, map, IfOk, IfSome, MatchResult};
 ghost use Rattle.std.specs.Str.{IsUtf8};
 ghost use Rattle.ecma_state.specs.declared.step.Step.{Step};
 ghost use Rattle.ecma_slashes.specs.Rereads.{is_in_order, rereads, rule_of};
+ghost use Rattle.ecma_reader.specs.Readers.{IsReady, Shows};
 ghost use Rattle.ecma_rows.specs.Asked as requests;
 ghost use Rattle.ecma_rows.specs.Asked.{asked_view, judged, place_at};
 ghost use Rattle.ecma_rows.specs.Told.{are_met};
 
-use crate::bits::{is_by_flag, options_of_bits};
+use crate::bits::{is_by_flag, is_by_role, options_of_bits};
 use crate::outcome::Status;
 use ecma_options::Options;
 use ecma_place::BytePos;
+use ecma_reader::Reader;
 use ecma_slashes::{Slashes, ascend};
 use std::alloc::{AllocError, Global};
 
@@ -26,12 +28,31 @@ pub(crate) struct Asked<'a> {
 }
 
 impl<'a> Asked<'a> {
+    /// A reader of the text as it is asked for. `comments` says whether comments are collected.
+    pub(crate) fn reader(self, alloc: Global, comments: bool) -> Result<Reader<'a>, AllocError>
+        requires short { length self.text.now < 2 ^ 32 }
+        requires in_order { is_in_order (rule_of self.slashes) ≡ true }
+        ensures shows { IfOk result (Shows (rule_of self.entry.slashes) (requests.begin comments (asked_view self.entry)) []) }
+        ensures ready { IfOk result (λ reader. IsReady reader) }
+    {
+        let settings = self.options.settings(comments);
+        let context = self.options.context();
+        Reader::new(
+            alloc,
+            &settings,
+            context,
+            self.text,
+            BytePos(0),
+            self.slashes,
+        )
+    }
+
     /// Whether each place that was named is that of a slash, where so many slashes were read again.
     pub(crate) fn is_met(self, count: usize) -> bool
         ensures { (steps : List Step) → count ≡ rereads steps → result ≡ are_met (rule_of self.entry.slashes) steps }
     {
         match self.slashes {
-            Slashes::ByFlag => true,
+            Slashes::ByFlag | Slashes::ByRole => true,
             Slashes::At(places) => count == places.len(),
         }
     }
@@ -48,24 +69,19 @@ pub(crate) fn places(alloc: Global, numbers: &[u32]) -> Result<Vec<BytePos>, All
     Ok(places)
 }
 
-/// Which slashes are read again: those that the flag says, where it is to say and no places are given, or those at places
-/// that ascend.
-fn slashes_asked<'a>(by_flag: bool, places: &'a [BytePos]) -> Option<Slashes<'a>>
-    ensures rule { IfSome result (λ slashes. requests.rule_asked by_flag places.now ≡ Some (rule_of slashes)) }
-    ensures none { result ≡ None → requests.rule_asked by_flag places.now ≡ None }
+/// Which slashes are read again: those that the flag says, or the tokens before, where one of them is to say and no places
+/// are given, or those at places that ascend.
+fn slashes_asked<'a>(by_flag: bool, by_role: bool, places: &'a [BytePos]) -> Option<Slashes<'a>>
+    ensures rule { IfSome result (λ slashes. requests.rule_asked by_flag by_role places.now ≡ Some (rule_of slashes)) }
+    ensures none { result ≡ None → requests.rule_asked by_flag by_role places.now ≡ None }
     ensures in_order { IfSome result (λ slashes. is_in_order (rule_of slashes) ≡ true) }
 {
-    if by_flag {
-        return if places.is_empty() {
-            Some(Slashes::ByFlag)
-        } else {
-            None
-        };
-    }
-    if ascend(places) {
-        Some(Slashes::At(places))
-    } else {
-        None
+    match (by_flag, by_role) {
+        (true, true) => None,
+        (true, false) if places.is_empty() => Some(Slashes::ByFlag),
+        (false, true) if places.is_empty() => Some(Slashes::ByRole),
+        (false, false) if ascend(places) => Some(Slashes::At(places)),
+        _ => None,
     }
 }
 
@@ -116,7 +132,7 @@ pub(crate) fn judge<'a>(
     let Some(options) = options_of_bits(bits) else {
         return Err(Status::Refused);
     };
-    let Some(slashes) = slashes_asked(is_by_flag(bits), places) else {
+    let Some(slashes) = slashes_asked(is_by_flag(bits), is_by_role(bits), places) else {
         return Err(Status::Refused);
     };
     judge_text(options, slashes, text)

@@ -1,17 +1,20 @@
 //! Rows of tokens.
-ghost use Rattle.std.specs.Prelude.{◌≡◌, false, map, IfOk};
+ghost use Rattle.std.specs.Prelude.{◌≡◌, ◌++◌, List, [], false, length, map, option_map, IfOk};
 ghost use Rattle.ecma_token.specs.View.{spanned_view};
+ghost use Rattle.ecma_state.specs.Session.{Session};
+ghost use Rattle.ecma_slashes.specs.Rereads.{SlashRule};
+ghost use Rattle.ecma_reader.specs.Readers.{IsReady, Shows, tokens_found};
 ghost use Rattle.ecma_rows.specs.Asked.{judged, place_at};
 ghost use Rattle.ecma_rows.specs.Rows as rows;
-ghost use Rattle.ecma_rows.specs.Rows.{token_rows};
-ghost use Rattle.ecma_rows.specs.Told.{IsTold, count_of, told_by};
+ghost use Rattle.ecma_rows.specs.Rows.{HasWritten, token_rows};
+ghost use Rattle.ecma_rows.specs.Told.{IsTold, count_of, told_by, written};
 
 use crate::outcome::Answer;
 use crate::request::{judge, places};
-use crate::tally::tally_all;
+use crate::room::put;
 use ecma_kinds::kind_number;
-use ecma_options::begin;
 use ecma_place::Span;
+use ecma_reader::Reader;
 use ecma_syntax::Word;
 use ecma_token::{Token, TokenAndSpan};
 use std::alloc::{AllocError, Global};
@@ -74,6 +77,32 @@ pub(crate) fn token_row(token: &TokenAndSpan) -> TokenRow
     }
 }
 
+/// Writes the row of the token that was read behind those of so many before it, if there is room for it.
+fn put_token(out: &mut [TokenRow], count: usize, slot: &Option<TokenAndSpan>)
+    ensures { (first before : List TokenRow) → count ≡ length first → out.old ≡ written first before
+        → out.new ≡ written (first ++ map rows.token_row (tokens_found (option_map spanned_view slot.now))) before }
+{
+    if let Some(token) = slot {
+        put(out, count, token_row(token));
+    }
+}
+
+/// Reads to the end, writes a row for each token to the room, in order, as many as fit, and answers how many tokens there are.
+fn write_rows(reader: &mut Reader, out: &mut [TokenRow]) -> Result<usize, AllocError>
+    requires ready { IsReady reader.old }
+    ensures told { (rule : SlashRule) (begin : Session) → Shows rule begin [] reader.old
+        → IfOk result (λ count. HasWritten rule begin out.old out.new count reader.new) }
+{
+    let mut count = 0;
+    // One slot for all, so that none is made and let go of for each token.
+    let mut slot = None;
+    'tokens: while reader.read_into(&mut slot)? {
+        put_token(out, count, &slot);
+        count += 1;
+    }
+    Ok(count)
+}
+
 /// Writes a row for each token of a text to the room, in order, as many as fit.
 ///
 /// `bits` is a sum of options ([`options_of_bits`](crate::options_of_bits)); `slashes` are the places, each behind the one
@@ -99,11 +128,11 @@ pub fn write_tokens(
         Ok(asked) => asked,
         Err(status) => return Ok(Answer::of_status(status)),
     };
-    let lexer = begin(alloc, false, asked.options, asked.text)?;
-    let tally = tally_all(alloc, lexer, asked.slashes, out)?;
-    let is_met = asked.is_met(tally.rereads);
-    let fits = tally.tokens <= out.len();
-    Ok(Answer::of_count(is_met, fits, tally.tokens))
+    let mut reader = asked.reader(alloc, false)?;
+    let tokens = write_rows(&mut reader, out)?;
+    let is_met = asked.is_met(reader.rereads());
+    let fits = tokens <= out.len();
+    Ok(Answer::of_count(is_met, fits, tokens))
 }
 
 /// How many tokens a text has, judged and read as by [`write_tokens`]: the answer's status is `Done`, `Refused`, `NotUtf8`,
@@ -125,8 +154,8 @@ pub fn count_tokens(
         Ok(asked) => asked,
         Err(status) => return Ok(Answer::of_status(status)),
     };
-    let lexer = begin(alloc, false, asked.options, asked.text)?;
-    let tally = tally_all(alloc, lexer, asked.slashes, &mut [])?;
-    let is_met = asked.is_met(tally.rereads);
-    Ok(Answer::of_count(is_met, true, tally.tokens))
+    let mut reader = asked.reader(alloc, false)?;
+    let tokens = reader.count_rest()?;
+    let is_met = asked.is_met(reader.rereads());
+    Ok(Answer::of_count(is_met, true, tokens))
 }

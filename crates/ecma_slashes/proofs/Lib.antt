@@ -1,7 +1,9 @@
+pub mod DecidingLemmas
 pub mod FewerLemmas
 pub mod MetLemmas
 pub mod PlainRuns
 pub mod RereadLemmas
+pub mod RoleLemmas
 pub mod RunLemmas
 pub mod SlashLemmas
 pub mod TokenLemmas

@@ -56,7 +56,7 @@ all-unless : (f : BytePos → Bool) (b : Bool) (xs : List BytePos) → list_all 
 all-unless f true xs h = refl
 all-unless f false xs h = h
 
-token-among : (places : List BytePos) (allowed b : Bool) (o : Option BytePos) → names_answer (at_places places) allowed o ≡ b → list_all (is_among places) (met_in b o) ≡ true
+token-among : (places : List BytePos) (allowed b : Bool) (o : Option BytePos) → names_answer (at_places places) allowed false o ≡ b → list_all (is_among places) (met_in b o) ≡ true
 token-among places allowed false o e = refl
 token-among places allowed true None e = refl
 token-among places allowed true (Some p) e = ap (λ h. h && true) e

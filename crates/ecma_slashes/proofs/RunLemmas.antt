@@ -127,7 +127,7 @@ pub record SoFar (rule : SlashRule) (begun : Session) (before steps : List Step)
   pub left : count + most_tokens l ≤ most_tokens (state_of begun)
   pub more : (n : ℕ) → all_by rule (count + n) begun ≡ added ++ all_by rule n here
 
-pub so-far-start : (rule : SlashRule) (s : Session) (before : List Step) (l : LexerState) → l ≡ state_of s → s.reread ≡ None → SoFar rule s before before l
+unfoldable pub so-far-start : (rule : SlashRule) (s : Session) (before : List Step) (l : LexerState) → l ≡ state_of s → s.reread ≡ None → SoFar rule s before before l
 so-far-start rule s before l at plain =
     record {
       here = s;
@@ -141,15 +141,15 @@ so-far-start rule s before l at plain =
       more = λ n. ap (λ k. all_by rule k s) (let same : 0 + n ≡ n = omega arith in same);
     }
 
-ended-some : (found : Option SpannedView) → is_some found ≡ true → ended_by found ≡ false
+pub ended-some : (found : Option SpannedView) → is_some found ≡ true → ended_by found ≡ false
 ended-some None h = cc
 ended-some (Some t) h = refl
 
-ended-none : (found : Option SpannedView) → is_some found ≡ false → ended_by found ≡ true
+pub ended-none : (found : Option SpannedView) → is_some found ≡ false → ended_by found ≡ true
 ended-none None h = refl
 ended-none (Some t) h = cc
 
-pub so-far-next : (rule : SlashRule) (begun : Session) (before steps now : List Step) (l next : LexerState) (so : SoFar rule begun before steps l) → StepsOn rule so.here steps now true next → SoFar rule begun before now next
+unfoldable pub so-far-next : (rule : SlashRule) (begun : Session) (before steps now : List Step) (l next : LexerState) (so : SoFar rule begun before steps l) → StepsOn rule so.here steps now true next → SoFar rule begun before now next
 so-far-next rule begun before steps now l next so on =
     let r = so.here in
     let going : has_ended (behind_by rule r).past ≡ false = behind-ended rule r ∙ ended-some (found_by rule r) (sym on.told) in

@@ -1,18 +1,21 @@
 -- One token, whose slash is read again where a rule names it.
 use Rattle.std.proofs.Common.{◌≡◌, ◌∙◌, ◌<◌, Bool, true, false, [], ◌∷◌, Option, Some, None, refl, sym, subst, ap, cond}
-use Rattle.std.specs.Prelude.{is_some, option_map}
+use Rattle.std.specs.Prelude.{is_some, length, nat_lt, option_map}
+use Rattle.std.proofs.lemmas.Bool.{and_parts, ltb-true}
 use Rattle.std.proofs.lemmas.Option.{none-some}
 use Rattle.ecma_place.specs.Cursor.{rest}
 use Rattle.ecma_place.specs.declared.place.BytePos.{BytePos}
 use Rattle.ecma_token.specs.View.{SpannedView}
-use Rattle.ecma_state.specs.Run.{act_all, act_on, given_in, reading_of, reread_from, state_behind, state_rereading}
+use Rattle.ecma_state.specs.Run.{act_all, act_on, given_in, is_free_read, reading_of, reread_from, state_behind, state_rereading}
 use Rattle.ecma_state.specs.Session.{LexerState, Past, Session, has_ended, kept_in, seen_of, state_of}
 use Rattle.ecma_state.specs.State.{last_slash, seen_behind}
 use Rattle.ecma_state.specs.declared.step.Step.TheVariants.{Read}
 use Rattle.ecma_stream.specs.Ending.{most_tokens}
 use Rattle.ecma_stream.specs.Slashes.{slash_answered}
 use Rattle.ecma_stream.proofs.EndingLemmas.{end_found, state-behind, tokens_run_out}
-use Rattle.ecma_slashes.specs.Rereads.{ReadsBy, SlashRule, behind_by, found_by, last_read, meets_expression, names, names_answer, read_steps}
+use Rattle.ecma_roles.specs.Track.{TrackView}
+use Rattle.ecma_slashes.specs.Rereads.{ReadsBy, SlashRule, are_free_by, behind_by, expected_by, expects_next, found_by, is_free, last_read, meets_expression, names, names_answer, read_steps, track_by}
+use Rattle.ecma_slashes.specs.Roles.{is_assign}
 use Rattle.ecma_slashes.proofs.FewerLemmas.{fewer-again}
 use Rattle.ecma_slashes.proofs.RereadLemmas.{reread-steps}
 
@@ -27,16 +30,16 @@ slash-there : (s : Session) (l : LexerState) (o : Option BytePos) → l ≡ stat
 slash-there s l o at told = sym (told ∙ ap slash_answered at)
 
 pub meets-no-slash : (rule : SlashRule) (s : Session) (l : LexerState) → l ≡ state_of (act_on s Read) → None ≡ slash_answered l → meets_expression rule s ≡ false
-meets-no-slash rule s l at told = ap (names_answer rule s.expr_allowed) (slash-there s l None at told)
+meets-no-slash rule s l at told = ap (names_answer rule s.expr_allowed (expects_next rule s)) (slash-there s l None at told)
 
-pub meets-slash : (rule : SlashRule) (s : Session) (l : LexerState) (p : BytePos) → l ≡ state_of (act_on s Read) → Some p ≡ slash_answered l → meets_expression rule s ≡ names rule s.expr_allowed p
-meets-slash rule s l p at told = ap (names_answer rule s.expr_allowed) (slash-there s l (Some p) at told)
+pub meets-slash : (rule : SlashRule) (s : Session) (l : LexerState) (p : BytePos) → l ≡ state_of (act_on s Read) → Some p ≡ slash_answered l → meets_expression rule s ≡ names rule s.expr_allowed (expects_next rule s) p
+meets-slash rule s l p at told = ap (names_answer rule s.expr_allowed (expects_next rule s)) (slash-there s l (Some p) at told)
 
 -- a slash that is met was answered
 pub met-slash : (rule : SlashRule) (s : Session) → meets_expression rule s ≡ true → is_some (last_slash (seen_of (act_on s Read).past)) ≡ true
 met-slash rule s = go (last_slash (seen_of (act_on s Read).past))
   where
-    go : (o : Option BytePos) → names_answer rule s.expr_allowed o ≡ true → is_some o ≡ true
+    go : (o : Option BytePos) → names_answer rule s.expr_allowed (expects_next rule s) o ≡ true → is_some o ≡ true
     go None h = cc
     go (Some p) h = refl
 
@@ -154,20 +157,41 @@ pub lexer-no-slash : (rule : SlashRule) (s : Session) (l next : LexerState) (fou
 lexer-no-slash rule s l next found at finds moved none =
     lexer-once rule s l next found at finds moved (meets-no-slash rule s next (lexer-behind s l next at moved) none)
 
--- a slash was answered, and whether it begins an expression was asked with the flag that stood before it
-pub lexer-meets : (rule : SlashRule) (s : Session) (l next : LexerState) (p : BytePos) (b : Bool) → state_of s ≡ l → next ≡ state_behind l (reading_of l) → Some p ≡ slash_answered next → b ≡ names rule l.state.expr_allowed p
-    → meets_expression rule s ≡ b
-lexer-meets rule s l next p b at moved told asked =
-    meets-slash rule s next p (lexer-behind s l next at moved) told ∙ ap (λ x. names rule x.state.expr_allowed p) at ∙ sym asked
+-- a slash was answered, and whether it begins an expression was asked with the flag and the track that stood before it
+pub lexer-meets : (rule : SlashRule) (s : Session) (l next : LexerState) (p : BytePos) (found : Option SpannedView) (t : Option TrackView) (b : Bool) → state_of s ≡ l → t ≡ track_by rule s → found ≡ (reading_of l).found
+    → next ≡ state_behind l (reading_of l) → Some p ≡ slash_answered next → b ≡ names rule l.state.expr_allowed (expected_by t (is_assign found)) p → meets_expression rule s ≡ b
+lexer-meets rule s l next p found t b at track finds moved told asked =
+    let expects : expects_next rule s ≡ expected_by t (is_assign found) =
+    ap (λ x. expected_by x (is_assign (reading_of (state_of s)).found)) (sym track) ∙ ap (λ x. expected_by t (is_assign (reading_of x).found)) at ∙ ap (λ o. expected_by t (is_assign o)) (sym finds) in
+    meets-slash rule s next p (lexer-behind s l next at moved) told
+    ∙ ap (λ e. names rule s.expr_allowed e p) expects
+    ∙ ap (λ x. names rule x.state.expr_allowed (expected_by t (is_assign found)) p) at
+    ∙ sym asked
 
-pub lexer-not-named : (rule : SlashRule) (s : Session) (l next : LexerState) (p : BytePos) (found : Option SpannedView) → state_of s ≡ l → found ≡ (reading_of l).found → next ≡ state_behind l (reading_of l)
-    → Some p ≡ slash_answered next → false ≡ names rule l.state.expr_allowed p → ReadsBy rule s found next × (false ≡ meets_expression rule s)
-lexer-not-named rule s l next p found at finds moved told asked =
-    lexer-once rule s l next found at finds moved (lexer-meets rule s l next p false at moved told asked)
+pub lexer-not-named : (rule : SlashRule) (s : Session) (l next : LexerState) (p : BytePos) (found : Option SpannedView) (t : Option TrackView) → state_of s ≡ l → t ≡ track_by rule s → found ≡ (reading_of l).found
+    → next ≡ state_behind l (reading_of l) → Some p ≡ slash_answered next → false ≡ names rule l.state.expr_allowed (expected_by t (is_assign found)) p → ReadsBy rule s found next × (false ≡ meets_expression rule s)
+lexer-not-named rule s l next p found t at track finds moved told asked =
+    lexer-once rule s l next found at finds moved (lexer-meets rule s l next p found t false at track finds moved told asked)
 
-pub lexer-twice : (rule : SlashRule) (s : Session) (l next asked now done : LexerState) (p : BytePos) (found : Option SpannedView) → state_of s ≡ l → true ≡ names rule l.state.expr_allowed p
+pub lexer-twice : (rule : SlashRule) (s : Session) (l next asked now done : LexerState) (p : BytePos) (first found : Option SpannedView) (t : Option TrackView) → state_of s ≡ l → t ≡ track_by rule s
+    → first ≡ (reading_of l).found → true ≡ names rule l.state.expr_allowed (expected_by t (is_assign first)) p
     → next ≡ state_behind l (reading_of l) → Some p ≡ slash_answered next → asked ≡ state_rereading (Some p) next → found ≡ (reading_of asked).found → now ≡ state_behind asked (reading_of asked)
     → done ≡ state_rereading None now → ReadsBy rule s found done × (true ≡ meets_expression rule s)
-lexer-twice rule s l next asked now done p found at named moved told sets finds again withdrawn =
-    let meets = lexer-meets rule s l next p true at moved told named in
+lexer-twice rule s l next asked now done p first found t at track before named moved told sets finds again withdrawn =
+    let meets = lexer-meets rule s l next p first t true at track before moved told named in
     (read-twice rule s found next asked now done p meets (lexer-behind s l next at moved) told sets finds again withdrawn, sym meets)
+
+pub never : false ≡ true → ⊥
+never h = cc
+
+-- Nothing is allocated by the second read where nothing is by those of a token
+pub twice-free : (rule : SlashRule) (s : Session) (l next asked : LexerState) (p : BytePos) (first : Option SpannedView) (t : Option TrackView) → state_of s ≡ l → t ≡ track_by rule s → first ≡ (reading_of l).found
+    → true ≡ names rule l.state.expr_allowed (expected_by t (is_assign first)) p → next ≡ state_behind l (reading_of l) → Some p ≡ slash_answered next → asked ≡ state_rereading (Some p) next → are_free_by rule s ≡ true
+    → (length asked.state.contexts < 128) × (is_free_read asked ≡ true)
+twice-free rule s l next asked p first t at track before named moved told sets free =
+    let meets = lexer-meets rule s l next p first t true at track before moved told named in
+    let begins = (reread-steps (act_on s Read) next asked (state_behind asked (reading_of asked)) (state_rereading None (state_behind asked (reading_of asked))) p (lexer-behind s l next at moved) (sym told) sets refl refl).begins in
+    let both = and_parts (is_free s) (is_free (last_read (meets_expression rule s) s)) free in
+    let again : is_free (last_read true s) ≡ true = ap (λ b. is_free (last_read b s)) (sym meets) ∙ both.1 in
+    let few = and_parts (nat_lt (length (last_read true s).contexts) 128) (is_free_read (state_of (last_read true s))) again in
+    subst (λ x. (length x.state.contexts < 128) × (is_free_read x ≡ true)) (sym begins) (ltb-true (length (last_read true s).contexts) 128 few.0, few.1)

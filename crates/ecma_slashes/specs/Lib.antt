@@ -1,5 +1,6 @@
 pub mod ByFlag
 pub mod Rereads
+pub mod Roles
 pub use Rattle.ecma_state.specs.Counting
 pub use Rattle.ecma_state.specs.Run
 pub use Rattle.ecma_state.specs.Session

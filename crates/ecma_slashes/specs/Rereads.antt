@@ -1,5 +1,5 @@
 -- Reading with no parser above: each slash that begins a regular expression, as a rule says, is read again.
-use Rattle.std.specs.Prelude.{ℕ, zero, suc, ◌≡◌, ◌==◌, nat_lt, Bool, true, false, ◌&&◌, List, [], ◌∷◌, ◌++◌, Option, Some, None, is_some, length}
+use Rattle.std.specs.Prelude.{ℕ, zero, suc, ⊤, ◌≡◌, ◌==◌, nat_lt, Bool, true, false, ◌&&◌, List, [], ◌∷◌, ◌++◌, Option, Some, None, is_some, length}
 use Rattle.std.specs.List.{count_by, list_all, list_any}
 use Rattle.ecma_place.specs.Cursor.{Cursor}
 use Rattle.ecma_place.specs.declared.place.BytePos.{BytePos}
@@ -13,20 +13,34 @@ use Rattle.ecma_state.specs.declared.settings.Settings.{Settings}
 use Rattle.ecma_state.specs.declared.step.Step.{Step}
 use Rattle.ecma_state.specs.declared.step.Step.TheVariants.{Read, SetCtx, SetExprAllowed, SetContexts, PopContext, Reread, Withdraw, Save, Back, TakeErrors}
 use Rattle.ecma_clean_reads.specs.Clean.{each_step, ends_clean, is_clean, is_plain_step, takes_none}
+use Rattle.ecma_role_table.specs.declared.part.Part.{Part}
+use Rattle.ecma_roles.specs.Nest.{IsShallow}
+use Rattle.ecma_roles.specs.Slashes.{expects_operand}
+use Rattle.ecma_roles.specs.Track.{TrackView, stepped}
 use Rattle.ecma_stream.specs.Ending.{enough}
 use Rattle.ecma_slashes.specs.declared.slashes.Slashes.{Slashes}
-use Rattle.ecma_slashes.specs.declared.slashes.Slashes.TheVariants.{ByFlag, At}
+use Rattle.ecma_slashes.specs.declared.slashes.Slashes.TheVariants.{ByFlag, At, ByRole}
+use Rattle.ecma_slashes.specs.declared.decider.Decider.{Decider}
+use Rattle.ecma_slashes.specs.Roles.{is_assign, track_of}
 
 -- Which slashes begin regular expressions
 
--- those before which an expression is allowed, or those at these places
+-- those before which an expression is allowed, those at these places, or those where an operand is expected
 pub data SlashRule : Type 0 where
   by_flag : SlashRule
   at_places : List BytePos → SlashRule
+  by_role : SlashRule
 
 abbrev pub rule_of : Slashes → SlashRule
 rule_of ByFlag = by_flag
 rule_of (At places) = at_places places.now
+rule_of ByRole = by_role
+
+-- the rule asks nothing of the tokens before
+abbrev pub is_by_itself : SlashRule → Bool
+is_by_itself by_flag = true
+is_by_itself (at_places places) = true
+is_by_itself by_role = false
 
 -- each place is behind the one before it
 abbrev pub ascend_behind : BytePos → List BytePos → Bool
@@ -40,25 +54,42 @@ ascend (p ∷ ps) = ascend_behind p ps
 abbrev pub is_in_order : SlashRule → Bool
 is_in_order by_flag = true
 is_in_order (at_places places) = ascend places
+is_in_order by_role = true
 
 -- a place is one of these
 abbrev pub is_among : List BytePos → BytePos → Bool
 is_among places p = list_any (λ q. q.0 == p.0) places
 
--- a slash before which an expression was allowed or not begins a regular expression
-abbrev pub names : SlashRule → Bool → BytePos → Bool
-names by_flag allowed p = allowed
-names (at_places places) allowed p = is_among places p
+-- a slash before which an expression was allowed or not, and an operand expected or not, begins a regular expression
+abbrev pub names : SlashRule → Bool → Bool → BytePos → Bool
+names by_flag allowed expected p = allowed
+names (at_places places) allowed expected p = is_among places p
+names by_role allowed expected p = expected
 
-abbrev pub names_answer : SlashRule → Bool → Option BytePos → Bool
-names_answer rule allowed None = false
-names_answer rule allowed (Some p) = names rule allowed p
+abbrev pub names_answer : SlashRule → Bool → Bool → Option BytePos → Bool
+names_answer rule allowed expected None = false
+names_answer rule allowed expected (Some p) = names rule allowed expected p
 
 -- One token
 
+-- the track that the rule asks for
+abbrev pub track_by : SlashRule → Session → Option TrackView
+track_by by_flag s = None
+track_by (at_places places) s = None
+track_by by_role s = Some (track_of s)
+
+-- an operand is expected by it
+abbrev pub expected_by : Option TrackView → Bool → Bool
+expected_by None is_assign = false
+expected_by (Some t) is_assign = expects_operand t is_assign
+
+-- an operand is expected where the next read begins
+abbrev pub expects_next : SlashRule → Session → Bool
+expects_next rule s = expected_by (track_by rule s) (is_assign (reading_of (state_of s)).found)
+
 -- the next read answers a slash that begins a regular expression
 abbrev pub meets_expression : SlashRule → Session → Bool
-meets_expression rule s = names_answer rule s.expr_allowed (last_slash (seen_of (act_on s Read).past))
+meets_expression rule s = names_answer rule s.expr_allowed (expects_next rule s) (last_slash (seen_of (act_on s Read).past))
 
 -- the steps of a read that tells of a slash, or that tells of the expression which the slash begins
 abbrev pub read_steps : Bool → List Step
@@ -98,6 +129,24 @@ pub record StepsOn (rule : SlashRule) (s : Session) (before steps : List Step) (
   pub adds : steps ≡ before ++ steps_by rule s
   pub told : more ≡ is_some (found_by rule s)
   pub after : l ≡ state_of (behind_by rule s)
+
+-- What decides of slashes, behind the tokens of a session
+
+-- a track behind one token more, where there is a track
+abbrev pub behind_last : Option TrackView → Option Part → Option TrackView
+behind_last None last = None
+behind_last (Some t) None = Some t
+behind_last (Some t) (Some part) = Some (stepped t part)
+
+-- there is no track, or one token more takes no memory of it
+abbrev pub HasRoom : Option TrackView → Type 0
+HasRoom None = ⊤
+HasRoom (Some t) = IsShallow t.nest
+
+-- it goes by this rule, and its track, where the rule asks for one, is that of the session
+pub record Decides (rule : SlashRule) (s : Session) (d : Decider) : Type 0 where
+  pub by_rule : rule_of d.slashes ≡ rule
+  pub follows : behind_last d.track d.last ≡ track_by rule s
 
 -- a read finds nothing for which something is allocated, while few contexts stand
 abbrev pub is_free : Session → Bool

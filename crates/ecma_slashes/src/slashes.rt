@@ -12,6 +12,8 @@ pub enum Slashes<'a> {
     ByFlag,
     /// Those at these places, each behind the one before it ([`ascend`]).
     At(&'a [BytePos]),
+    /// Those where an operand is expected, by the tokens before them alone ([`Track`](ecma_roles::Track)).
+    ByRole,
 }
 
 /// Whether each place is behind the one before it. Our own.
@@ -40,14 +42,16 @@ fn is_among(places: &[BytePos], slash: BytePos) -> bool
 }
 
 impl<'a> Slashes<'a> {
-    /// Whether this slash begins a regular expression, before which an expression is allowed or not.
-    pub(crate) fn name(self, allowed: bool, slash: BytePos) -> bool
+    /// Whether this slash begins a regular expression, before which an expression is allowed or not, and an operand is
+    /// expected or not.
+    pub(crate) fn name(self, allowed: bool, expected: bool, slash: BytePos) -> bool
         requires { is_in_order (rule_of self) ≡ true }
-        ensures { result ≡ names (rule_of self.entry) allowed slash }
+        ensures { result ≡ names (rule_of self.entry) allowed expected slash }
     {
         match self {
             Slashes::ByFlag => allowed,
             Slashes::At(places) => is_among(places, slash),
+            Slashes::ByRole => expected,
         }
     }
 }

@@ -1,7 +1,9 @@
 //! Rows of slashes by the flag, of HTML, of what is imported, of lines and columns, and of what is reported.
 
+mod faces;
 mod markup;
 mod positions;
 mod report;
+mod roles;
 mod slashes;
 mod specifiers;

@@ -16,10 +16,10 @@ export interface Options {
     /** Strict mode code. */
     strict?: boolean;
     /**
-     * The places of the slashes that begin regular expressions, ascending, where you know them (a parser does). Without it the
-     * tokens before decide; an empty list says that there are none.
+     * The places of the slashes that begin regular expressions, ascending, where you know them (a parser does); an empty list
+     * says that there are none. Without it the tokens before a slash decide, with 'flag' the lexer's own flag.
      */
-    slashes?: ArrayLike<number>;
+    slashes?: ArrayLike<number> | 'flag';
 }
 
 /**

@@ -3,7 +3,7 @@
 const MESSAGES = {
     NOT_LOADED: 'the module is not loaded: `await load()` first',
     BAD_TEXT: 'the text is neither a string nor a Uint8Array',
-    BAD_OPTION: 'an option is unknown, or `slashes` are no ascending places',
+    BAD_OPTION: 'an option is unknown, or `slashes` are neither `flag` nor ascending places',
     NO_SLASH: 'a place of `slashes` is not that of a slash which is read as one',
     NOT_UTF8: 'the bytes are not UTF-8',
     TOO_LONG: 'the text has more than 4 GB',
@@ -30,6 +30,7 @@ export const NO_ROOM = 6;
 const CODES = { 2: 'NO_SLASH', 3: 'NOT_UTF8', 5: 'OUT_OF_MEMORY', 7: 'BAD_OPTION', 8: 'TOO_LONG' };
 const OPTION_BITS = { typescript: 1, module: 2, strict: 4 };
 const SLASHES_BY_FLAG = 8;
+const SLASHES_BY_ROLE = 16;
 
 /** What an instance may hold between calls: a memory of WebAssembly never shrinks, so a larger one is let go. */
 const KEPT_BYTES = 64 << 20;
@@ -157,11 +158,17 @@ function putBytes(text) {
     return [at, text.length];
 }
 
+/** By the tokens before a slash, where nothing else is said. */
+function slashBits(slashes) {
+    if (slashes === undefined) return SLASHES_BY_ROLE;
+    return slashes === 'flag' ? SLASHES_BY_FLAG : 0;
+}
+
 function bitsOf(options) {
-    let bits = SLASHES_BY_FLAG;
+    let bits = slashBits(options?.slashes);
     for (const name in options) {
         if (name === 'slashes') {
-            if (options.slashes !== undefined) bits &= ~SLASHES_BY_FLAG;
+            continue;
         } else if (!Object.hasOwn(OPTION_BITS, name)) {
             throw new EcmaError('BAD_OPTION', `there is no option ${name}`);
         } else if (options[name]) {
@@ -175,8 +182,9 @@ const NO_PLACES = [], SLASH = 47;
 
 /** The places of `slashes`, copied, once it is known that each is that of a slash behind the one before. */
 function slashesOf(text, options) {
+    if (options?.slashes === 'flag') return NO_PLACES;
     const slashes = options?.slashes ?? NO_PLACES;
-    if (typeof slashes.length !== 'number') throw new EcmaError('BAD_OPTION');
+    if (typeof slashes === 'string' || typeof slashes.length !== 'number') throw new EcmaError('BAD_OPTION');
     const places = Array.from(slashes);
     if (places.some((place, i) => !Number.isInteger(place) || place <= (places[i - 1] ?? -1))) throw new EcmaError('BAD_OPTION');
     const unitAt = (place) => (typeof text === 'string' ? text.charCodeAt(place) : text[place]);

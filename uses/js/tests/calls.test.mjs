@@ -103,8 +103,11 @@ test('slashes', () => {
     assert.deepEqual(spelled(text, { slashes: [7] }), ['é', '=', '𝒳', '/ /b', '/', 'g']);
     assert.deepEqual(spelled(text, { slashes: new Uint32Array([9]) }), ['é', '=', '𝒳', '/', '/b/g']);
     assert.deepEqual(spelled(encoder.encode(text), { slashes: [12] }), ['é', '=', '𝒳', '/', '/b/g']);
+    const typescript = true;
+    assert.deepEqual(spelled('a! / b / c', { typescript }), ['a', '!', '/', 'b', '/', 'c']);
+    assert.deepEqual(spelled('a! / b / c', { typescript, slashes: 'flag' }), ['a', '!', '/ b /', 'c']);
     for (const slashes of [[0], [5], [8], [99], [9, 11]]) refuses('NO_SLASH', () => ecma.tokenRows(text, { slashes }));
-    for (const slashes of [[9, 9], [9, 7], [-1], [0.5], ['9'], 9, {}]) refuses('BAD_OPTION', () => ecma.tokenRows(text, { slashes }));
+    for (const slashes of [[9, 9], [9, 7], [-1], [0.5], ['9'], 9, {}, 'role', '']) refuses('BAD_OPTION', () => ecma.tokenRows(text, { slashes }));
 });
 
 test('errors of a text are in order of place', () => {

@@ -18,6 +18,8 @@ impl Options {
 /// Which slashes begin regular expressions.
 #[derive(Clone, Copy, Debug)]
 pub enum Slashes<'a> {
+    /// Those where an operand is expected, by the tokens before them.
+    ByRole,
     /// Those before which an expression is allowed, by the lexer's own flag.
     ByFlag,
     /// Those at these places, in bytes, each behind the one before it.
@@ -117,6 +119,7 @@ impl<'a> Tokens<'a> {
     /// Reads a text.
     pub fn new(text: &'a str, options: Options, slashes: Slashes) -> Result<Self, Error> {
         let (bits, places): (u32, &[u32]) = match slashes {
+            Slashes::ByRole => (options.bits() + 16, &[]),
             Slashes::ByFlag => (options.bits() + 8, &[]),
             Slashes::At(places) => (options.bits(), places),
         };

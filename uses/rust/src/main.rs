@@ -7,7 +7,11 @@ fn main() -> Result<(), Box<dyn error::Error>> {
     let bits: u32 = words[1].parse()?;
     let places = words[2..].iter().map(|word| word.parse()).collect::<Result<Vec<u32>, _>>()?;
     let options = Options { typescript: bits & 1 != 0, module: bits & 2 != 0, strict: bits & 4 != 0 };
-    let slashes = if bits & 8 != 0 { Slashes::ByFlag } else { Slashes::At(&places) };
+    let slashes = match bits & 24 {
+        8 => Slashes::ByFlag,
+        16 => Slashes::ByRole,
+        _ => Slashes::At(&places),
+    };
     let text = fs::read_to_string(&words[0])?;
     let tokens = Tokens::new(&text, options, slashes)?;
     let count = tokens.size_hint().0;

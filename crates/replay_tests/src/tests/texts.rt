@@ -6,8 +6,8 @@ use crate::tests::agreement::{START, TEXTS, told};
 use crate::tests::replays::settings;
 use ecma_lexer::{Slashes, ascend, count_rereads, gather, steps_by};
 use ecma_place::{BytePos, Spanned, StringInput};
+use ecma_reader::{Reader, read_out, tokenize};
 use ecma_syntax::Context;
-use ecma_texts::{gather_by, read_out};
 use ecma_token::Error;
 use std::alloc::{AllocError, Global};
 use std::process::Abort;
@@ -46,7 +46,8 @@ fn assert_text(
     let slashes = slashes_at(places);
     let steps = steps_by(alloc, &settings(), context, text, START, slashes)?;
     let listed = gather(alloc, &settings(), text, START, &steps)?;
-    let read = gather_by(alloc, &settings(), context, text, START, slashes)?;
+    let output = tokenize(alloc, &settings(), context, text, START, slashes)?;
+    let read = output.gathered;
     let shown = told(alloc, &read)?;
     let wanted = told(alloc, &listed)?;
     let kept = read.kept.as_slice() == listed.kept.as_slice();
@@ -63,6 +64,31 @@ fn assert_text(
     Ok(())
 }
 
+/// Counts the tokens of a text, and looks at what its reader then has.
+fn assert_counted(
+    rt: &impl Abort,
+    alloc: Global,
+    text: &str,
+    places: &[BytePos],
+) -> Result<(), Fail> {
+    if !StringInput::fits(text, START) {
+        return Err(Fail::from(AllocError));
+    }
+    let slashes = slashes_at(places);
+    let context = Context::default();
+    let read = read_out(alloc, &settings(), context, text, START, slashes)?;
+    let mut reader = Reader::new(alloc, &settings(), context, text, START, slashes)?;
+    let count = reader.count_rest()?;
+    assert!(rt; count == read.gathered.kept.len(), "{text}: {count}");
+    assert!(rt; reader.rereads() == read.rereads, "{text}");
+    let left = reader.finish();
+    let recorded = left.errors.as_slice().len() == read.gathered.errors.as_slice().len();
+    let waiting = left.waiting.as_slice().len() == read.gathered.waiting.as_slice().len();
+    let comments = left.comments.len() == read.gathered.comments.len();
+    assert!(rt; recorded && waiting && comments && left.ended, "{text}");
+    Ok(())
+}
+
 fn assert_texts(
     rt: &impl Abort,
     alloc: Global,
@@ -71,6 +97,7 @@ fn assert_texts(
 ) -> Result<(), Fail> {
     for text in TEXTS {
         assert_text(rt, alloc, context, text, places)?;
+        assert_counted(rt, alloc, text, places)?;
     }
     Ok(())
 }

@@ -13,7 +13,7 @@ const ROWS: &[(&[u8], u32, &[u32], Status, usize, &[u8])] = &[
     (b"'a", 0, &[], Status::NotClean, 0, b"...."),
     (b"'a", 0, &[0], Status::NoSlash, 0, b"...."),
     (b"\xff", 0, &[], Status::NotUtf8, 0, b"...."),
-    (b"a", 16, &[], Status::Refused, 0, b"...."),
+    (b"a", 32, &[], Status::Refused, 0, b"...."),
 ];
 
 fn is_told(

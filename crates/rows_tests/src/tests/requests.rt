@@ -7,9 +7,15 @@ use std::test::Fail;
 const ROWS: &[(&[u8], u32, &[u32], Status, usize)] = &[
     (b"a", 0, &[], Status::Done, 1),
     (b"a", 15, &[], Status::Done, 1),
+    (b"a", 23, &[], Status::Done, 1),
+    // By the tokens before them two divisions, by the flag a regular expression.
+    (b"a! / b / c", 17, &[], Status::Done, 6),
+    (b"a! / b / c", 9, &[], Status::Done, 4),
     // Options and places are judged before the text.
-    (b"\xff", 16, &[], Status::Refused, 0),
+    (b"\xff", 32, &[], Status::Refused, 0),
+    (b"\xff", 24, &[], Status::Refused, 0),
     (b"a/b/c", 8, &[1], Status::Refused, 0),
+    (b"a/b/c", 16, &[1], Status::Refused, 0),
     (b"a/b/c", 0, &[3, 1], Status::Refused, 0),
     (b"a/b/c", 0, &[1, 1], Status::Refused, 0),
     (b"\xff", 0, &[1], Status::NotUtf8, 0),
@@ -32,7 +38,7 @@ fn is_answered(
         kind: 7,
         flags: 7,
     };
-    let mut room = [none; 4];
+    let mut room = [none; 6];
     let told = write_tokens(alloc, text, options, slashes, &mut room)?;
     let counted = count_tokens(alloc, text, options, slashes)?;
     let is_kept = answer.count > 0 || room[0] == none;

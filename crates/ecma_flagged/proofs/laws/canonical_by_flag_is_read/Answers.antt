@@ -1,4 +1,4 @@
-use Rattle.ecma_flagged.proofs.FlagLemmas.{canonical_by_flag_is_read}
+use Rattle.ecma_flagged.proofs.RuleLemmas.{canonical_by_flag_is_read}
 use Rattle.ecma_flagged.proofs.laws.canonical_by_flag_is_read.Goals as goal
 
 pub returns : goal.returns

@@ -1,4 +1,4 @@
-use Rattle.ecma_flagged.proofs.FlagLemmas.{canonical_by_flag_is_shared}
+use Rattle.ecma_flagged.proofs.RuleLemmas.{canonical_by_flag_is_shared}
 use Rattle.ecma_flagged.proofs.laws.canonical_by_flag_is_shared.Goals as goal
 
 pub returns : goal.returns

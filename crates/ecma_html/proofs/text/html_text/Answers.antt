@@ -9,5 +9,5 @@ pub html_of_gathered-requires-clause-covered : goal.html_of_gathered-requires-cl
 html_of_gathered-requires-clause-covered c =
     let settings = c.args.settings.now in
     let text = begin 0 (chars c.args.source.now) in
-    let gathered = c.in_ok-gathered.gathered in
-    gathered_may_be_covered settings text (text_steps settings c.args.context text) gathered gathered.kept.items gathered.comments.items c.in_ok-gathered.ensures refl refl
+    let gathered = c.in_ok-read.read.gathered in
+    gathered_may_be_covered settings text (text_steps settings c.args.context text) gathered gathered.kept.items gathered.comments.items c.in_ok-read.ensures.gathers refl refl

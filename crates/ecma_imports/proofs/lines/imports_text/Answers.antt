@@ -9,5 +9,5 @@ pub imports_of_kept-requires : goal.imports_of_kept-requires
 imports_of_kept-requires c =
     let settings = c.args.settings.now in
     let text = begin 0 (chars c.args.source.now) in
-    let gathered = c.in_ok-gathered.gathered in
-    (gathered_may_be_covered settings text (text_steps settings c.args.context text) gathered c.as_slice.result.now gathered.comments.items c.in_ok-gathered.ensures c.as_slice.ensures.value refl).tokens_stand
+    let gathered = c.in_ok-read.read.gathered in
+    (gathered_may_be_covered settings text (text_steps settings c.args.context text) gathered c.as_slice.result.now gathered.comments.items c.in_ok-read.ensures.gathers c.as_slice.ensures.value refl).tokens_stand

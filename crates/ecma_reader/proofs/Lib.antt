@@ -1,0 +1,4 @@
+pub mod FoldLemmas
+pub mod ReaderLemmas
+pub mod TextLemmas
+pub mod TokenLemmas

@@ -1,0 +1,184 @@
+//! A reader of a text, and what it leaves.
+ghost use Rattle.std.specs.Prelude.{◌≡◌, ◌+◌, ◌<◌, ◌^◌, Err, List, None, [], alloc_error, is_some, length, option_map, true, IfOk, OnOk, OnErr};
+ghost use Rattle.std.specs.Str.{chars};
+ghost use Rattle.ecma_token.specs.View.{SpannedView, spanned_view};
+ghost use Rattle.ecma_state.specs.Session.{Session, lexer_state, state_of};
+ghost use Rattle.ecma_stream.specs.Ending.{most_tokens};
+ghost use Rattle.ecma_slashes.specs.Rereads.{SlashRule, entered, is_in_order, rule_of};
+ghost use Rattle.ecma_reader.specs.Readers.{HasRead, IsReady, Leaves, Reads, Shows, one_if, tokens_by};
+
+use ecma_place::{BytePos, StringInput};
+use ecma_slashes::{Decider, Slashes, read_deciding};
+use ecma_state::Settings;
+use ecma_state::comments_buffer::BufferedComment;
+use ecma_state::error_list::ErrorList;
+use ecma_stream::lexer::Lexer;
+use ecma_stream::tokens::Tokens;
+use ecma_syntax::Context;
+use ecma_token::TokenAndSpan;
+use std::alloc::{AllocError, Global};
+
+/// Reads a text to its end with no parser above: each slash that [`Slashes`] names is read again as a regular expression,
+/// whose token takes the place of the slash. Our own.
+#[derive(Drop)]
+pub struct Reader<'a> {
+    lexer: Lexer<'a>,
+    decider: Decider<'a>,
+    /// How many slashes were read again.
+    rereads: usize,
+    /// Whether memory was refused.
+    refused: bool,
+}
+
+/// What a reader leaves besides the tokens.
+#[derive(Drop)]
+pub struct Outcome<'a> {
+    /// The errors that were recorded, in order.
+    pub errors: ErrorList<'a>,
+    /// The errors that wait until the code is known to be a module, in order.
+    pub waiting: ErrorList<'a>,
+    /// The comments, where the settings collect them.
+    pub comments: Vec<BufferedComment<'a>>,
+    /// Whether the last read answered the end.
+    pub ended: bool,
+    /// How many slashes were read again.
+    pub rereads: usize,
+}
+
+/// So many slashes, and one more where it was read again.
+fn counted(rereads: usize, again: bool) -> usize
+    requires { rereads < 2 ^ 60 }
+    ensures { result ≡ rereads + one_if again }
+{
+    if again { rereads + 1 } else { rereads }
+}
+
+/// A lexer of a text that starts at a place, in a context.
+fn begun<'a>(
+    alloc: Global,
+    settings: &Settings,
+    context: Context,
+    source: &'a str,
+    start: BytePos,
+) -> Result<Lexer<'a>, AllocError>
+    requires { start.0 + length source.now < 2 ^ 32 }
+    ensures shows { IfOk result (λ lexer. lexer_state lexer ≡ state_of (entered settings.now context record { start = start.0; text = chars source.now; at = 0 })) }
+    ensures no_reread { IfOk result (λ lexer. lexer.reread ≡ None) }
+{
+    let input = StringInput::new(source, start);
+    let mut lexer = Lexer::with_settings(alloc, settings, input);
+    lexer.set_ctx(context)?;
+    Ok(lexer)
+}
+
+impl<'a> Reader<'a> {
+    /// A reader of a text that starts at a place, in a context.
+    ///
+    /// The caller knows that the text fits its places ([`StringInput::fits`](ecma_place::StringInput::fits)), and that the
+    /// places of slashes ascend ([`ascend`](ecma_slashes::ascend)).
+    ///
+    /// # Errors
+    ///
+    /// `AllocError` where there is no memory.
+    pub fn new(
+        alloc: Global,
+        settings: &Settings,
+        context: Context,
+        source: &'a str,
+        start: BytePos,
+        slashes: Slashes<'a>,
+    ) -> Result<Reader<'a>, AllocError>
+        requires fits { start.0 + length source.now < 2 ^ 32 }
+        requires in_order { is_in_order (rule_of slashes) ≡ true }
+        ensures shows { IfOk result (Shows (rule_of slashes.entry) (entered settings.now context record { start = start.0; text = chars source.now; at = 0 }) []) }
+        ensures ready { IfOk result (λ reader. IsReady reader) }
+    {
+        let lexer = begun(alloc, settings, context, source, start)?;
+        let decider = Decider::new(alloc, settings, &context, slashes);
+        Ok(Reader {
+            lexer,
+            decider,
+            rereads: 0,
+            refused: false,
+        })
+    }
+
+    /// How many slashes were read again. Where places are named, all of them are met where this is as many at the end.
+    pub fn rereads(&self) -> usize
+        ensures { result ≡ self.now.rereads }
+    {
+        self.rereads
+    }
+
+    /// Reads one token more into a slot that is kept, and answers whether there was one: nothing stands in the slot at the
+    /// end.
+    ///
+    /// # Errors
+    ///
+    /// `AllocError` where there is no memory; each later read answers the same. Which token the slot then holds is not said.
+    pub fn read_into(&mut self, slot: &mut Option<TokenAndSpan<'a>>) -> Result<bool, AllocError>
+        requires ready { IsReady self.old }
+        // Who has added something for each token so far, and adds it for one more, has it of all tokens at the end.
+        ensures reads { (rule : SlashRule) (begin : Session) (tokens : List SpannedView) → Shows rule begin tokens self.old
+            → IfOk result (λ more. Reads rule begin tokens (option_map spanned_view slot.new) more self.new) }
+        ensures told { IfOk result (λ more. more ≡ is_some slot.new) }
+        // Each token leaves fewer that may come, so that a loop ends.
+        ensures fewer { IfOk result (λ more. more ≡ true → most_tokens (lexer_state self.new.lexer) < most_tokens (lexer_state self.old.lexer)) }
+        ensures ready { IfOk result (λ more. more ≡ true → IsReady self.new) }
+        ensures refused { self.old.refused ≡ true → (result ≡ Err alloc_error) × (self.new ≡ self.old) }
+        ensures refusal { OnErr result (self.new.refused ≡ true) }
+    {
+        if self.refused {
+            return Err(AllocError);
+        }
+        match read_deciding(&mut self.lexer, slot, &mut self.decider) {
+            Ok(again) => {
+                self.rereads = counted(self.rereads, again);
+                Ok(slot.is_some())
+            }
+            Err(refusal) => {
+                self.refused = true;
+                Err(refusal)
+            }
+        }
+    }
+
+    /// Reads to the end, and answers how many tokens there were.
+    ///
+    /// # Errors
+    ///
+    /// `AllocError` as of [`Reader::read_into`].
+    pub fn count_rest(&mut self) -> Result<usize, AllocError>
+        requires ready { IsReady self.old }
+        ensures count { (rule : SlashRule) (begin : Session) → Shows rule begin [] self.old → IfOk result (λ count. count ≡ length (tokens_by rule begin)) }
+        ensures read { (rule : SlashRule) (begin : Session) → Shows rule begin [] self.old → OnOk result (HasRead rule begin self.new) }
+    {
+        let mut count = 0;
+        let mut slot = None;
+        'tokens: while self.read_into(&mut slot)? {
+            count += 1;
+        }
+        Ok(count)
+    }
+
+    /// What is left besides the tokens that were read.
+    pub fn finish(self) -> Outcome<'a>
+        ensures left { (s : Session) → lexer_state self.entry.lexer ≡ state_of s → Leaves s result }
+        ensures rereads { result.rereads ≡ self.entry.rereads }
+    {
+        let Reader {
+            lexer,
+            decider: _,
+            rereads,
+            refused: _,
+        } = self;
+        let (errors, comments, ended) = lexer.into_parts();
+        Outcome {
+            errors: errors.recorded,
+            waiting: errors.waiting,
+            comments,
+            ended,
+            rereads,
+        }
+    }
+}

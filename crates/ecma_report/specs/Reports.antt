@@ -1,0 +1,34 @@
+-- What a report is of, and what was written and is held of it.
+use Rattle.std.specs.Prelude.{◌≡◌, ◌++◌, Bool, true, false, ℕ, List, Option}
+use Rattle.std.specs.Io.KnownBytes.{Appends}
+use Rattle.ecma_report.specs.Lines.{Counts}
+use Rattle.ecma_report.specs.declared.report.Report.{Report}
+use Rattle.ecma_report.specs.declared.words.Asked.{Asked}
+use Rattle.ecma_report.specs.declared.words.Face.{Face}
+use Rattle.ecma_report.specs.declared.words.Face.TheVariants.{Errors}
+
+-- of a text with these bytes, under this name, as it is asked for, and its count of lines stands in that text
+pub record IsOf (ask : Asked) (file bytes : List ℕ) (report : Report) : Type 0 where
+  pub asked : report.asked ≡ ask
+  pub name : report.name.now ≡ file
+  pub text : report.text.now ≡ bytes
+  pub counts : Counts bytes report.lines
+
+-- errors are told in rows, and not as faults of the file
+abbrev pub writes_errors : Face → Bool
+writes_errors Errors = true
+writes_errors _ = false
+
+-- of the same as before
+pub record Stays (old new : Report) : Type 0 where
+  pub asked : new.asked ≡ old.asked
+  pub name : new.name.now ≡ old.name.now
+  pub text : new.text.now ≡ old.text.now
+  pub counts : Counts old.text.now old.lines → Counts old.text.now new.lines
+
+-- This was added to the bytes that were written, where these are known, and to those that are held behind them: some of it all
+-- was written, and the rest is held.
+pub record Adds (before after : Option (List ℕ)) (held now added : List ℕ) : Type 0 where
+  pub sent : List ℕ
+  pub written : Appends before after sent
+  pub left : sent ++ now ≡ held ++ added

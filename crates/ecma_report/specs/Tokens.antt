@@ -1,0 +1,38 @@
+-- Rows of tokens.
+use Rattle.std.specs.Prelude.{ℕ, List, [], ◌∷◌, ◌++◌, Option, Some, None, codes, false}
+use Rattle.ecma_token.specs.View.{SpannedView}
+use Rattle.ecma_token.specs.declared.kind.TokenKind.{TokenKind}
+use Rattle.ecma_state.specs.Session.{Session, kept_of}
+use Rattle.ecma_state.specs.declared.kept.Kept.{Kept}
+use Rattle.ecma_options.specs.Begin.{begin}
+use Rattle.ecma_html.specs.Styles.{class_name, class_of}
+use Rattle.ecma_html.specs.declared.«class».Class.{Class}
+use Rattle.ecma_report.specs.Rows.{part_at, row_of}
+use Rattle.ecma_report.specs.declared.report.More.TheVariants.{LineBreak}
+use Rattle.ecma_report.specs.declared.words.Asked.{Asked}
+
+-- the class of a token, or that it is a punctuator
+abbrev pub name_of : Option Class → List ℕ
+name_of (Some c) = class_name c
+name_of None = codes "punctuator"
+
+-- what a row says that a token of this kind is, behind one of a kind where there is one
+abbrev pub kind_name : TokenKind → Option TokenKind → List ℕ
+kind_name kind previous = name_of (class_of kind previous)
+
+abbrev pub token_row : Asked → List ℕ → List ℕ → Option TokenKind → Kept → List ℕ
+token_row asked file text previous k = row_of asked file text (kind_name k.kind previous) k.span (LineBreak k.flag) (part_at text k.span)
+
+-- the rows of tokens, one behind the other
+abbrev pub token_rows : Asked → List ℕ → List ℕ → Option TokenKind → List SpannedView → List ℕ
+token_rows asked file text previous [] = []
+token_rows asked file text previous (t ∷ ts) = token_row asked file text previous (kept_of t) ++ token_rows asked file text (Some (kept_of t).kind) ts
+
+-- the kind of the last of them
+abbrev pub kind_behind : Option TokenKind → List SpannedView → Option TokenKind
+kind_behind previous [] = previous
+kind_behind previous (t ∷ ts) = kind_behind (Some (kept_of t).kind) ts
+
+-- where the reading of a text begins, as it is asked for
+abbrev pub begun : Asked → List ℕ → Session
+begun asked text = begin false asked.options text

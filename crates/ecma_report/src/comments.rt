@@ -1,0 +1,58 @@
+//! Rows of comments.
+ghost use Rattle.std.specs.Prelude.{◌<◌, ◌^◌, length};
+
+use crate::faults::{pass_tokens, tell_recorded};
+use crate::report::{More, Report, Row, Stop};
+use crate::slashes::{open, tell_unmet};
+use crate::words::Named;
+use ecma_place::CommentKind;
+use ecma_state::{BufferedComment, BufferedCommentKind};
+use std::alloc::AllocError;
+use std::io::Write;
+
+/// Adds the row of a comment.
+fn push_comment(report: &mut Report, buffered: &BufferedComment) -> Result<(), AllocError> {
+    report.push_row(Row {
+        kind: match buffered.comment.kind {
+            CommentKind::Line => "line",
+            CommentKind::Block => "block",
+        },
+        span: buffered.comment.span,
+        more: More::Beside {
+            side: match buffered.kind {
+                BufferedCommentKind::Leading => "leading",
+                BufferedCommentKind::Trailing => "trailing",
+            },
+            token: buffered.pos,
+        },
+        text: buffered.comment.text.as_str(),
+    })
+}
+
+fn push_comments<W: Write>(
+    report: &mut Report,
+    comments: &[BufferedComment],
+    out: &mut W,
+) -> Result<(), Stop> {
+    for buffered in comments {
+        push_comment(report, buffered)?;
+        report.pass_on(out)?;
+    }
+    Ok(())
+}
+
+/// Writes a row for each comment, and tells of errors. A lexer hands its comments over at the end.
+pub(crate) fn write_comments<'a, W: Write>(
+    report: &mut Report<'a>,
+    named: Named<'a>,
+    out: &mut W,
+) -> Result<(), Stop>
+    requires { length report.old.text.now < 2 ^ 32 }
+{
+    let mut reader = open(report, named, true)?;
+    pass_tokens(report, &mut reader, out)?;
+    let outcome = reader.finish();
+    tell_unmet(report, named, outcome.rereads)?;
+    tell_recorded(report, outcome.errors.as_slice(), out)?;
+    push_comments(report, &outcome.comments, out)
+}

@@ -1,0 +1,62 @@
+//! What is told of a text.
+ghost use Rattle.std.specs.Prelude.{◌≡◌, ◌++◌, ◌<◌, ◌^◌, List, None, length, ℕ, OnOk};
+ghost use Rattle.std.specs.Io.KnownBytes.{Appends};
+ghost use Rattle.ecma_reader.specs.Readers.{tokens_by};
+ghost use Rattle.ecma_report.specs.Reports.{Adds, IsOf};
+ghost use Rattle.ecma_report.specs.Slashes.{rule_at};
+ghost use Rattle.ecma_report.specs.Tokens.{begun, token_rows};
+ghost use Rattle.ecma_report.specs.declared.words.Asked.{Asked};
+ghost use Rattle.ecma_report.specs.declared.words.Face.TheVariants as face;
+
+use crate::comments::write_comments;
+use crate::faults::write_errors;
+use crate::imports::write_imports;
+use crate::report::{Report, Stop};
+use crate::tokens::write_tokens;
+use crate::whole::tell_gathered;
+use crate::words::{Face, Named};
+use std::io::Write;
+
+/// Writes what is asked for, or holds it.
+fn write_face<'a, W: Write>(
+    report: &mut Report<'a>,
+    named: Named<'a>,
+    out: &mut W,
+) -> Result<(), Stop>
+    requires { length report.old.text.now < 2 ^ 32 }
+    ensures { (asked : Asked) (name text : List ℕ) → IsOf asked name text report.old → asked.face ≡ face.Tokens
+        → OnOk result (Adds (W.contents out.old) (W.contents out.new) report.old.out.items report.new.out.items (token_rows asked name text None (tokens_by (rule_at named.entry) (begun asked text)))) }
+{
+    match report.asked.face {
+        Face::Tokens => write_tokens(report, named, out),
+        Face::Comments => write_comments(report, named, out),
+        Face::Errors => write_errors(report, named, out),
+        Face::Imports => write_imports(report, named, out),
+        Face::Canonical | Face::Classes | Face::Html => tell_gathered(report, named, out),
+    }
+}
+
+/// Writes what a report is asked for of its text, while the text is read, and gathers the lines that tell of faults. Which slashes
+/// begin regular expressions is said by `named`, whose places ascend.
+///
+/// Rows of tokens are written in blocks as they are read, and so are those of errors that are tokens. Errors that were recorded and
+/// comments are known at the end, and are written in blocks then. The caller knows that the text has fewer than 2^32 bytes.
+///
+/// # Errors
+///
+/// `Closed` where a write fails: nothing is read then any more, and the faults are those of the tokens so far. `OutOfMemory` where
+/// there is no memory; what was written before stays written.
+pub fn tell<'a, W: Write>(
+    report: &mut Report<'a>,
+    named: Named<'a>,
+    out: &mut W,
+) -> Result<(), Stop>
+    requires { length report.old.text.now < 2 ^ 32 }
+    // Where tokens are asked for, and all was written, it is the row of each token of the text, in order.
+    ensures tokens { (asked : Asked) (name text : List ℕ) → IsOf asked name text report.old → asked.face ≡ face.Tokens
+        → OnOk result (Appends (W.contents out.old) (W.contents out.new) (report.old.out.items ++ token_rows asked name text None (tokens_by (rule_at named.entry) (begun asked text)))) }
+{
+    write_face(report, named, out)?;
+    report.flush(out)?;
+    Ok(())
+}

@@ -1,0 +1,106 @@
+//! Rows of tokens.
+ghost use Rattle.std.specs.Prelude.{◌≡◌, ◌++◌, ◌<◌, ◌^◌, List, None, [], false, length, option_map, ℕ, IfOk, OnOk};
+ghost use Rattle.ecma_token.specs.View.{spanned_view};
+ghost use Rattle.ecma_state.specs.Session.{Session};
+ghost use Rattle.ecma_slashes.specs.Rereads.{SlashRule};
+ghost use Rattle.ecma_reader.specs.Readers.{IsReady, Shows, tokens_by, tokens_found};
+ghost use Rattle.ecma_report.specs.Reports.{Adds, IsOf, Stays, writes_errors};
+ghost use Rattle.ecma_report.specs.Slashes.{rule_at};
+ghost use Rattle.ecma_report.specs.Tokens as rows;
+ghost use Rattle.ecma_report.specs.Tokens.{begun, kind_behind, token_rows};
+ghost use Rattle.ecma_report.specs.declared.words.Asked.{Asked};
+
+use crate::faults::{tell_recorded, tell_token};
+use crate::report::{More, Report, Row, Stop};
+use crate::slashes::{open, tell_unmet};
+use crate::words::Named;
+use ecma_html::Class;
+use ecma_reader::Reader;
+use ecma_state::Kept;
+use ecma_token::{TokenAndSpan, TokenKind};
+use std::alloc::AllocError;
+use std::io::Write;
+
+/// What a row says that a token of this kind is, behind one of that kind or none.
+fn kind_name(kind: TokenKind, previous: Option<TokenKind>) -> &'static str
+    ensures { result.now ≡ rows.kind_name kind previous }
+{
+    match Class::of(kind, previous) {
+        Some(class) => class.name(),
+        None => "punctuator",
+    }
+}
+
+/// Adds the row of a token, behind one of that kind or none.
+fn push_token(
+    report: &mut Report,
+    previous: Option<TokenKind>,
+    token: Kept,
+) -> Result<(), AllocError>
+    ensures added { (asked : Asked) (name text : List ℕ) → IsOf asked name text report.old
+        → OnOk result (report.new.out.items ≡ report.old.out.items ++ rows.token_row asked name text previous token) }
+    ensures stays { Stays report.old report.new }
+{
+    let text = report.at(token.span);
+    report.push_row(Row {
+        kind: kind_name(token.kind, previous),
+        span: token.span,
+        more: More::LineBreak(token.flag),
+        text,
+    })
+}
+
+/// Adds the row of the token that was read, behind one of that kind or none, tells of its error where it is one, and gives its
+/// kind.
+fn push_slot(
+    report: &mut Report,
+    previous: Option<TokenKind>,
+    slot: &Option<TokenAndSpan>,
+) -> Result<Option<TokenKind>, AllocError>
+    ensures added { (asked : Asked) (name text : List ℕ) → IsOf asked name text report.old → writes_errors asked.face ≡ false
+        → OnOk result (report.new.out.items ≡ report.old.out.items ++ token_rows asked name text previous (tokens_found (option_map spanned_view slot.now))) }
+    ensures kind { IfOk result (λ kind. kind ≡ kind_behind previous (tokens_found (option_map spanned_view slot.now))) }
+    ensures stays { OnOk result (Stays report.old report.new) }
+{
+    let Some(token) = slot else {
+        return Ok(previous);
+    };
+    let own = Kept::of(token);
+    tell_token(report, token)?;
+    push_token(report, previous, own)?;
+    Ok(Some(own.kind))
+}
+
+/// Reads to the end, and writes a row for each token.
+fn read_tokens<W: Write>(report: &mut Report, reader: &mut Reader, out: &mut W) -> Result<(), Stop>
+    requires ready { IsReady reader.old }
+    ensures rows { (rule : SlashRule) (begin : Session) (asked : Asked) (name text : List ℕ) → Shows rule begin [] reader.old → IsOf asked name text report.old → writes_errors asked.face ≡ false
+        → OnOk result (Adds (W.contents out.old) (W.contents out.new) report.old.out.items report.new.out.items (token_rows asked name text None (tokens_by rule begin))) }
+    ensures stays { OnOk result (Stays report.old report.new) }
+{
+    let mut previous = None;
+    let mut slot = None;
+    'tokens: while reader.read_into(&mut slot)? {
+        previous = push_slot(report, previous, &slot)?;
+        report.pass_on(out)?;
+    }
+    Ok(())
+}
+
+/// Writes a row for each token, and tells of errors.
+pub(crate) fn write_tokens<'a, W: Write>(
+    report: &mut Report<'a>,
+    named: Named<'a>,
+    out: &mut W,
+) -> Result<(), Stop>
+    requires { length report.old.text.now < 2 ^ 32 }
+    ensures { (asked : Asked) (name text : List ℕ) → IsOf asked name text report.old → writes_errors asked.face ≡ false
+        → OnOk result (Adds (W.contents out.old) (W.contents out.new) report.old.out.items report.new.out.items (token_rows asked name text None (tokens_by (rule_at named.entry) (begun asked text)))) }
+{
+    let mut reader = open(report, named, false)?;
+    read_tokens(report, &mut reader, out)?;
+    let outcome = reader.finish();
+    tell_unmet(report, named, outcome.rereads)?;
+    tell_recorded(report, outcome.errors.as_slice(), out)?;
+    Ok(())
+}

@@ -1,0 +1,148 @@
+//! What is told of a text by all of its tokens: the canonical text, the pieces, and the text as HTML.
+ghost use Rattle.std.specs.Prelude.{◌≡◌, ◌<◌, ◌^◌, Bool, List, length, IfOk};
+ghost use Rattle.std.specs.Str.{chars};
+ghost use Rattle.ecma_state.specs.Run.{start_of};
+ghost use Rattle.ecma_state.specs.declared.settings.Settings.{Settings};
+ghost use Rattle.ecma_state.specs.declared.step.Step.{Step};
+ghost use Rattle.ecma_replay.specs.Replay.{Gathers};
+ghost use Rattle.ecma_options.specs.Begin.{context, settings, whole};
+ghost use Rattle.ecma_options.specs.declared.options.Options.{Options};
+ghost use Rattle.ecma_slashes.specs.Rereads.{SlashRule, text_steps_by};
+ghost use Rattle.ecma_canonical.specs.Canonical.{GathersPlainly, IsCanon};
+ghost use Rattle.ecma_classes.specs.Classes.{begin};
+ghost use Rattle.ecma_pieces.specs.Covered.{MayBeCovered};
+
+use crate::faults::{tell_recorded, tell_refused};
+use crate::report::{More, Report, Row, Stop, write_all};
+use crate::slashes::{START, slashes_at, tell_unmet};
+use crate::words::{Face, Named};
+use ecma_canonical::{Canon, canonical_of_gathered};
+use ecma_classes::{Class, Piece, classes};
+use ecma_html::html_of_gathered;
+use ecma_reader::read_out;
+use ecma_replay::Gathered;
+use std::alloc::{AllocError, Global};
+use std::io::Write;
+
+/// Writes a text as a whole: its bytes, or an object in a line.
+fn write_whole<W: Write>(report: &mut Report, bytes: &[u8], out: &mut W) -> Result<(), Stop> {
+    if !report.asked.json {
+        return write_all(out, bytes);
+    }
+    Ok(report.push_text(bytes)?)
+}
+
+/// The canonical text of a text, by what was gathered of it.
+fn canon_of(alloc: Global, text: &str, gathered: &Gathered) -> Result<Canon, AllocError>
+    requires fits { length text.now < 2 ^ 32 }
+    requires plain { (settings : Settings) × (steps : List Step) × GathersPlainly settings (begin 0 (chars text.now)) steps gathered.now }
+    // Whatever the options are, whether comments are collected, and whichever slashes were read again.
+    ensures { (comments : Bool) (options : Options) (rule : SlashRule)
+        → Gathers (start_of (settings comments options) (whole text.now)) (text_steps_by rule (settings comments options) (context options) (whole text.now)) gathered.now
+        → IfOk result (IsCanon (settings comments options) 0 (chars text.now) (text_steps_by rule (settings comments options) (context options) (whole text.now))) }
+{
+    canonical_of_gathered(alloc, text, START, gathered)
+}
+
+fn write_canonical<W: Write>(
+    report: &mut Report,
+    gathered: &Gathered,
+    out: &mut W,
+) -> Result<(), Stop>
+    requires fits { length report.old.text.now < 2 ^ 32 }
+    requires plain { (settings : Settings) × (steps : List Step) × GathersPlainly settings (begin 0 (chars report.old.text.now)) steps gathered.now }
+{
+    match canon_of(report.alloc, report.text, gathered)? {
+        Canon::Text(canon) => write_whole(report, canon.as_bytes(), out),
+        Canon::NotClean | Canon::TooLong => {
+            report.is_faulty = true;
+            Ok(())
+        }
+    }
+}
+
+/// Adds the row of a piece.
+fn push_piece(report: &mut Report, piece: Piece) -> Result<(), AllocError> {
+    let text = report.at(piece.span);
+    report.push_row(Row {
+        kind: match piece.class {
+            Class::Token => "token",
+            Class::Comment => "comment",
+            Class::Trivia => "trivia",
+        },
+        span: piece.span,
+        more: More::Nothing,
+        text,
+    })
+}
+
+fn push_pieces<W: Write>(report: &mut Report, pieces: &[Piece], out: &mut W) -> Result<(), Stop> {
+    for piece in pieces {
+        push_piece(report, *piece)?;
+        report.pass_on(out)?;
+    }
+    Ok(())
+}
+
+fn write_pieces<W: Write>(report: &mut Report, gathered: &Gathered, out: &mut W) -> Result<(), Stop>
+    requires fits { length report.old.text.now < 2 ^ 32 }
+    requires covered { MayBeCovered (begin 0 (chars report.old.text.now)) gathered.now.kept.items gathered.now.comments.items }
+{
+    let kept = gathered.kept.as_slice();
+    let comments = gathered.comments.as_slice();
+    let pieces = classes(report.alloc, report.text, START, kept, comments)?;
+    push_pieces(report, &pieces, out)
+}
+
+fn write_html<W: Write>(report: &mut Report, gathered: &Gathered, out: &mut W) -> Result<(), Stop>
+    requires fits { length report.old.text.now < 2 ^ 32 }
+    requires covered { MayBeCovered (begin 0 (chars report.old.text.now)) gathered.now.kept.items gathered.now.comments.items }
+{
+    let html = html_of_gathered(report.alloc, report.text, gathered)?;
+    write_whole(report, &html, out)
+}
+
+/// Writes what is asked for of a text, by what was gathered of it.
+fn write_gathered<W: Write>(
+    report: &mut Report,
+    gathered: &Gathered,
+    out: &mut W,
+) -> Result<(), Stop>
+    requires fits { length report.old.text.now < 2 ^ 32 }
+    requires plain { (settings : Settings) × (steps : List Step) × GathersPlainly settings (begin 0 (chars report.old.text.now)) steps gathered.now }
+    requires covered { MayBeCovered (begin 0 (chars report.old.text.now)) gathered.now.kept.items gathered.now.comments.items }
+{
+    match report.asked.face {
+        Face::Classes => write_pieces(report, gathered, out),
+        Face::Html => write_html(report, gathered, out),
+        _ => write_canonical(report, gathered, out),
+    }
+}
+
+/// Gathers the tokens of a text, and the comments but for the canonical text, tells of errors, and writes what is asked for.
+pub(crate) fn tell_gathered<'a, W: Write>(
+    report: &mut Report<'a>,
+    named: Named<'a>,
+    out: &mut W,
+) -> Result<(), Stop>
+    requires { length report.old.text.now < 2 ^ 32 }
+{
+    let settings = report
+        .asked
+        .options
+        .settings(report.asked.face != Face::Canonical);
+    let context = report.asked.options.context();
+    let slashes = slashes_at(named);
+    let read = read_out(
+        report.alloc,
+        &settings,
+        context,
+        report.text,
+        START,
+        slashes,
+    )?;
+    tell_unmet(report, named, read.rereads)?;
+    tell_refused(report, &read.refusals, out)?;
+    tell_recorded(report, read.gathered.errors.as_slice(), out)?;
+    write_gathered(report, &read.gathered, out)
+}

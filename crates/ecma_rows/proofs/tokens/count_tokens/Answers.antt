@@ -1,8 +1,0 @@
-use Rattle.std.proofs.Common.{false}
-use Rattle.ecma_state.specs.Session.{lexer_state}
-use Rattle.ecma_rows.specs.Asked.{asked_view}
-use Rattle.ecma_rows.proofs.FewTokens.{few-tokens}
-use Rattle.ecma_rows.proofs.tokens.count_tokens.Goals as goal
-
-pub tally_all-requires-clause-short : goal.tally_all-requires-clause-short
-tally_all-requires-clause-short c = few-tokens false (asked_view c.in-Ok.asked) (lexer_state c.in_ok-lexer.lexer) c.in_ok-lexer.ensures c.in-Ok.ensures.is_text c.in-Ok.ensures.short

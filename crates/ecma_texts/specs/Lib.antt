@@ -1,7 +1,0 @@
-pub mod Keeping
-pub mod ReadingOut
-pub use Rattle.ecma_state.specs.Run
-pub use Rattle.ecma_state.specs.Session
-pub use Rattle.ecma_slashes.specs.ByFlag
-pub use Rattle.ecma_slashes.specs.Rereads
-pub use Rattle.ecma_replay.specs.Replay
