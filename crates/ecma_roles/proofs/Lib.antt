@@ -1,5 +1,6 @@
 pub mod NestLemmas
 pub mod RankLemmas
 pub mod RowRanks
+pub mod SettledLemmas
 pub mod TrackLemmas
 pub mod TrackedLemmas

@@ -1,6 +1,7 @@
 pub mod Moves
 pub mod Nest
 pub mod Rank
+pub mod Settled
 pub mod Slashes
 pub mod Track
 pub use Rattle.ecma_role_table.specs.Frames

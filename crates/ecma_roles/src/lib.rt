@@ -8,6 +8,7 @@ mod inside;
 pub mod laws;
 mod nest;
 mod perform;
+mod settled;
 mod slash;
 pub mod track;
 

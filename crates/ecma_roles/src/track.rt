@@ -8,6 +8,7 @@ ghost use Rattle.ecma_roles.specs.Track as tracks;
 
 use crate::nest::Nest;
 use crate::perform::perform;
+use crate::settled::settled;
 use crate::slash::expects_operand;
 use ecma_role_table::frame::{Around, FrameKind, Kinds};
 use ecma_role_table::moves::Turn;
@@ -98,7 +99,9 @@ fn ready(nest: &mut Nest, state: State, kind: PartKind, had_line_break: bool)
     }
 }
 
-/// Reads a token of this kind once.
+/// Reads a token of this kind once. Inside the loop of [`read`] all that its arms have in common would be worked out for
+/// each token.
+#[inline(never)]
 #[tactic(auto, unfolding(crate::specs::Track::read_once))]
 fn read_once(
     nest: &mut Nest,
@@ -169,6 +172,10 @@ impl Track {
         ensures err { OnErr result (self.new ≡ self.old) }
         ensures free { IsShallow self.old.nest → IsOk result }
     {
+        if let Some(state) = settled(&self.nest, self.state, part.kind) {
+            self.state = state;
+            return Ok(());
+        }
         self.nest.reserve(2 * MOST_READS)?;
         self.state = read(&mut self.nest, self.state, self.typescript, *part);
         Ok(())
