@@ -16,12 +16,12 @@ use Rattle.ecma_state.specs.declared.step.Step.{Step}
 use Rattle.ecma_state.specs.declared.step.Step.TheVariants.{SetCtx}
 use Rattle.ecma_role_table.specs.Parts.{part_of}
 use Rattle.ecma_role_table.specs.declared.part.Part.{Part}
-use Rattle.ecma_roles.specs.Track.{TrackView}
 use Rattle.ecma_stream.specs.Ending.{enough, most_tokens}
 use Rattle.ecma_stream.proofs.EndLemmas.{room-le}
-use Rattle.ecma_slashes.specs.Rereads.{SlashRule, all_by, at_places, behind_by, behind_last, by_flag, by_role, entered, expected_by, found_by, last_read, meets_expression, names_answer, read_steps, steps_by, steps_to_end_by, track_by, unless_ended}
+use Rattle.ecma_slashes.specs.Known.{Known, expected_by, known_behind}
+use Rattle.ecma_slashes.specs.Rereads.{SlashRule, all_by, at_places, behind_by, by_flag, by_role, entered, found_by, known_by, last_read, meets_expression, names_answer, numbered, read_steps, steps_by, steps_to_end_by, unless_ended}
 use Rattle.ecma_slashes.specs.Roles.{is_assign, is_assign_kind, part_in}
-use Rattle.ecma_slashes.proofs.RoleLemmas.{follows-on}
+use Rattle.ecma_slashes.proofs.RoleLemmas.{known-on}
 use Rattle.ecma_slashes.proofs.RunLemmas.{text-counts}
 use Rattle.ecma_slashes.proofs.TokenLemmas.{behind-ended, behind-fewer, behind-plain, ended_by}
 use Rattle.ecma_clean.specs.Canonical.{canonical_of}
@@ -29,6 +29,7 @@ use Rattle.ecma_clean.specs.Sharing.{IsCanonical, begin, owned}
 use Rattle.ecma_clean.specs.Stages.{Stage, placeless, read_in, stages, token_from}
 use Rattle.ecma_clean.proofs.CanonicalLaws.{canonical_is_read, canonical_runs_alike}
 use Rattle.ecma_flagged.specs.ByFlag.{CanonicalByFlagIsRead, CanonicalByFlagIsShared, FlagReadsAlike}
+use Rattle.ecma_flagged.specs.ByNumber.{CanonicalByNumberIsRead, CanonicalByNumberIsShared, NumberReadsAlike}
 use Rattle.ecma_flagged.specs.ByRole.{CanonicalByRoleIsRead, CanonicalByRoleIsShared, RoleReadsAlike}
 use Rattle.ecma_flagged.specs.ByRule.{CanonicalByRuleIsRead, CanonicalByRuleIsShared, ReadsAlike, canonical_by, rule_steps}
 
@@ -38,6 +39,7 @@ abbrev names_no_places : SlashRule → Bool
 names_no_places by_flag = true
 names_no_places (at_places places) = false
 names_no_places by_role = true
+names_no_places (numbered numbers) = true
 
 -- they pass over where a slash stands
 anywhere : (rule : SlashRule) → names_no_places rule ≡ true → (allowed expected b : Bool) (p q : BytePos)
@@ -45,6 +47,7 @@ anywhere : (rule : SlashRule) → names_no_places rule ≡ true → (allowed exp
 anywhere by_flag bare allowed expected true p q = refl
 anywhere (at_places places) bare allowed expected true p q = cc
 anywhere by_role bare allowed expected true p q = refl
+anywhere (numbered numbers) bare allowed expected true p q = refl
 anywhere rule bare allowed expected false p q = refl
 
 -- What a stage shows of a read
@@ -65,8 +68,8 @@ abbrev part_shown : Option (TokenView × Bool) → Option Part
 part_shown None = None
 part_shown (Some t) = Some (part_of (kind_of t.0) t.1)
 
--- a slash is read that begins a regular expression, where the track before it is this
-abbrev meets : SlashRule → Option TrackView → List Stage → Bool
+-- a slash is read that begins a regular expression, where this is known before it
+abbrev meets : SlashRule → Known → List Stage → Bool
 meets rule t [] = false
 meets rule t (stage ∷ more) = names_answer rule stage.bearing.expr_allowed (expected_by t (assign_shown stage.token)) (slash_shown stage.token)
 
@@ -81,14 +84,14 @@ kind-from n (plain_token token) = refl
 kind-from n (refused_template raw kind span) = refl
 kind-from n (error_token kind span) = refl
 
-meets-token : (rule : SlashRule) → names_no_places rule ≡ true → (t : Option TrackView) (allowed : Bool) (token : SpannedView)
+meets-token : (rule : SlashRule) → names_no_places rule ≡ true → (t : Known) (allowed : Bool) (token : SpannedView)
     → names_answer rule allowed (expected_by t (assign_shown (Some (placeless token)))) (slash_shown (Some (placeless token)))
     ≡ names_answer rule allowed (expected_by t (is_assign_kind (kind_of token.token))) (if is_slash (kind_of token.token) then Some token.span.lo else None)
 meets-token rule bare t allowed token =
     ap (λ k. names_answer rule allowed (expected_by t (is_assign_kind k)) (if is_slash k then Some nowhere else None)) (kind-from token.span.lo.0 token.token)
     ∙ anywhere rule bare allowed (expected_by t (is_assign_kind (kind_of token.token))) (is_slash (kind_of token.token)) nowhere token.span.lo
 
-meets-found : (rule : SlashRule) → names_no_places rule ≡ true → (t : Option TrackView) (allowed again flag : Bool) (found : Option SpannedView) (past : Past)
+meets-found : (rule : SlashRule) → names_no_places rule ≡ true → (t : Known) (allowed again flag : Bool) (found : Option SpannedView) (past : Past)
     → names_answer rule allowed (expected_by t (assign_shown (read_in (answer_in found)))) (slash_shown (read_in (answer_in found)))
     ≡ names_answer rule allowed (expected_by t (is_assign found)) (last_slash (seen_of (given_in again flag found ∷ past)))
 meets-found rule bare t allowed again flag None past = refl
@@ -96,11 +99,11 @@ meets-found rule bare t allowed true flag (Some token) past = meets-token rule b
 meets-found rule bare t allowed false flag (Some token) past = meets-token rule bare t allowed token
 
 -- the first read of a token shows whether its slash is read again
-meets-first : (rule : SlashRule) → names_no_places rule ≡ true → (s : Session) (b : Bool) (more : List Step) → meets rule (track_by rule s) (stages s (read_steps b ++ more)) ≡ meets_expression rule s
+meets-first : (rule : SlashRule) → names_no_places rule ≡ true → (s : Session) (b : Bool) (more : List Step) → meets rule (known_by rule s) (stages s (read_steps b ++ more)) ≡ meets_expression rule s
 meets-first rule bare s true more =
-    meets-found rule bare (track_by rule s) s.expr_allowed (is_some s.reread) (reading_of (state_of s)).end_flag (reading_of (state_of s)).found s.past
+    meets-found rule bare (known_by rule s) s.expr_allowed (is_some s.reread) (reading_of (state_of s)).end_flag (reading_of (state_of s)).found s.past
 meets-first rule bare s false more =
-    meets-found rule bare (track_by rule s) s.expr_allowed (is_some s.reread) (reading_of (state_of s)).end_flag (reading_of (state_of s)).found s.past
+    meets-found rule bare (known_by rule s) s.expr_allowed (is_some s.reread) (reading_of (state_of s)).end_flag (reading_of (state_of s)).found s.past
 
 part-found : (found : Option SpannedView) → part_shown (read_in (answer_in found)) ≡ option_map part_in found
 part-found None = refl
@@ -121,7 +124,7 @@ stages-behind : (s : Session) (b : Bool) (more : List Step) → drop (if b then 
 stages-behind s true more = refl
 stages-behind s false more = refl
 
--- Two runs that go through the same stages, behind the same track
+-- Two runs that go through the same stages, where the same is known before them
 
 abbrev Alike : Session → Session → List Step → Type 0
 Alike a c steps = stages a steps ≡ stages c steps
@@ -129,20 +132,21 @@ Alike a c steps = stages a steps ≡ stages c steps
 record Reads (rule : SlashRule) (a c : Session) (more : List Step) : Type 0 where
   meets_too : meets_expression rule c ≡ meets_expression rule a
   ends_too : has_ended (behind_by rule c).past ≡ has_ended (behind_by rule a).past
-  tracks_too : track_by rule (behind_by rule c) ≡ track_by rule (behind_by rule a)
+  known_too : known_by rule (behind_by rule c) ≡ known_by rule (behind_by rule a)
   behind : Alike (behind_by rule a) (behind_by rule c) more
 
 -- they read a token alike
-token-alike : (rule : SlashRule) → names_no_places rule ≡ true → (a c : Session) (more : List Step) → a.reread ≡ None → c.reread ≡ None → track_by rule c ≡ track_by rule a → Alike a c (steps_by rule a ++ more) → Reads rule a c more
-token-alike rule bare a c more plain_a plain_c tracks same =
+token-alike : (rule : SlashRule) → names_no_places rule ≡ true → (a c : Session) (more : List Step) → a.reread ≡ None → c.reread ≡ None → known_by rule c ≡ known_by rule a → Alike a c (steps_by rule a ++ more) → Reads rule a c more
+token-alike rule bare a c more plain_a plain_c known same =
     record {
       meets_too = met;
       ends_too = behind-ended rule c ∙ sym (ended-part (found_by rule c)) ∙ ap is_none seen ∙ ended-part (found_by rule a) ∙ sym (behind-ended rule a);
-      tracks_too =
-          sym (follows-on rule c (track_by rule c) (found_by rule c) plain_c refl refl)
-          ∙ ap (λ t. behind_last t (option_map part_in (found_by rule c))) tracks
-          ∙ ap (behind_last (track_by rule a)) seen
-          ∙ follows-on rule a (track_by rule a) (found_by rule a) plain_a refl refl;
+      known_too =
+          known-on rule c plain_c
+          ∙ ap (λ k. known_behind k (meets_expression rule c) (option_map part_in (found_by rule c))) known
+          ∙ ap (λ x. known_behind (known_by rule a) x (option_map part_in (found_by rule c))) met
+          ∙ ap (known_behind (known_by rule a) b) seen
+          ∙ sym (known-on rule a plain_a);
       behind =
           sym (stages-behind a b more)
           ∙ ap (drop (if b then 4 else 1)) same
@@ -156,8 +160,8 @@ token-alike rule bare a c more plain_a plain_c tracks same =
     met : meets_expression rule c ≡ b
     met =
         sym (meets-first rule bare c b more)
-        ∙ ap (meets rule (track_by rule c)) (sym same)
-        ∙ ap (λ t. meets rule t (stages a (read_steps b ++ more))) tracks
+        ∙ ap (meets rule (known_by rule c)) (sym same)
+        ∙ ap (λ t. meets rule t (stages a (read_steps b ++ more))) known
         ∙ meets-first rule bare a b more
 
     seen : option_map part_in (found_by rule c) ≡ option_map part_in (found_by rule a)
@@ -168,15 +172,15 @@ token-alike rule bare a c more plain_a plain_c tracks same =
         ∙ part-last a b more
 
 -- and take the same steps to the end
-same-steps : (rule : SlashRule) → names_no_places rule ≡ true → (n m : ℕ) (a c : Session) → a.reread ≡ None → c.reread ≡ None → track_by rule c ≡ track_by rule a → Alike a c (all_by rule n a)
+same-steps : (rule : SlashRule) → names_no_places rule ≡ true → (n m : ℕ) (a c : Session) → a.reread ≡ None → c.reread ≡ None → known_by rule c ≡ known_by rule a → Alike a c (all_by rule n a)
     → most_tokens (state_of a) < n → most_tokens (state_of c) < m → all_by rule m c ≡ all_by rule n a
-same-steps rule bare zero m a c plain_a plain_c tracks same few_a few_c = absurd (omega (arith, few_a))
-same-steps rule bare (suc n) zero a c plain_a plain_c tracks same few_a few_c = absurd (omega (arith, few_c))
-same-steps rule bare (suc n) (suc m) a c plain_a plain_c tracks same few_a few_c =
+same-steps rule bare zero m a c plain_a plain_c known same few_a few_c = absurd (omega (arith, few_a))
+same-steps rule bare (suc n) zero a c plain_a plain_c known same few_a few_c = absurd (omega (arith, few_c))
+same-steps rule bare (suc n) (suc m) a c plain_a plain_c known same few_a few_c =
     ap (λ x. read_steps x ++ unless_ended (has_ended next_c.past) (all_by rule m next_c)) on.meets_too
     ∙ ap (λ x. steps_by rule a ++ x)
     (ap (λ x. unless_ended x (all_by rule m next_c)) on.ends_too
-    ∙ go (has_ended next_a.past) refl on.behind (same-steps rule bare n m next_a next_c (behind-plain rule a plain_a) (behind-plain rule c plain_c) on.tracks_too))
+    ∙ go (has_ended next_a.past) refl on.behind (same-steps rule bare n m next_a next_c (behind-plain rule a plain_a) (behind-plain rule c plain_c) on.known_too))
   where
     next_a : Session
     next_a = behind_by rule a
@@ -185,7 +189,7 @@ same-steps rule bare (suc n) (suc m) a c plain_a plain_c tracks same few_a few_c
     next_c = behind_by rule c
 
     on : Reads rule a c (unless_ended (has_ended next_a.past) (all_by rule n next_a))
-    on = token-alike rule bare a c (unless_ended (has_ended next_a.past) (all_by rule n next_a)) plain_a plain_c tracks same
+    on = token-alike rule bare a c (unless_ended (has_ended next_a.past) (all_by rule n next_a)) plain_a plain_c known same
 
     go : (x : Bool) → has_ended next_a.past ≡ x → Alike next_a next_c (unless_ended x (all_by rule n next_a))
         → (Alike next_a next_c (all_by rule n next_a) → most_tokens (state_of next_a) < n → most_tokens (state_of next_c) < m → all_by rule m next_c ≡ all_by rule n next_a)
@@ -203,10 +207,11 @@ most-enough s =
     omega (arith, bound, room-le (previous (seen_of s.past)))
 
 -- no token stands before the first, whatever the text is
-tracks-begin : (rule : SlashRule) (settings : Settings) (context : Context) (a c : Cursor) → track_by rule (entered settings context c) ≡ track_by rule (entered settings context a)
-tracks-begin by_flag settings context a c = refl
-tracks-begin (at_places places) settings context a c = refl
-tracks-begin by_role settings context a c = refl
+known-begin : (rule : SlashRule) (settings : Settings) (context : Context) (a c : Cursor) → known_by rule (entered settings context c) ≡ known_by rule (entered settings context a)
+known-begin by_flag settings context a c = refl
+known-begin (at_places places) settings context a c = refl
+known-begin by_role settings context a c = refl
+known-begin (numbered numbers) settings context a c = refl
 
 -- The laws of such a rule
 
@@ -214,7 +219,7 @@ reads_alike : (rule : SlashRule) → names_no_places rule ≡ true → ReadsAlik
 unfolding steps_to_end_by
 reads_alike rule bare settings context start text good =
     ap (λ steps. SetCtx context ∷ steps)
-    (same-steps rule bare (enough first.input) (enough other.input) first other refl refl (tracks-begin rule settings context (begin start text) (begin start canon)) (sym behind) (most-enough first) (most-enough other))
+    (same-steps rule bare (enough first.input) (enough other.input) first other refl refl (known-begin rule settings context (begin start text) (begin start canon)) (sym behind) (most-enough first) (most-enough other))
   where
     canon : Text
     canon = canonical_by rule settings context start text
@@ -271,3 +276,14 @@ canonical_by_role_is_read = canonical_is_read_by by_role refl
 
 pub canonical_by_role_is_shared : CanonicalByRoleIsShared
 canonical_by_role_is_shared = canonical_is_shared_by by_role refl
+
+-- By numbers
+
+pub number_reads_alike : NumberReadsAlike
+number_reads_alike numbers = reads_alike (numbered numbers) refl
+
+pub canonical_by_number_is_read : CanonicalByNumberIsRead
+canonical_by_number_is_read numbers = canonical_is_read_by (numbered numbers) refl
+
+pub canonical_by_number_is_shared : CanonicalByNumberIsShared
+canonical_by_number_is_shared numbers = canonical_is_shared_by (numbered numbers) refl

@@ -1,3 +1,4 @@
 pub mod ByFlag
+pub mod ByNumber
 pub mod ByRole
 pub mod ByRule

@@ -1,6 +1,7 @@
-//! Laws of canonical texts where the lexer's own flag, or what the tokens before expect, says which slashes begin regular
-//! expressions. None names a place.
+//! Laws of canonical texts where the lexer's own flag, what the tokens before expect, or the numbers of tokens say which
+//! slashes begin regular expressions. None names a place.
 ghost use Rattle.ecma_flagged.specs.ByFlag.{CanonicalByFlagIsRead, CanonicalByFlagIsShared, FlagReadsAlike};
+ghost use Rattle.ecma_flagged.specs.ByNumber.{CanonicalByNumberIsRead, CanonicalByNumberIsShared, NumberReadsAlike};
 ghost use Rattle.ecma_flagged.specs.ByRole.{CanonicalByRoleIsRead, CanonicalByRoleIsShared, RoleReadsAlike};
 
 /// The canonical text of a text that is read cleanly by the flag is read by the flag by the same steps: the same slashes, by
@@ -35,4 +36,20 @@ pub fn canonical_by_role_is_read()
 /// Two texts that are read cleanly by roles have one canonical text exactly where their tokens agree.
 pub fn canonical_by_role_is_shared()
     ensures { CanonicalByRoleIsShared }
+{}
+
+/// The canonical text of a text that is read cleanly by numbers of tokens is read by these numbers by the same steps.
+pub fn number_reads_alike()
+    ensures { NumberReadsAlike }
+{}
+
+/// So it is read cleanly by these numbers, under the same settings, context and start place; its tokens agree in kind,
+/// characters and flag; and it is its own canonical text.
+pub fn canonical_by_number_is_read()
+    ensures { CanonicalByNumberIsRead }
+{}
+
+/// Two texts that are read cleanly by the same numbers have one canonical text exactly where their tokens agree.
+pub fn canonical_by_number_is_shared()
+    ensures { CanonicalByNumberIsShared }
 {}

@@ -36,8 +36,8 @@ struct Sink<'a> {
     errors: Vec<Error<'a>>,
 }
 
-/// The error of a token that is one, which is taken out of the slot. What the slot then holds is not said.
-fn take_error<'a>(slot: &mut Option<TokenAndSpan<'a>>) -> Option<Error<'a>>
+/// The error of a token that is one, which is taken out of the slot. What the slot then holds is not said. It does not allocate.
+pub fn take_error<'a>(slot: &mut Option<TokenAndSpan<'a>>) -> Option<Error<'a>>
     ensures { error_in result ≡ errors_among (tokens_found (option_map spanned_view slot.old)) }
 {
     // Most tokens are none, and stay where they are.

@@ -5,6 +5,6 @@ mod error_tokens;
 mod reader;
 mod tokens;
 
-pub use error_tokens::{ReadOut, read_out};
+pub use error_tokens::{ReadOut, read_out, take_error};
 pub use reader::{Outcome, Reader};
 pub use tokens::{LexOutput, tokenize};

@@ -2,7 +2,7 @@
 use Rattle.std.specs.Prelude.{ℕ, ◌≡◌, ◌==◌, Bool, true, false, List, [], ◌∷◌, Result, Ok, Err, length, nat_le}
 use Rattle.ecma_state.specs.Session.{Session}
 use Rattle.ecma_state.specs.declared.step.Step.{Step}
-use Rattle.ecma_slashes.specs.Rereads.{SlashRule, at_places, by_flag, by_role, rereads, steps_to_end_by}
+use Rattle.ecma_slashes.specs.Rereads.{SlashRule, at_places, by_flag, by_role, numbered, rereads, steps_to_end_by}
 use Rattle.ecma_reader.specs.Readers.{end_by}
 use Rattle.ecma_rows.specs.Asked.{AskedView, begin}
 use Rattle.ecma_rows.specs.declared.outcome.Answer.{Answer}
@@ -36,6 +36,7 @@ abbrev pub are_met : SlashRule → List Step → Bool
 are_met by_flag steps = true
 are_met by_role steps = true
 are_met (at_places places) steps = rereads steps == length places
+are_met (numbered numbers) steps = rereads steps == length numbers
 
 -- There is nothing to tell, for this reason, or these rows are to be told, of a text whose slashes are met or not.
 pub data Told (R : Type 0) : Type 0 where

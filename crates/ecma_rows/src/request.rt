@@ -54,6 +54,7 @@ impl<'a> Asked<'a> {
         match self.slashes {
             Slashes::ByFlag | Slashes::ByRole => true,
             Slashes::At(places) => count == places.len(),
+            Slashes::Numbered(numbers) => count == numbers.len(),
         }
     }
 }

@@ -13,8 +13,8 @@ use Rattle.ecma_state.specs.declared.step.Step.TheVariants.{Read}
 use Rattle.ecma_stream.specs.Ending.{most_tokens}
 use Rattle.ecma_stream.specs.Slashes.{slash_answered}
 use Rattle.ecma_stream.proofs.EndingLemmas.{end_found, state-behind, tokens_run_out}
-use Rattle.ecma_roles.specs.Track.{TrackView}
-use Rattle.ecma_slashes.specs.Rereads.{ReadsBy, SlashRule, are_free_by, behind_by, expected_by, expects_next, found_by, is_free, last_read, meets_expression, names, names_answer, read_steps, track_by}
+use Rattle.ecma_slashes.specs.Known.{Known, expected_by}
+use Rattle.ecma_slashes.specs.Rereads.{ReadsBy, SlashRule, are_free_by, behind_by, expects_next, found_by, is_free, known_by, last_read, meets_expression, names, names_answer, read_steps}
 use Rattle.ecma_slashes.specs.Roles.{is_assign}
 use Rattle.ecma_slashes.proofs.FewerLemmas.{fewer-again}
 use Rattle.ecma_slashes.proofs.RereadLemmas.{reread-steps}
@@ -158,7 +158,7 @@ lexer-no-slash rule s l next found at finds moved none =
     lexer-once rule s l next found at finds moved (meets-no-slash rule s next (lexer-behind s l next at moved) none)
 
 -- a slash was answered, and whether it begins an expression was asked with the flag and the track that stood before it
-pub lexer-meets : (rule : SlashRule) (s : Session) (l next : LexerState) (p : BytePos) (found : Option SpannedView) (t : Option TrackView) (b : Bool) → state_of s ≡ l → t ≡ track_by rule s → found ≡ (reading_of l).found
+pub lexer-meets : (rule : SlashRule) (s : Session) (l next : LexerState) (p : BytePos) (found : Option SpannedView) (t : Known) (b : Bool) → state_of s ≡ l → t ≡ known_by rule s → found ≡ (reading_of l).found
     → next ≡ state_behind l (reading_of l) → Some p ≡ slash_answered next → b ≡ names rule l.state.expr_allowed (expected_by t (is_assign found)) p → meets_expression rule s ≡ b
 lexer-meets rule s l next p found t b at track finds moved told asked =
     let expects : expects_next rule s ≡ expected_by t (is_assign found) =
@@ -168,12 +168,12 @@ lexer-meets rule s l next p found t b at track finds moved told asked =
     ∙ ap (λ x. names rule x.state.expr_allowed (expected_by t (is_assign found)) p) at
     ∙ sym asked
 
-pub lexer-not-named : (rule : SlashRule) (s : Session) (l next : LexerState) (p : BytePos) (found : Option SpannedView) (t : Option TrackView) → state_of s ≡ l → t ≡ track_by rule s → found ≡ (reading_of l).found
+pub lexer-not-named : (rule : SlashRule) (s : Session) (l next : LexerState) (p : BytePos) (found : Option SpannedView) (t : Known) → state_of s ≡ l → t ≡ known_by rule s → found ≡ (reading_of l).found
     → next ≡ state_behind l (reading_of l) → Some p ≡ slash_answered next → false ≡ names rule l.state.expr_allowed (expected_by t (is_assign found)) p → ReadsBy rule s found next × (false ≡ meets_expression rule s)
 lexer-not-named rule s l next p found t at track finds moved told asked =
     lexer-once rule s l next found at finds moved (lexer-meets rule s l next p found t false at track finds moved told asked)
 
-pub lexer-twice : (rule : SlashRule) (s : Session) (l next asked now done : LexerState) (p : BytePos) (first found : Option SpannedView) (t : Option TrackView) → state_of s ≡ l → t ≡ track_by rule s
+pub lexer-twice : (rule : SlashRule) (s : Session) (l next asked now done : LexerState) (p : BytePos) (first found : Option SpannedView) (t : Known) → state_of s ≡ l → t ≡ known_by rule s
     → first ≡ (reading_of l).found → true ≡ names rule l.state.expr_allowed (expected_by t (is_assign first)) p
     → next ≡ state_behind l (reading_of l) → Some p ≡ slash_answered next → asked ≡ state_rereading (Some p) next → found ≡ (reading_of asked).found → now ≡ state_behind asked (reading_of asked)
     → done ≡ state_rereading None now → ReadsBy rule s found done × (true ≡ meets_expression rule s)
@@ -185,7 +185,7 @@ pub never : false ≡ true → ⊥
 never h = cc
 
 -- Nothing is allocated by the second read where nothing is by those of a token
-pub twice-free : (rule : SlashRule) (s : Session) (l next asked : LexerState) (p : BytePos) (first : Option SpannedView) (t : Option TrackView) → state_of s ≡ l → t ≡ track_by rule s → first ≡ (reading_of l).found
+pub twice-free : (rule : SlashRule) (s : Session) (l next asked : LexerState) (p : BytePos) (first : Option SpannedView) (t : Known) → state_of s ≡ l → t ≡ known_by rule s → first ≡ (reading_of l).found
     → true ≡ names rule l.state.expr_allowed (expected_by t (is_assign first)) p → next ≡ state_behind l (reading_of l) → Some p ≡ slash_answered next → asked ≡ state_rereading (Some p) next → are_free_by rule s ≡ true
     → (length asked.state.contexts < 128) × (is_free_read asked ≡ true)
 twice-free rule s l next asked p first t at track before named moved told sets free =

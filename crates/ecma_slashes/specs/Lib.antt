@@ -1,4 +1,6 @@
+pub mod Alone
 pub mod ByFlag
+pub mod Known
 pub mod Rereads
 pub mod Roles
 pub use Rattle.ecma_state.specs.Counting

@@ -1,5 +1,5 @@
 -- Reading with no parser above: each slash that begins a regular expression, as a rule says, is read again.
-use Rattle.std.specs.Prelude.{ℕ, zero, suc, ⊤, ◌≡◌, ◌==◌, nat_lt, Bool, true, false, ◌&&◌, List, [], ◌∷◌, ◌++◌, Option, Some, None, is_some, length}
+use Rattle.std.specs.Prelude.{ℕ, zero, suc, ⊤, ◌≡◌, ◌==◌, nat_lt, Bool, true, false, ◌&&◌, List, [], ◌∷◌, ◌++◌, Option, Some, None, drop, is_some, length}
 use Rattle.std.specs.List.{count_by, list_all, list_any}
 use Rattle.ecma_place.specs.Cursor.{Cursor}
 use Rattle.ecma_place.specs.declared.place.BytePos.{BytePos}
@@ -15,32 +15,31 @@ use Rattle.ecma_state.specs.declared.step.Step.TheVariants.{Read, SetCtx, SetExp
 use Rattle.ecma_clean_reads.specs.Clean.{each_step, ends_clean, is_clean, is_plain_step, takes_none}
 use Rattle.ecma_role_table.specs.declared.part.Part.{Part}
 use Rattle.ecma_roles.specs.Nest.{IsShallow}
-use Rattle.ecma_roles.specs.Slashes.{expects_operand}
-use Rattle.ecma_roles.specs.Track.{TrackView, stepped}
+use Rattle.ecma_roles.specs.Track.{TrackView}
 use Rattle.ecma_stream.specs.Ending.{enough}
 use Rattle.ecma_slashes.specs.declared.slashes.Slashes.{Slashes}
-use Rattle.ecma_slashes.specs.declared.slashes.Slashes.TheVariants.{ByFlag, At, ByRole}
+use Rattle.ecma_slashes.specs.declared.slashes.Slashes.TheVariants.{ByFlag, At, ByRole, Numbered}
 use Rattle.ecma_slashes.specs.declared.decider.Decider.{Decider}
-use Rattle.ecma_slashes.specs.Roles.{is_assign, track_of}
+use Rattle.ecma_slashes.specs.declared.decider.Namer.{Namer}
+use Rattle.ecma_slashes.specs.declared.decider.Namer.TheVariants as namer
+use Rattle.ecma_slashes.specs.Known.{Known, awaiting, awaiting_from, expected_by, leading, nothing, times_again, track_behind}
+use Rattle.ecma_slashes.specs.Roles.{is_assign, tokens_kept, track_of}
 
 -- Which slashes begin regular expressions
 
--- those before which an expression is allowed, those at these places, or those where an operand is expected
+-- those before which an expression is allowed, those at these places, those where an operand is expected, or those of the
+-- tokens with these numbers, the first of which is 1, each number once that before it was met
 pub data SlashRule : Type 0 where
   by_flag : SlashRule
   at_places : List BytePos → SlashRule
   by_role : SlashRule
+  numbered : List ℕ → SlashRule
 
 abbrev pub rule_of : Slashes → SlashRule
 rule_of ByFlag = by_flag
 rule_of (At places) = at_places places.now
 rule_of ByRole = by_role
-
--- the rule asks nothing of the tokens before
-abbrev pub is_by_itself : SlashRule → Bool
-is_by_itself by_flag = true
-is_by_itself (at_places places) = true
-is_by_itself by_role = false
+rule_of (Numbered numbers) = numbered numbers.now
 
 -- each place is behind the one before it
 abbrev pub ascend_behind : BytePos → List BytePos → Bool
@@ -55,16 +54,19 @@ abbrev pub is_in_order : SlashRule → Bool
 is_in_order by_flag = true
 is_in_order (at_places places) = ascend places
 is_in_order by_role = true
+is_in_order (numbered numbers) = true
 
 -- a place is one of these
 abbrev pub is_among : List BytePos → BytePos → Bool
 is_among places p = list_any (λ q. q.0 == p.0) places
 
--- a slash before which an expression was allowed or not, and an operand expected or not, begins a regular expression
+-- a slash before which an expression was allowed or not, and which the tokens before let expect or not, begins a regular
+-- expression
 abbrev pub names : SlashRule → Bool → Bool → BytePos → Bool
 names by_flag allowed expected p = allowed
 names (at_places places) allowed expected p = is_among places p
 names by_role allowed expected p = expected
+names (numbered numbers) allowed expected p = expected
 
 abbrev pub names_answer : SlashRule → Bool → Bool → Option BytePos → Bool
 names_answer rule allowed expected None = false
@@ -72,20 +74,24 @@ names_answer rule allowed expected (Some p) = names rule allowed expected p
 
 -- One token
 
--- the track that the rule asks for
-abbrev pub track_by : SlashRule → Session → Option TrackView
-track_by by_flag s = None
-track_by (at_places places) s = None
-track_by by_role s = Some (track_of s)
+-- what the rule asks of the tokens before
+abbrev pub known_by : SlashRule → Session → Known
+known_by by_flag s = nothing
+known_by (at_places places) s = nothing
+known_by by_role s = leading (track_of s)
+known_by (numbered numbers) s = awaiting_from (length (tokens_kept s)) (drop (times_again s.past) numbers)
 
--- an operand is expected by it
-abbrev pub expected_by : Option TrackView → Bool → Bool
-expected_by None is_assign = false
-expected_by (Some t) is_assign = expects_operand t is_assign
+-- it is nothing, and nothing of those that come, where these numbers are left
+abbrev pub asks_nothing : SlashRule → List ℕ → Bool
+asks_nothing by_flag left = true
+asks_nothing (at_places places) left = true
+asks_nothing by_role left = false
+asks_nothing (numbered numbers) [] = true
+asks_nothing (numbered numbers) (n ∷ ns) = false
 
--- an operand is expected where the next read begins
+-- it lets expect an expression where the next read begins
 abbrev pub expects_next : SlashRule → Session → Bool
-expects_next rule s = expected_by (track_by rule s) (is_assign (reading_of (state_of s)).found)
+expects_next rule s = expected_by (known_by rule s) (is_assign (reading_of (state_of s)).found)
 
 -- the next read answers a slash that begins a regular expression
 abbrev pub meets_expression : SlashRule → Session → Bool
@@ -135,18 +141,42 @@ pub record StepsOn (rule : SlashRule) (s : Session) (before steps : List Step) (
 -- a track behind one token more, where there is a track
 abbrev pub behind_last : Option TrackView → Option Part → Option TrackView
 behind_last None last = None
-behind_last (Some t) None = Some t
-behind_last (Some t) (Some part) = Some (stepped t part)
+behind_last (Some t) last = Some (track_behind t last)
 
 -- there is no track, or one token more takes no memory of it
 abbrev pub HasRoom : Option TrackView → Type 0
 HasRoom None = ⊤
 HasRoom (Some t) = IsShallow t.nest
 
--- it goes by this rule, and its track, where the rule asks for one, is that of the session
+abbrev pub known_with : SlashRule → Option TrackView → ℕ → List ℕ → Known
+known_with by_flag t left numbers = nothing
+known_with (at_places places) t left numbers = nothing
+known_with by_role None left numbers = nothing
+known_with by_role (Some t) left numbers = leading t
+known_with (numbered all) t left numbers = awaiting left numbers
+
+-- what a decider knows
+abbrev pub known_to : Decider → Known
+known_to d = known_with (rule_of d.slashes) (behind_last d.track d.last) d.left d.numbers.now
+
+-- it goes by this rule, and knows what the rule asks of the tokens of the session
 pub record Decides (rule : SlashRule) (s : Session) (d : Decider) : Type 0 where
   pub by_rule : rule_of d.slashes ≡ rule
-  pub follows : behind_last d.track d.last ≡ track_by rule s
+  pub follows : known_to d ≡ known_by rule s
+
+-- what says of each slash what a rule says of it where it is read next
+abbrev pub NamesAs : SlashRule → Session → (Bool → Bool → BytePos → Bool) → Type 0
+NamesAs rule s named = (allowed is_assign : Bool) (p : BytePos) → named allowed is_assign p ≡ names rule allowed (expected_by (known_by rule s) is_assign) p
+
+-- what is said of a slash
+abbrev pub says : Namer → Bool → Bool → BytePos → Bool
+says (namer.Rule slashes) allowed is_assign p = names (rule_of slashes) allowed false p
+says (namer.Decider d) allowed is_assign p = names (rule_of d.now.slashes) allowed (expected_by (known_to d.now) is_assign) p
+
+-- by places that ascend, and by a decider that took the last token into account
+abbrev pub MayName : Namer → Type 0
+MayName (namer.Rule slashes) = is_in_order (rule_of slashes) ≡ true
+MayName (namer.Decider d) = (is_in_order (rule_of d.now.slashes) ≡ true) × (d.now.last ≡ None)
 
 -- a read finds nothing for which something is allocated, while few contexts stand
 abbrev pub is_free : Session → Bool

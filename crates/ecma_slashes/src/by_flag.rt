@@ -10,7 +10,8 @@ ghost use Rattle.ecma_stream.specs.Ending.{most_tokens};
 ghost use Rattle.ecma_slashes.specs.ByFlag.{ReadsByFlag, steps_to_end, text_steps};
 ghost use Rattle.ecma_slashes.specs.Rereads.{are_free_by, by_flag};
 
-use crate::reads::{add_steps_by, read_by, steps_by};
+use crate::alone::{add_steps_by, read_by};
+use crate::reads::steps_by;
 use crate::slashes::Slashes;
 use ecma_place::{BytePos, StringInput};
 use ecma_state::settings::Settings;

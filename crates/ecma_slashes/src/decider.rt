@@ -1,9 +1,13 @@
 //! What decides which slashes begin regular expressions, as far as a text is read.
-ghost use Rattle.std.specs.Prelude.{◌≡◌, [], None, true, option_map, OnErr, OnOk, IsOk};
+ghost use Rattle.std.specs.Prelude.{◌≡◌, [], None, Some, option_map, OnErr, OnOk, IsOk};
 ghost use Rattle.ecma_token.specs.View.{spanned_view};
+ghost use Rattle.ecma_role_table.specs.declared.part.Part.{Part};
 ghost use Rattle.ecma_state.specs.Session.{Session};
 ghost use Rattle.ecma_syntax.specs.declared.context.Context.{Context};
-ghost use Rattle.ecma_slashes.specs.Rereads.{Decides, HasRoom, behind_last, expected_by, is_by_itself, is_in_order, names, rule_of};
+ghost use Rattle.ecma_slashes.specs.Alone as alone;
+ghost use Rattle.ecma_slashes.specs.Known as knowledge;
+ghost use Rattle.ecma_slashes.specs.Known.{awaiting, expected_by, known_behind};
+ghost use Rattle.ecma_slashes.specs.Rereads.{Decides, HasRoom, MayName, asks_nothing, known_to, rule_of, says};
 ghost use Rattle.ecma_slashes.specs.Roles as roles;
 
 use crate::slashes::Slashes;
@@ -23,6 +27,19 @@ pub struct Decider<'a> {
     track: Option<Track>,
     /// The last token, where there is a track: it is taken into account before the next is read, so that a refusal loses none.
     last: Option<Part>,
+    /// How many tokens are to come up to that with the next number, where the rule has numbers.
+    left: u64,
+    /// This number and those behind it.
+    numbers: &'a [u64],
+}
+
+/// What says which slash begins a regular expression.
+#[derive(Clone, Copy)]
+pub(crate) enum Namer<'d> {
+    /// A rule that asks nothing of the tokens before.
+    Rule(Slashes<'d>),
+    /// A decider that took all tokens before into account.
+    Decider(&'d Decider<'d>),
 }
 
 /// Whether the token is `/=`.
@@ -46,6 +63,33 @@ fn part_of(token: &TokenAndSpan) -> Part
     Part::of_kind(kept.kind, kept.flag)
 }
 
+/// How many tokens are to come up to that with the first of these numbers, where so many are kept.
+fn distance(kept: u64, numbers: &[u64]) -> u64
+    ensures { result ≡ knowledge.distance kept numbers.now }
+{
+    match numbers.first() {
+        Some(number) => number.saturating_sub(kept),
+        None => 0,
+    }
+}
+
+impl<'d> Namer<'d> {
+    /// Whether this slash, which was read into the slot, begins a regular expression; before it an expression is allowed or
+    /// not.
+    pub(crate) fn names(self, allowed: bool, slot: &Option<TokenAndSpan>, slash: BytePos) -> bool
+        requires { MayName self }
+        ensures { result ≡ says self.entry allowed (roles.is_assign (option_map spanned_view slot.now)) slash }
+    {
+        match self {
+            Namer::Rule(slashes) => slashes.name(allowed, false, slash),
+            Namer::Decider(decider) => {
+                let expected = decider.expects(slot);
+                decider.slashes.name(allowed, expected, slash)
+            }
+        }
+    }
+}
+
 impl<'a> Decider<'a> {
     /// Before the first token of a text with these settings, in a context. It does not allocate.
     pub fn new(
@@ -58,31 +102,64 @@ impl<'a> Decider<'a> {
         ensures slashes { result.slashes ≡ slashes.entry }
     {
         let track = match slashes {
-            Slashes::ByFlag | Slashes::At(_) => None,
             Slashes::ByRole => Some(Track::new(
                 alloc,
                 settings.syntax.typescript(),
                 context.module,
             )),
+            _ => None,
+        };
+        let numbers: &[u64] = match slashes {
+            Slashes::Numbered(numbers) => numbers,
+            _ => &[],
         };
         Decider {
             slashes,
             track,
             last: None,
+            left: distance(0, numbers),
+            numbers,
         }
     }
 
-    /// For a rule that asks nothing of the tokens before. It does not allocate.
-    pub(crate) fn by_itself(slashes: Slashes<'a>) -> Decider<'a>
-        requires { is_by_itself (rule_of slashes) ≡ true }
-        ensures decides { (s : Session) → Decides (rule_of slashes.entry) s result }
-        ensures caught_up { result.last ≡ None }
-        ensures slashes { result.slashes ≡ slashes.entry }
+    /// Where the tokens before are not at hand. It does not allocate.
+    pub(crate) fn alone(slashes: Slashes<'a>) -> Decider<'a>
+        ensures decides { (s : Session) → Decides (alone.rule_of slashes.entry) s result }
+        ensures rule { rule_of result.slashes ≡ alone.rule_of slashes.entry }
     {
         Decider {
-            slashes,
+            slashes: slashes.alone(),
             track: None,
             last: None,
+            left: 0,
+            numbers: &[],
+        }
+    }
+
+    /// Whether nothing is asked of the tokens before, and nothing of those that come.
+    #[inline]
+    pub(crate) fn asks_nothing(&self) -> bool
+        ensures { result ≡ asks_nothing (rule_of self.now.slashes) self.now.numbers.now }
+    {
+        match self.slashes {
+            Slashes::ByFlag | Slashes::At(_) => true,
+            Slashes::ByRole => false,
+            Slashes::Numbered(_) => self.numbers.is_empty(),
+        }
+    }
+
+    /// Whether the tokens before let expect an expression where the slash stands that was read into the slot.
+    fn expects(&self, slot: &Option<TokenAndSpan>) -> bool
+        requires { self.now.last ≡ None }
+        ensures { result ≡ expected_by (known_to self.now) (roles.is_assign (option_map spanned_view slot.now)) }
+    {
+        match self.slashes {
+            Slashes::ByFlag | Slashes::At(_) => false,
+            Slashes::ByRole => match &self.track {
+                Some(track) => track.expects_operand(is_assign(slot)),
+                None => false,
+            },
+            Slashes::Numbered(_) => self.left == 1,
         }
     }
 
@@ -93,7 +170,7 @@ impl<'a> Decider<'a> {
     /// `AllocError` where there is no memory for it. Nothing is then changed.
     #[inline]
     pub(crate) fn catch_up(&mut self) -> Result<(), AllocError>
-        ensures follows { behind_last self.new.track self.new.last ≡ behind_last self.old.track self.old.last }
+        ensures follows { known_to self.new ≡ known_to self.old }
         ensures caught_up { OnOk result (self.new.last ≡ None) }
         ensures slashes { self.new.slashes ≡ self.old.slashes }
         ensures err { OnErr result (self.new ≡ self.old) }
@@ -108,30 +185,36 @@ impl<'a> Decider<'a> {
         Ok(())
     }
 
-    /// Whether this slash, which was read into the slot, begins a regular expression; before it an expression is allowed or
-    /// not.
-    pub(crate) fn names(&self, allowed: bool, slot: &Option<TokenAndSpan>, slash: BytePos) -> bool
-        requires { is_in_order (rule_of self.now.slashes) ≡ true }
-        ensures { result ≡ names (rule_of self.now.slashes) allowed (expected_by self.now.track (roles.is_assign (option_map spanned_view slot.now))) slash }
+    /// One token more is kept, whose slash was read again or not.
+    fn count(&mut self, again: bool)
+        ensures counts { (part : Part) → known_behind (awaiting self.old.left self.old.numbers.now) again (Some part) ≡ awaiting self.new.left self.new.numbers.now }
+        ensures slashes { self.new.slashes ≡ self.old.slashes }
+        ensures track { self.new.track ≡ self.old.track }
+        ensures last { self.new.last ≡ self.old.last }
     {
-        let expected = match &self.track {
-            Some(track) => track.expects_operand(is_assign(slot)),
-            None => false,
-        };
-        self.slashes.name(allowed, expected, slash)
+        match self.numbers {
+            [number, behind @ ..] if again => {
+                self.left = distance(*number, behind);
+                self.numbers = behind;
+            }
+            _ => self.left = self.left.saturating_sub(1),
+        }
     }
 
-    /// Takes in what was read, a token in whose place none is read again.
+    /// Takes in what was read, a token in whose place none is read again; a slash was read again for it or not.
     #[inline]
-    pub(crate) fn pass(&mut self, slot: &Option<TokenAndSpan>)
+    pub(crate) fn pass(&mut self, slot: &Option<TokenAndSpan>, again: bool)
         requires caught_up { self.old.last ≡ None }
-        ensures follows { behind_last self.new.track self.new.last ≡ behind_last self.old.track (option_map roles.part_in (option_map spanned_view slot.now)) }
+        ensures follows { known_to self.new ≡ known_behind (known_to self.old) again (option_map roles.part_in (option_map spanned_view slot.now)) }
         ensures slashes { self.new.slashes ≡ self.old.slashes }
     {
-        if self.track.is_some()
-            && let Some(token) = slot
-        {
-            self.last = Some(part_of(token));
+        let Some(token) = slot else {
+            return;
+        };
+        match self.slashes {
+            Slashes::ByFlag | Slashes::At(_) => {}
+            Slashes::ByRole => self.last = Some(part_of(token)),
+            Slashes::Numbered(_) => self.count(again),
         }
     }
 }

@@ -2,13 +2,15 @@
 //! by places, or by what the tokens before expect.
 #![tactic(auto)]
 
+mod alone;
 mod by_flag;
 mod decider;
 pub mod laws;
 mod reads;
 mod slashes;
 
+pub use alone::{add_steps_by, read_by, read_telling};
 pub use by_flag::{add_steps_to_end, read_by_flag, steps_by_flag};
 pub use decider::Decider;
-pub use reads::{add_steps_by, count_rereads, read_by, read_deciding, read_telling, steps_by};
+pub use reads::{count_rereads, read_deciding, steps_by};
 pub use slashes::{Slashes, ascend};

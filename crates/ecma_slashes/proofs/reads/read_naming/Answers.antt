@@ -1,8 +1,9 @@
-use Rattle.std.proofs.Common.{◌∙◌, ap, subst, sym}
+use Rattle.std.proofs.Common.{◌∙◌, ap, refl, subst, sym}
 use Rattle.std.specs.Prelude.{IsOk, option_map}
 use Rattle.ecma_token.specs.View.{spanned_view}
 use Rattle.ecma_state.specs.Session.{lexer_state}
-use Rattle.ecma_slashes.proofs.RoleLemmas.{named, track-there}
+use Rattle.ecma_slashes.specs.Rereads.{known_by}
+use Rattle.ecma_slashes.proofs.RoleLemmas.{named}
 use Rattle.ecma_slashes.proofs.TokenLemmas.{end-no-slash, fewer-seen, fewer-twice, lexer-no-slash, lexer-not-named, lexer-twice, never, twice-free}
 use Rattle.ecma_slashes.proofs.reads.read_naming.Goals as goal
 
@@ -15,15 +16,15 @@ returns-in_default-clause-fewer c =
     fewer-seen spanned_view (lexer_state c.args.lexer.now) (lexer_state c.read_into.new.self) c.read_into.new.slot c.requires.no_reread c.in_ok-read_into.ensures.answer c.in_ok-read_into.ensures.after
 
 pub returns-in_default-clause-steps : goal.returns-in_default-clause-steps
-returns-in_default-clause-steps c = λ rule s at decides.
+returns-in_default-clause-steps c = λ rule s at names.
     lexer-no-slash rule s (lexer_state c.args.lexer.now) (lexer_state c.read_into.new.self) (option_map spanned_view c.read_into.new.slot) at c.in_ok-read_into.ensures.answer c.in_ok-read_into.ensures.after
     (sym c.in_default.is ∙ c.last_slash.ensures)
 
 pub returns-then-not-names-clause-steps : goal.returns-then-not-names-clause-steps
-returns-then-not-names-clause-steps c = λ rule s at decides.
-    lexer-not-named rule s (lexer_state c.args.lexer.now) (lexer_state c.read_into.new.self) c.in-Some.slash (option_map spanned_view c.read_into.new.slot) c.args.decider.now.track at
-    (track-there rule s c.args.decider.now decides c.requires.caught_up) c.in_ok-read_into.ensures.answer c.in_ok-read_into.ensures.after (sym c.in-Some.is ∙ c.last_slash.ensures)
-    (sym c.if-not-names.true ∙ named rule s _ _ _ _ _ c.names.result decides c.names.ensures c.expr_allowed-allowed.ensures)
+returns-then-not-names-clause-steps c = λ rule s at names.
+    lexer-not-named rule s (lexer_state c.args.lexer.now) (lexer_state c.read_into.new.self) c.in-Some.slash (option_map spanned_view c.read_into.new.slot) (known_by rule s) at
+    refl c.in_ok-read_into.ensures.answer c.in_ok-read_into.ensures.after (sym c.in-Some.is ∙ c.last_slash.ensures)
+    (sym c.if-not-names.true ∙ named rule s _ _ _ _ _ c.names.result names c.names.ensures c.expr_allowed-allowed.ensures)
 
 pub returns-in_err-again-clause-ended : goal.returns-in_err-again-clause-ended
 returns-in_err-again-clause-ended c = λ going left.
@@ -35,17 +36,17 @@ returns-clause-fewer c = λ some.
     c.requires.no_reread c.in_ok-read_into.ensures.after (sym c.in-Some.is ∙ c.last_slash.ensures) c.set_next_regexp.ensures c.in_ok-again.ensures.after c.set_next_regexp-2.ensures
 
 pub returns-clause-steps : goal.returns-clause-steps
-returns-clause-steps c = λ rule s at decides.
+returns-clause-steps c = λ rule s at names.
     lexer-twice rule s (lexer_state c.args.lexer.now) (lexer_state c.read_into.new.self) (lexer_state c.set_next_regexp.new.self) (lexer_state c.read_into-again.new.self) (lexer_state c.set_next_regexp-2.new.self) c.in-Some.slash
-    (option_map spanned_view c.read_into.new.slot) (option_map spanned_view c.read_into-again.new.slot) c.args.decider.now.track at (track-there rule s c.args.decider.now decides c.requires.caught_up) c.in_ok-read_into.ensures.answer
-    (sym c.if-not-names.false ∙ named rule s _ _ _ _ _ c.names.result decides c.names.ensures c.expr_allowed-allowed.ensures)
+    (option_map spanned_view c.read_into.new.slot) (option_map spanned_view c.read_into-again.new.slot) (known_by rule s) at refl c.in_ok-read_into.ensures.answer
+    (sym c.if-not-names.false ∙ named rule s _ _ _ _ _ c.names.result names c.names.ensures c.expr_allowed-allowed.ensures)
     c.in_ok-read_into.ensures.after (sym c.in-Some.is ∙ c.last_slash.ensures) c.set_next_regexp.ensures c.in_ok-again.ensures.answer c.in_ok-again.ensures.after c.set_next_regexp-2.ensures
 
 pub returns-in_err-again-clause-free : goal.returns-in_err-again-clause-free
-returns-in_err-again-clause-free c = λ rule s at decides going free.
+returns-in_err-again-clause-free c = λ rule s at names going free.
     let refused = ap (λ l. l.refused) c.set_next_regexp.ensures ∙ ap (λ l. l.refused) c.in_ok-read_into.ensures.after ∙ going in
     let quiet =
-    twice-free rule s (lexer_state c.args.lexer.now) (lexer_state c.read_into.new.self) (lexer_state c.set_next_regexp.new.self) c.in-Some.slash (option_map spanned_view c.read_into.new.slot) c.args.decider.now.track at
-    (track-there rule s c.args.decider.now decides c.requires.caught_up) c.in_ok-read_into.ensures.answer (sym c.if-not-names.false ∙ named rule s _ _ _ _ _ c.names.result decides c.names.ensures c.expr_allowed-allowed.ensures)
+    twice-free rule s (lexer_state c.args.lexer.now) (lexer_state c.read_into.new.self) (lexer_state c.set_next_regexp.new.self) c.in-Some.slash (option_map spanned_view c.read_into.new.slot) (known_by rule s) at
+    refl c.in_ok-read_into.ensures.answer (sym c.if-not-names.false ∙ named rule s _ _ _ _ _ c.names.result names c.names.ensures c.expr_allowed-allowed.ensures)
     c.in_ok-read_into.ensures.after (sym c.in-Some.is ∙ c.last_slash.ensures) c.set_next_regexp.ensures free in
     absurd (never (subst IsOk c.in_err-again.was (c.read_into-again.ensures.free refused quiet.0 quiet.1)))
