@@ -1,0 +1,16 @@
+pub mod Behind
+pub mod Bodies
+pub mod Control
+pub mod Declarations
+pub mod Expressions
+pub mod Functions
+pub mod LineEnds
+pub mod Literals
+pub mod Members
+pub mod Modules
+pub mod Places
+pub mod Runs
+pub mod Samples
+pub mod Starts
+pub mod Statements
+pub mod Whole
