@@ -1,136 +1,169 @@
-//! What a lexer tells of files: tokens, comments, errors, canonical texts, classes, HTML and imports.
+//! What a lexer finds in files: tokens, comments, errors, canonical texts, classes, HTML and imports.
 #![tactic(auto)]
 
 ghost use Rattle.std.specs.Prelude.{◌<◌, ◌^◌, length};
 
+mod arguments;
+mod faults;
+mod files;
 mod source;
+mod watched;
 
-use crate::source::{STANDARD_INPUT, read, refusal};
+use crate::arguments::arguments;
+use crate::faults::{FAULTY, Refusal, refuse, refuse_output, refuse_text};
+use crate::files::Files;
+use crate::source::{STANDARD_INPUT, read};
+use crate::watched::Watched;
 use clap::ArgMatches;
+use ecma_place::BytePos;
 use ecma_report::report::{Report, Stop};
 use ecma_report::telling::tell;
-use ecma_report::words::{Asked, Named, command, has_jsx, is_by_flag, slash_places};
-use ecma_stdio::{Fault, Halt, arguments, exit_code, exit_without_words, send, text_of};
-use std::alloc::Global;
-use std::io::Write;
+use ecma_report::words::{Among, Asked, Chosen, Named, command, has_jsx, is_by_flag, slash_places};
+use ecma_stdio::{Fault, Halt, exit_code, send, text_of};
+use std::alloc::AllocError;
 use std::process::ExitCode;
-
-/// The status where a text has an error, or there is none.
-const FAULTY: u8 = 1;
 
 /// The status where the words are wrong.
 const BAD_WORDS: u8 = 2;
 
+/// The status where there is no memory for the words.
+const NO_WORDS: u8 = 5;
+
 /// What is reported of a file that has JSX.
 const JSX: &str = "JSX is not read yet; --as-is reads the file as what it is without it";
-
-const OUT_OF_MEMORY: Halt = Halt::Fault(Fault::OutOfMemory);
-
-/// Tells why there is no text, or no more of what is written of it.
-fn refuse<E: Write>(alloc: Global, faults: &mut E, name: &str, message: &str) -> u8 {
-    match format!(in alloc; "{name}: {message}\n") {
-        Ok(line) => send(faults, FAULTY, line.as_bytes()),
-        Err(_) => FAULTY,
-    }
-}
-
-/// Writes the lines that tell of the faults of a text, and answers the status.
-fn tell_faults<E: Write>(faults: &mut E, report: &Report) -> u8 {
-    let status = if report.is_faulty { FAULTY } else { 0 };
-    send(faults, status, &report.faults)
-}
-
-/// Writes what is asked for of a text, and its faults, and answers the status.
-fn tell_text(rt: &HostRuntime, asked: Asked, named: Named, name: &str, text: &str) -> u8
-    requires { length text.now < 2 ^ 32 }
-{
-    let alloc = rt.alloc();
-    let Ok(mut report) = Report::new(alloc, asked, name, text) else {
-        return refuse(alloc, &mut rt.stderr(), name, refusal(OUT_OF_MEMORY));
-    };
-    match tell(&mut report, named, &mut rt.stdout()) {
-        Ok(()) => tell_faults(&mut rt.stderr(), &report),
-        Err(Stop::Closed) => tell_faults(&mut rt.stderr(), &report).max(FAULTY),
-        Err(Stop::OutOfMemory) => refuse(alloc, &mut rt.stderr(), name, refusal(OUT_OF_MEMORY)),
-    }
-}
 
 /// What the words ask for of all files.
 #[derive(Clone, Copy)]
 struct Job<'a> {
     asked: Asked,
+    among: Among,
     named: Named<'a>,
     /// Whether files that have JSX are read too.
     as_is: bool,
 }
 
-/// Writes what is asked for of a file, and its faults, and answers the status.
-fn tell_file(rt: &HostRuntime, job: Job, name: &str) -> u8 {
-    let alloc = rt.alloc();
-    if has_jsx(name) && !job.as_is {
-        return refuse(alloc, &mut rt.stderr(), name, JSX);
-    }
-    let bytes = match read(rt, name) {
-        Ok(bytes) => bytes,
-        Err(halt) => return refuse(alloc, &mut rt.stderr(), name, refusal(halt)),
+/// How the report on a file ended.
+#[derive(Clone, Copy)]
+enum Ended {
+    /// With this status.
+    Status(u8),
+    /// Standard output takes no more, and this is the status.
+    Closed(u8),
+}
+
+/// Writes what is asked for of a text, and its faults.
+fn tell_text<'t>(rt: &HostRuntime, job: Job<'t>, name: &'t str, text: &'t str) -> Ended
+    requires { length text.now < 2 ^ 32 }
+{
+    let Ok(mut report) = Report::new(rt.alloc(), job.asked.for_file(name), name, text) else {
+        return Ended::Status(refuse(rt, name, "out of memory"));
     };
-    match text_of(&bytes) {
-        Ok(text) => tell_text(rt, job.asked.for_file(name), job.named, name, text),
-        Err(fault) => refuse(alloc, &mut rt.stderr(), name, refusal(Halt::Fault(fault))),
+    report.among = job.among;
+    let mut out = Watched::new(rt.stdout());
+    match tell(&mut report, job.named, &mut out) {
+        Ok(()) => {
+            let status = if report.is_faulty { FAULTY } else { 0 };
+            Ended::Status(send(&mut rt.stderr(), status, &report.faults))
+        }
+        Err(Stop::Closed) => Ended::Closed(refuse_output(rt, out.failure())),
+        Err(Stop::OutOfMemory) => Ended::Status(refuse(rt, name, "out of memory")),
     }
 }
 
-/// Tells of each file, or of standard input where there is none.
-fn tell_all(rt: &HostRuntime, job: Job, files: &[&str]) -> u8 {
-    if files.is_empty() {
-        return tell_file(rt, job, STANDARD_INPUT);
+/// Writes what is asked for of a file, and its faults.
+fn tell_file(rt: &HostRuntime, job: Job, name: &str) -> Ended {
+    if has_jsx(name) && !job.as_is {
+        return Ended::Status(refuse(rt, name, JSX));
     }
+    let bytes = match read(rt, name) {
+        Ok(bytes) => bytes,
+        Err(refusal) => return Ended::Status(refuse_text(rt, name, refusal)),
+    };
+    match text_of(&bytes) {
+        Ok(text) => tell_text(rt, job, name, text),
+        Err(fault) => Ended::Status(refuse_text(rt, name, Refusal::from(Halt::Fault(fault)))),
+    }
+}
+
+/// Reports on each file, and answers the status. Where standard output takes no more, no further file is read.
+fn tell_all(rt: &HostRuntime, job: Job, files: &[String]) -> u8 {
     let mut status = 0;
     for file in files {
-        status = tell_file(rt, job, file).max(status);
+        match tell_file(rt, job, file.as_str()) {
+            Ended::Status(own) => status = own.max(status),
+            Ended::Closed(own) => return own.max(status),
+        }
     }
     status
 }
 
-/// Does what a subcommand asks for, with the words behind it.
-fn run_subcommand(rt: &HostRuntime, subcommand: &str, matches: &ArgMatches) -> u8 {
-    let files = matches.get_strs("files").unwrap_or(&[]);
-    match slash_places(rt.alloc(), matches) {
-        Ok(places) => {
-            let job = Job {
-                asked: Asked::of(subcommand, matches),
-                named: Named {
-                    places: &places,
-                    by_flag: is_by_flag(matches),
-                },
-                as_is: matches.get_flag("as-is"),
-            };
-            tell_all(rt, job, files)
-        }
-        Err(_) => FAULTY,
+/// The files that the words ask for; standard input where there is none.
+fn files_of(rt: &HostRuntime, matches: &ArgMatches) -> Result<Files, AllocError> {
+    let chosen = Chosen::of(matches);
+    let names = matches.get_strs("files").unwrap_or(&[]);
+    let mut files = Files::new(rt);
+    for name in names {
+        files.add(rt, chosen, name)?;
     }
+    match matches.get_str("files-from") {
+        Some(list) => files.add_list(rt, chosen, list)?,
+        None if names.is_empty() => files.add(rt, None, STANDARD_INPUT)?,
+        None => {}
+    }
+    Ok(files)
+}
+
+/// Whether several files may be read.
+fn are_several(matches: &ArgMatches, files: &Files) -> bool {
+    files.names.len() > 1
+        || matches.get_flag("recursive")
+        || matches.get_str("files-from").is_some()
+}
+
+/// Does what a subcommand asks for, with the words behind it.
+fn run_subcommand(
+    rt: &HostRuntime,
+    subcommand: &str,
+    matches: &ArgMatches,
+) -> Result<u8, AllocError> {
+    let places: Vec<BytePos> = slash_places(rt.alloc(), matches)?;
+    let files = files_of(rt, matches)?;
+    let job = Job {
+        asked: Asked::of(subcommand, matches),
+        among: Among::of(matches, are_several(matches, &files)),
+        named: Named {
+            places: &places,
+            by_flag: is_by_flag(matches),
+        },
+        as_is: matches.get_flag("as-is"),
+    };
+    Ok(tell_all(rt, job, &files.names).max(files.status))
 }
 
 /// Parses the words, and does what they ask for.
-fn run(rt: &HostRuntime, words: &[String]) -> u8 {
-    let Ok(command) = command(rt.alloc()) else {
-        return FAULTY;
-    };
-    match command.try_get_matches_from(words) {
+fn run(rt: &HostRuntime, words: &[String]) -> Result<u8, AllocError> {
+    match command(rt.alloc())?.try_get_matches_from(words) {
         Ok(matches) => match matches.subcommand() {
             Some((name, behind)) => run_subcommand(rt, name, behind),
-            None => BAD_WORDS,
+            None => Ok(BAD_WORDS),
         },
-        Err(error) => {
-            let _printed = error.print(rt);
-            if error.use_stderr() { BAD_WORDS } else { 0 }
-        }
+        Err(error) => match error.print(rt) {
+            Ok(()) if !error.use_stderr() => Ok(0),
+            Err(failure) if !error.use_stderr() => Ok(refuse_output(rt, Some(failure))),
+            _ => Ok(BAD_WORDS),
+        },
     }
 }
 
+/// Reads the words, and does what they ask for.
+fn run_words(rt: &HostRuntime) -> Result<u8, AllocError> {
+    let (words, status) = arguments(rt)?;
+    Ok(run(rt, words.as_slice())?.max(status))
+}
+
 fn main(rt: HostRuntime) -> ExitCode {
-    match arguments(&rt) {
-        Ok(words) => exit_code(run(&rt, words.as_slice())),
-        Err(_) => exit_without_words(),
+    match run_words(&rt) {
+        Ok(status) => exit_code(status),
+        Err(_) => exit_code(send(&mut rt.stderr(), NO_WORDS, b"ecma: out of memory\n")),
     }
 }

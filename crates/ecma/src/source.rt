@@ -1,28 +1,36 @@
-//! The texts that are told of.
+//! The texts that are reported on.
 
-use ecma_stdio::{Fault, Halt, MOST_TURNS, read_all};
+use crate::faults::Refusal;
+use crate::watched::Watched;
+use ecma_stdio::{Halt, MOST_TURNS, read_all};
 use std::fs;
+use std::io::Read;
 
 /// The name of standard input.
 pub const STANDARD_INPUT: &str = "-";
 
-/// What is reported of a file that has no text.
-pub fn refusal(halt: Halt) -> &'static str {
-    match halt {
-        Halt::ReadFailed => "cannot be read",
-        Halt::Fault(Fault::NotUtf8) => "is not UTF-8",
-        Halt::Fault(Fault::TooLong) => "is longer than 4,294,967,295 bytes",
-        Halt::Fault(_) => "out of memory",
+/// All that a reader has.
+fn read_watched<R: Read + Drop>(rt: &HostRuntime, reader: R) -> Result<Vec<u8>, Refusal> {
+    let mut watched = Watched::new(reader);
+    match read_all(rt.alloc(), &mut watched, MOST_TURNS) {
+        Ok(bytes) => Ok(bytes),
+        Err(halt) => Err(Refusal {
+            halt,
+            failure: watched.failure(),
+        }),
     }
 }
 
 /// All that a file has, or standard input.
-pub fn read(rt: &HostRuntime, name: &str) -> Result<Vec<u8>, Halt> {
+pub fn read(rt: &HostRuntime, name: &str) -> Result<Vec<u8>, Refusal> {
     if name == STANDARD_INPUT {
-        return read_all(rt.alloc(), &mut rt.stdin(), MOST_TURNS);
+        return read_watched(rt, rt.stdin());
     }
     match fs::open(rt, name) {
-        Ok(mut file) => read_all(rt.alloc(), &mut file, MOST_TURNS),
-        Err(_) => Err(Halt::ReadFailed),
+        Ok(file) => read_watched(rt, file),
+        Err(error) => Err(Refusal {
+            halt: Halt::ReadFailed,
+            failure: Some(error),
+        }),
     }
 }

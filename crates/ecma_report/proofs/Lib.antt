@@ -1,5 +1,2 @@
-pub mod EscapedLemmas
-pub mod LineLemmas
-pub mod ObjectLemmas
 pub mod ReportLemmas
 pub mod TokenLemmas

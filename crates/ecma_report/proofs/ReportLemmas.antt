@@ -1,40 +1,44 @@
 -- What a report is of, and what was added to it.
 use Rattle.std.proofs.Common.{◌≡◌, ◌∙◌, ℕ, List, [], ◌++◌, append-nil, append_assoc, Option, Some, None, refl, sym, ap, subst}
 use Rattle.std.specs.Io.KnownBytes.{Appends}
-use Rattle.ecma_report.specs.Lines.{Counts}
-use Rattle.ecma_report.specs.Reports.{Adds, IsOf, Stays}
+use Rattle.ecma_print.specs.Lines.{Counts}
+use Rattle.ecma_report.specs.Reports.{Adds, IsOf, Stays, look_of}
+use Rattle.ecma_report.specs.Rows.{Look, look}
 use Rattle.ecma_report.specs.declared.report.Report.{Report}
-use Rattle.ecma_report.specs.declared.words.Asked.{Asked}
 
 -- Of the same
 
 pub stays-same : (r : Report) → Stays r r
-stays-same r = record { asked = refl; name = refl; text = refl; counts = λ counts. counts }
+stays-same r = record { asked = refl; among = refl; name = refl; text = refl; counts = λ counts. counts }
 
 pub stays-on : (a b c : Report) → Stays a b → Stays b c → Stays a c
 stays-on a b c first then =
     record {
       asked = then.asked ∙ first.asked;
+      among = then.among ∙ first.among;
       name = then.name ∙ first.name;
       text = then.text ∙ first.text;
       counts = λ counts. subst (λ t. Counts t c.lines) first.text (then.counts (subst (λ t. Counts t b.lines) (sym first.text) (first.counts counts)));
     }
 
-pub stays-of : (ask : Asked) (file bytes : List ℕ) (old new : Report) → Stays old new → IsOf ask file bytes old → IsOf ask file bytes new
-stays-of ask file bytes old new stays of =
+pub same-look : (old new : Report) → Stays old new → look_of new ≡ look_of old
+same-look old new stays = ap (λ a. look a new.among.names) stays.asked ∙ ap (λ m. look old.asked m.names) stays.among
+
+pub stays-of : (l : Look) (file bytes : List ℕ) (old new : Report) → Stays old new → IsOf l file bytes old → IsOf l file bytes new
+stays-of l file bytes old new stays of =
     record {
-      asked = stays.asked ∙ of.asked;
+      look = same-look old new stays ∙ of.look;
       name = stays.name ∙ of.name;
       text = stays.text ∙ of.text;
       counts = subst (λ t. Counts t new.lines) of.text (stays.counts (subst (λ t. Counts t old.lines) (sym of.text) of.counts));
     }
 
-pub counts-of : (ask : Asked) (file bytes : List ℕ) (r : Report) → IsOf ask file bytes r → Counts r.text.now r.lines
-counts-of ask file bytes r of = subst (λ t. Counts t r.lines) (sym of.text) of.counts
+pub counts-of : (l : Look) (file bytes : List ℕ) (r : Report) → IsOf l file bytes r → Counts r.text.now r.lines
+counts-of l file bytes r of = subst (λ t. Counts t r.lines) (sym of.text) of.counts
 
 -- what holds of that which a report has holds of that which it is of
-pub said-of : (ask : Asked) (file bytes : List ℕ) (r : Report) (F : Asked → List ℕ → List ℕ → Type 0) → IsOf ask file bytes r → F r.asked r.name.now r.text.now → F ask file bytes
-said-of ask file bytes r F of said = subst (λ a. F a file bytes) of.asked (subst (λ n. F r.asked n bytes) of.name (subst (λ t. F r.asked r.name.now t) of.text said))
+pub said-of : (l : Look) (file bytes : List ℕ) (r : Report) (F : Look → List ℕ → List ℕ → Type 0) → IsOf l file bytes r → F (look_of r) r.name.now r.text.now → F l file bytes
+said-of l file bytes r F of said = subst (λ a. F a file bytes) of.look (subst (λ n. F (look_of r) n bytes) of.name (subst (λ t. F (look_of r) r.name.now t) of.text said))
 
 -- Added
 

@@ -6,11 +6,11 @@ use Rattle.ecma_token.specs.declared.kind.TokenKind.{TokenKind}
 use Rattle.ecma_state.specs.Session.{kept_of}
 use Rattle.ecma_reader.specs.Readers.{tokens_found}
 use Rattle.ecma_report.specs.Reports.{Adds}
+use Rattle.ecma_report.specs.Rows.{Look}
 use Rattle.ecma_report.specs.Tokens.{kind_behind, token_row, token_rows}
-use Rattle.ecma_report.specs.declared.words.Asked.{Asked}
 use Rattle.ecma_report.proofs.ReportLemmas.{adds-held, adds-on}
 
-module _ (ask : Asked) (file text : List ℕ) where
+module _ (ask : Look) (file text : List ℕ) where
   rows-on : (previous : Option TokenKind) (ts us : List SpannedView)
       → token_rows ask file text previous (ts ++ us) ≡ token_rows ask file text previous ts ++ token_rows ask file text (kind_behind previous ts) us
   rows-on previous [] us = refl

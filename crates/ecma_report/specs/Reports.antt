@@ -1,15 +1,18 @@
 -- What a report is of, and what was written and is held of it.
 use Rattle.std.specs.Prelude.{◌≡◌, ◌++◌, Bool, true, false, ℕ, List, Option}
 use Rattle.std.specs.Io.KnownBytes.{Appends}
-use Rattle.ecma_report.specs.Lines.{Counts}
+use Rattle.ecma_print.specs.Lines.{Counts}
 use Rattle.ecma_report.specs.declared.report.Report.{Report}
-use Rattle.ecma_report.specs.declared.words.Asked.{Asked}
+use Rattle.ecma_report.specs.Rows.{Look, look}
 use Rattle.ecma_report.specs.declared.words.Face.{Face}
 use Rattle.ecma_report.specs.declared.words.Face.TheVariants.{Errors}
 
+abbrev pub look_of : Report → Look
+look_of report = look report.asked report.among.names
+
 -- of a text with these bytes, under this name, as it is asked for, and its count of lines stands in that text
-pub record IsOf (ask : Asked) (file bytes : List ℕ) (report : Report) : Type 0 where
-  pub asked : report.asked ≡ ask
+pub record IsOf (l : Look) (file bytes : List ℕ) (report : Report) : Type 0 where
+  pub look : look_of report ≡ l
   pub name : report.name.now ≡ file
   pub text : report.text.now ≡ bytes
   pub counts : Counts bytes report.lines
@@ -22,6 +25,7 @@ writes_errors _ = false
 -- of the same as before
 pub record Stays (old new : Report) : Type 0 where
   pub asked : new.asked ≡ old.asked
+  pub among : new.among ≡ old.among
   pub name : new.name.now ≡ old.name.now
   pub text : new.text.now ≡ old.text.now
   pub counts : Counts old.text.now old.lines → Counts old.text.now new.lines

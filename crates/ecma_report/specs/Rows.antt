@@ -1,116 +1,51 @@
--- What is written of a row.
-use Rattle.std.specs.Prelude.{ℕ, List, [], ◌∷◌, ◌++◌, ◌==◌, ◌||◌, Bool, true, false, ◌&&◌, if◌then◌else◌, length, nat_le, nat_lt, slice_index, slice_range, Option, Some, None, codes, decimal}
-use Rattle.json.specs.Print.{quoted}
+-- A row of a report.
+use Rattle.std.specs.Prelude.{ℕ, List, [], ◌∷◌, ◌++◌, ◌||◌, Bool, ◌&&◌, if◌then◌else◌, length, nat_le, nat_lt, slice_index, slice_range, Option, Some, None}
+use Rattle.serde_json.specs.Data.{object}
 use Rattle.serde_json.specs.Written.{compact_text}
-use Rattle.serde_json.specs.Data.{Data, Members, unsigned, boolean, number, string, object, no_members, member}
 use Rattle.ecma_place.specs.declared.place.BytePos.{BytePos}
 use Rattle.ecma_place.specs.declared.place.Span.{Span}
 use Rattle.ecma_stdio.specs.Escaped.{escaped}
 use Rattle.ecma_positions.specs.Positions.{position_in}
 use Rattle.ecma_positions.specs.declared.position.Position.{Position}
-use Rattle.ecma_report.specs.declared.report.More.{More}
-use Rattle.ecma_report.specs.declared.report.More.TheVariants.{Nothing, LineBreak, Beside}
-use Rattle.ecma_report.specs.declared.report.Row.{Row}
+use Rattle.ecma_print.specs.Rows.{head_of, members, own_text}
+use Rattle.ecma_print.specs.declared.row.More.{More}
+use Rattle.ecma_print.specs.declared.row.Row.{Row}
 use Rattle.ecma_report.specs.declared.words.Asked.{Asked}
 
-abbrev pub needs_escape : ℕ → Bool
-needs_escape byte = nat_lt byte 32 || (byte == 34 || byte == 92)
+-- what is asked for, and whether each line names the file
+pub record Look : Type 0 where
+  pub asked : Asked
+  pub names : Bool
 
--- A row as a JSON object.
+abbrev pub look : Asked → Bool → Look
+look asked names = record { asked = asked; names = names }
 
-abbrev pub with_line_break : More → Members → Members
-with_line_break Nothing behind = behind
-with_line_break (LineBreak flag) behind = member (codes "line_break_before") (boolean flag) behind
-with_line_break (Beside side token) behind = behind
-
-abbrev pub with_side : More → Members → Members
-with_side Nothing behind = behind
-with_side (LineBreak flag) behind = behind
-with_side (Beside side token) behind = member (codes "side") (string side.now) behind
-
-abbrev pub with_token : More → Members → Members
-with_token Nothing behind = behind
-with_token (LineBreak flag) behind = behind
-with_token (Beside side token) behind = member (codes "token") (number (unsigned token.0)) behind
-
--- its members, in the order of their names
-abbrev pub members : List ℕ → Position → Span → List ℕ → List ℕ → More → Members
-members file at span kind text more =
-    member (codes "column") (number (unsigned at.column))
-    (member (codes "file") (string file)
-    (member (codes "hi") (number (unsigned span.hi.0))
-    (member (codes "kind") (string kind)
-    (member (codes "line") (number (unsigned at.line))
-    (with_line_break more
-    (member (codes "lo") (number (unsigned span.lo.0))
-    (with_side more
-    (member (codes "text") (string text)
-    (with_token more no_members)))))))))
-
-abbrev pub row_data : List ℕ → Position → Row → Data
-row_data file at row = object (members file at row.span row.kind.now row.text.now row.more)
-
--- a whole text
-abbrev pub text_data : List ℕ → List ℕ → Data
-text_data file text = object (member (codes "file") (string file) (member (codes "text") (string text) no_members))
-
--- the members that not each row has, as they are written behind others
-
-abbrev pub line_break_text : More → List ℕ
-line_break_text Nothing = []
-line_break_text (LineBreak true) = codes ",\"line_break_before\":true"
-line_break_text (LineBreak false) = codes ",\"line_break_before\":false"
-line_break_text (Beside side token) = []
-
-abbrev pub side_text : More → List ℕ
-side_text Nothing = []
-side_text (LineBreak flag) = []
-side_text (Beside side token) = codes ",\"side\":" ++ quoted side.now
-
-abbrev pub token_text : More → List ℕ
-token_text Nothing = []
-token_text (LineBreak flag) = []
-token_text (Beside side token) = codes ",\"token\":" ++ decimal token.0
-
--- What comes before the text of a row in its line.
-
-abbrev pub position_text : Option Position → List ℕ
-position_text None = []
-position_text (Some at) = 32 ∷ (decimal at.line ++ 58 ∷ decimal at.column)
-
-abbrev pub more_text : More → List ℕ
-more_text Nothing = codes " "
-more_text (LineBreak true) = codes " lf "
-more_text (LineBreak false) = codes " - "
-more_text (Beside side token) = 32 ∷ (side.now ++ 32 ∷ (decimal token.0 ++ codes " "))
-
--- what it is, its line and column where they are asked for, where it begins and ends, and what else is told
-abbrev pub head_of : Option Position → List ℕ → Span → More → List ℕ
-head_of at kind span more = kind ++ (position_text at ++ 32 ∷ (decimal span.lo.0 ++ 32 ∷ (decimal span.hi.0 ++ more_text more)))
-
-abbrev pub head : Option Position → Row → List ℕ
-head at row = head_of at row.kind.now row.span row.more
-
--- A row as it is written
+-- the name of the file, where it is asked for
+abbrev pub name_asked : Look → List ℕ → List ℕ
+name_asked l file = if l.names then escaped file ++ 58 ∷ [] else []
 
 -- its line and column, where they are asked for
 abbrev pub place_asked : Asked → List ℕ → BytePos → Option Position
 place_asked asked text place = if asked.lines then Some (position_in text place) else None
 
--- an object, or a line: of what kind it is, where it lies, what else is told, and its text
-abbrev pub parts_of : Asked → List ℕ → List ℕ → List ℕ → Span → More → List ℕ → List ℕ
-parts_of asked file text kind span more own =
-    if asked.json then compact_text (object (members file (position_in text span.lo) span kind own more)) else head_of (place_asked asked text span.lo) kind span more ++ escaped own
+-- a line: the name of the file, of what kind it is, where it lies, what else is told, and its text
+abbrev pub line_text : Look → List ℕ → List ℕ → List ℕ → Span → More → List ℕ → List ℕ
+line_text l file text kind span more own = name_asked l file ++ (head_of (place_asked l.asked text span.lo) kind span more ++ own_text more own)
+
+-- an object, or a line
+abbrev pub parts_of : Look → List ℕ → List ℕ → List ℕ → Span → More → List ℕ → List ℕ
+parts_of l file text kind span more own =
+    if l.asked.json then compact_text (object (members file (position_in text span.lo) span kind own more)) else line_text l file text kind span more own
 
 -- with the end of its line
-abbrev pub row_of : Asked → List ℕ → List ℕ → List ℕ → Span → More → List ℕ → List ℕ
-row_of asked file text kind span more own = parts_of asked file text kind span more own ++ 10 ∷ []
+abbrev pub row_of : Look → List ℕ → List ℕ → List ℕ → Span → More → List ℕ → List ℕ
+row_of l file text kind span more own = parts_of l file text kind span more own ++ 10 ∷ []
 
-abbrev pub row_parts : Asked → List ℕ → List ℕ → Row → List ℕ
-row_parts asked file text row = parts_of asked file text row.kind.now row.span row.more row.text.now
+abbrev pub row_parts : Look → List ℕ → List ℕ → Row → List ℕ
+row_parts l file text row = parts_of l file text row.kind.now row.span row.more row.text.now
 
-abbrev pub row_text : Asked → List ℕ → List ℕ → Row → List ℕ
-row_text asked file text row = row_of asked file text row.kind.now row.span row.more row.text.now
+abbrev pub row_text : Look → List ℕ → List ℕ → Row → List ℕ
+row_text l file text row = row_of l file text row.kind.now row.span row.more row.text.now
 
 -- The text at a span, where it begins and ends with characters
 

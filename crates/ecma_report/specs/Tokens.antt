@@ -7,8 +7,8 @@ use Rattle.ecma_state.specs.declared.kept.Kept.{Kept}
 use Rattle.ecma_options.specs.Begin.{begin}
 use Rattle.ecma_html.specs.Styles.{class_name, class_of}
 use Rattle.ecma_html.specs.declared.«class».Class.{Class}
-use Rattle.ecma_report.specs.Rows.{part_at, row_of}
-use Rattle.ecma_report.specs.declared.report.More.TheVariants.{LineBreak}
+use Rattle.ecma_report.specs.Rows.{Look, part_at, row_of}
+use Rattle.ecma_print.specs.declared.row.More.TheVariants.{LineBreak}
 use Rattle.ecma_report.specs.declared.words.Asked.{Asked}
 
 -- the class of a token, or that it is a punctuator
@@ -20,13 +20,13 @@ name_of None = codes "punctuator"
 abbrev pub kind_name : TokenKind → Option TokenKind → List ℕ
 kind_name kind previous = name_of (class_of kind previous)
 
-abbrev pub token_row : Asked → List ℕ → List ℕ → Option TokenKind → Kept → List ℕ
-token_row asked file text previous k = row_of asked file text (kind_name k.kind previous) k.span (LineBreak k.flag) (part_at text k.span)
+abbrev pub token_row : Look → List ℕ → List ℕ → Option TokenKind → Kept → List ℕ
+token_row l file text previous k = row_of l file text (kind_name k.kind previous) k.span (LineBreak k.flag) (part_at text k.span)
 
 -- the rows of tokens, one behind the other
-abbrev pub token_rows : Asked → List ℕ → List ℕ → Option TokenKind → List SpannedView → List ℕ
-token_rows asked file text previous [] = []
-token_rows asked file text previous (t ∷ ts) = token_row asked file text previous (kept_of t) ++ token_rows asked file text (Some (kept_of t).kind) ts
+abbrev pub token_rows : Look → List ℕ → List ℕ → Option TokenKind → List SpannedView → List ℕ
+token_rows l file text previous [] = []
+token_rows l file text previous (t ∷ ts) = token_row l file text previous (kept_of t) ++ token_rows l file text (Some (kept_of t).kind) ts
 
 -- the kind of the last of them
 abbrev pub kind_behind : Option TokenKind → List SpannedView → Option TokenKind

@@ -20,7 +20,7 @@ fn push_error(report: &mut Report, kind: &str, error: &Error) -> Result<(), Allo
     report.push_row(Row {
         kind,
         span: error.span(),
-        more: More::Nothing,
+        more: More::Message,
         text: message.as_str(),
     })
 }

@@ -4,11 +4,9 @@
 mod comments;
 mod faults;
 mod imports;
-mod lines;
 pub mod report;
 mod slashes;
 pub mod telling;
 mod tokens;
 mod whole;
 pub mod words;
-mod written;

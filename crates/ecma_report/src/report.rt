@@ -1,16 +1,18 @@
 //! What is written of a text: lines, or JSON objects, in blocks.
-ghost use Rattle.std.specs.Prelude.{◌≡◌, ◌++◌, [], IfOk, OnOk, OnErr};
+ghost use Rattle.std.specs.Prelude.{◌≡◌, ◌++◌, [], false, IfOk, OnOk, OnErr};
 ghost use Rattle.std.specs.Io.KnownBytes.{Appends};
 ghost use Rattle.ecma_positions.specs.Positions.{position_in};
-ghost use Rattle.ecma_report.specs.Lines.{Counts};
-ghost use Rattle.ecma_report.specs.Reports.{Adds, IsOf, Stays};
-ghost use Rattle.ecma_report.specs.Rows.{part_at, row_parts, row_text};
+ghost use Rattle.ecma_print.specs.Lines.{Counts};
+ghost use Rattle.ecma_report.specs.Reports.{Adds, IsOf, Stays, look_of};
+ghost use Rattle.ecma_print.specs.Rows.{head, own_text};
+ghost use Rattle.ecma_report.specs.Rows.{line_text, look, name_asked, part_at, place_asked, row_parts, row_text};
 
-use crate::lines::Lines;
-use crate::words::Asked;
-use crate::written::{push_head, push_object, push_text_object};
+use crate::words::{Among, Asked};
 use ecma_place::{BytePos, Span};
 use ecma_positions::Position;
+use ecma_print::lines::Lines;
+pub use ecma_print::row::{More, Row};
+use ecma_print::written::{push_head, push_message, push_object, push_own_text, push_text_object};
 use ecma_stdio::{FAILED, push_escaped, send};
 use ecma_token::SyntaxError;
 use std::alloc::{AllocError, Global};
@@ -37,30 +39,13 @@ impl From<AllocError> for Stop {
     }
 }
 
-/// What is reported of a part of a text besides what all rows have.
-#[derive(Clone, Copy, Debug, PartialEq, Eq)]
-pub enum More {
-    Nothing,
-    /// Of a token: whether a line terminator, or nothing, comes before it.
-    LineBreak(bool),
-    /// Of a comment: on which side of its token it is, and the token's place.
-    Beside { side: &'static str, token: BytePos },
-}
-
-/// What is reported of a part of a text.
-#[derive(Clone, Copy)]
-pub struct Row<'r> {
-    pub kind: &'r str,
-    pub span: Span,
-    pub more: More,
-    pub text: &'r str,
-}
-
 /// What is written of one text.
 #[derive(Drop)]
 pub struct Report<'a> {
     pub alloc: Global,
     pub asked: Asked,
+    /// How the file is written of beside others: as the only one, until it is set.
+    pub among: Among,
     pub name: &'a str,
     pub text: &'a str,
     lines: Lines,
@@ -87,7 +72,7 @@ pub(crate) fn write_all<W: Write>(out: &mut W, bytes: &[u8]) -> Result<(), Stop>
 }
 
 impl<'a> Report<'a> {
-    /// Of a text of which nothing is told yet. It takes no memory.
+    /// Of a text of which nothing is reported yet. It does not allocate.
     ///
     /// # Errors
     ///
@@ -98,11 +83,15 @@ impl<'a> Report<'a> {
         name: &'a str,
         text: &'a str,
     ) -> Result<Report<'a>, AllocError>
-        ensures { IfOk result (λ report. IsOf asked name.now text.now report × (report.out.items ≡ [])) }
+        ensures { IfOk result (λ report. IsOf (look asked false) name.now text.now report × (report.out.items ≡ [])) }
     {
         Ok(Report {
             alloc,
             asked,
+            among: Among {
+                several: false,
+                names: false,
+            },
             name,
             text,
             lines: Lines::new(),
@@ -163,29 +152,68 @@ impl<'a> Report<'a> {
         self.lines.position(self.text.as_bytes(), place)
     }
 
+    /// The line and the column of a place, where these are asked for.
+    fn position_asked(&mut self, place: BytePos) -> Option<Position>
+        ensures position { Counts self.old.text.now self.old.lines → result ≡ place_asked self.old.asked self.old.text.now place }
+        ensures stays { Stays self.old self.new }
+        ensures out { self.new.out ≡ self.old.out }
+    {
+        if self.asked.lines {
+            Some(self.position(place))
+        } else {
+            None
+        }
+    }
+
+    /// Adds the name of the file and a colon, where lines name it.
+    fn push_name(&mut self) -> Result<(), AllocError>
+        ensures added { OnOk result (self.new.out.items ≡ self.old.out.items ++ name_asked (look_of self.old) self.old.name.now) }
+        ensures stays { Stays self.old self.new }
+    {
+        if self.among.names {
+            push_escaped(&mut self.out, self.name.as_bytes())?;
+            self.out.push(b':')?;
+        }
+        Ok(())
+    }
+
+    /// Adds what a line has behind the name of its file, but not its end.
+    fn push_content(&mut self, position: Option<Position>, row: Row) -> Result<(), AllocError>
+        ensures added { OnOk result (self.new.out.items ≡ self.old.out.items ++ (head position row.entry ++ own_text row.entry.more row.entry.text.now)) }
+        ensures stays { Stays self.old self.new }
+    {
+        push_head(&mut self.out, position, row)?;
+        push_own_text(&mut self.out, row)
+    }
+
+    /// Adds a line, but not its end.
+    fn push_line(&mut self, row: Row) -> Result<(), AllocError>
+        ensures added { Counts self.old.text.now self.old.lines
+            → OnOk result (self.new.out.items ≡ self.old.out.items ++ line_text (look_of self.old) self.old.name.now self.old.text.now row.entry.kind.now row.entry.span row.entry.more row.entry.text.now) }
+        ensures stays { Stays self.old self.new }
+    {
+        let position = self.position_asked(row.span.lo);
+        self.push_name()?;
+        self.push_content(position, row)
+    }
+
     /// Adds a row, but not the end of its line.
     fn push_parts(&mut self, row: Row) -> Result<(), AllocError>
         ensures added { Counts self.old.text.now self.old.lines
-            → OnOk result (self.new.out.items ≡ self.old.out.items ++ row_parts self.old.asked self.old.name.now self.old.text.now row.entry) }
+            → OnOk result (self.new.out.items ≡ self.old.out.items ++ row_parts (look_of self.old) self.old.name.now self.old.text.now row.entry) }
         ensures stays { Stays self.old self.new }
     {
         if self.asked.json {
             let position = self.position(row.span.lo);
             return push_object(&mut self.out, self.name, position, row);
         }
-        let position = if self.asked.lines {
-            Some(self.position(row.span.lo))
-        } else {
-            None
-        };
-        push_head(&mut self.out, position, row)?;
-        push_escaped(&mut self.out, row.text.as_bytes())
+        self.push_line(row)
     }
 
     /// Adds a row with the end of its line.
     fn push_whole(&mut self, row: Row) -> Result<(), AllocError>
         ensures added { Counts self.old.text.now self.old.lines
-            → OnOk result (self.new.out.items ≡ self.old.out.items ++ row_text self.old.asked self.old.name.now self.old.text.now row.entry) }
+            → OnOk result (self.new.out.items ≡ self.old.out.items ++ row_text (look_of self.old) self.old.name.now self.old.text.now row.entry) }
         ensures stays { Stays self.old self.new }
     {
         self.push_parts(row)?;
@@ -200,7 +228,7 @@ impl<'a> Report<'a> {
     /// `AllocError` where there is no memory. Nothing is added then.
     pub fn push_row(&mut self, row: Row) -> Result<(), AllocError>
         ensures added { Counts self.old.text.now self.old.lines
-            → OnOk result (self.new.out.items ≡ self.old.out.items ++ row_text self.old.asked self.old.name.now self.old.text.now row.entry) }
+            → OnOk result (self.new.out.items ≡ self.old.out.items ++ row_text (look_of self.old) self.old.name.now self.old.text.now row.entry) }
         ensures stays { Stays self.old self.new }
     {
         let before = self.out.len();
@@ -218,7 +246,7 @@ impl<'a> Report<'a> {
         Ok(())
     }
 
-    /// Adds an error to the faults, with the name of the file, its line and its column.
+    /// Adds an error to the faults, with the name of the file, its line and its column, and its message in one line.
     pub fn push_fault(&mut self, span: Span, kind: &SyntaxError) -> Result<(), AllocError>
         ensures out { self.new.out ≡ self.old.out }
         ensures stays { Stays self.old self.new }
@@ -228,7 +256,7 @@ impl<'a> Report<'a> {
         let message = kind.msg(self.alloc)?;
         let head = format!(in self.alloc; "{name}:{line}:{column}: ")?;
         self.faults.extend_from_slice(head.as_bytes())?;
-        push_escaped(&mut self.faults, message.as_bytes())?;
+        push_message(&mut self.faults, message.as_bytes())?;
         self.faults.push(b'\n')?;
         self.is_faulty = true;
         Ok(())

@@ -5,7 +5,7 @@ ghost use Rattle.ecma_reader.specs.Readers.{tokens_by};
 ghost use Rattle.ecma_report.specs.Reports.{Adds, IsOf};
 ghost use Rattle.ecma_report.specs.Slashes.{rule_at};
 ghost use Rattle.ecma_report.specs.Tokens.{begun, token_rows};
-ghost use Rattle.ecma_report.specs.declared.words.Asked.{Asked};
+ghost use Rattle.ecma_report.specs.Rows.{Look};
 ghost use Rattle.ecma_report.specs.declared.words.Face.TheVariants as face;
 
 use crate::comments::write_comments;
@@ -24,8 +24,8 @@ fn write_face<'a, W: Write>(
     out: &mut W,
 ) -> Result<(), Stop>
     requires { length report.old.text.now < 2 ^ 32 }
-    ensures { (asked : Asked) (name text : List ℕ) → IsOf asked name text report.old → asked.face ≡ face.Tokens
-        → OnOk result (Adds (W.contents out.old) (W.contents out.new) report.old.out.items report.new.out.items (token_rows asked name text None (tokens_by (rule_at named.entry) (begun asked text)))) }
+    ensures { (look : Look) (name text : List ℕ) → IsOf look name text report.old → look.asked.face ≡ face.Tokens
+        → OnOk result (Adds (W.contents out.old) (W.contents out.new) report.old.out.items report.new.out.items (token_rows look name text None (tokens_by (rule_at named.entry) (begun look.asked text)))) }
 {
     match report.asked.face {
         Face::Tokens => write_tokens(report, named, out),
@@ -53,8 +53,8 @@ pub fn tell<'a, W: Write>(
 ) -> Result<(), Stop>
     requires { length report.old.text.now < 2 ^ 32 }
     // Where tokens are asked for, and all was written, it is the row of each token of the text, in order.
-    ensures tokens { (asked : Asked) (name text : List ℕ) → IsOf asked name text report.old → asked.face ≡ face.Tokens
-        → OnOk result (Appends (W.contents out.old) (W.contents out.new) (report.old.out.items ++ token_rows asked name text None (tokens_by (rule_at named.entry) (begun asked text)))) }
+    ensures tokens { (look : Look) (name text : List ℕ) → IsOf look name text report.old → look.asked.face ≡ face.Tokens
+        → OnOk result (Appends (W.contents out.old) (W.contents out.new) (report.old.out.items ++ token_rows look name text None (tokens_by (rule_at named.entry) (begun look.asked text)))) }
 {
     write_face(report, named, out)?;
     report.flush(out)?;

@@ -8,7 +8,7 @@ ghost use Rattle.ecma_report.specs.Reports.{Adds, IsOf, Stays, writes_errors};
 ghost use Rattle.ecma_report.specs.Slashes.{rule_at};
 ghost use Rattle.ecma_report.specs.Tokens as rows;
 ghost use Rattle.ecma_report.specs.Tokens.{begun, kind_behind, token_rows};
-ghost use Rattle.ecma_report.specs.declared.words.Asked.{Asked};
+ghost use Rattle.ecma_report.specs.Rows.{Look};
 
 use crate::faults::{tell_recorded, tell_token};
 use crate::report::{More, Report, Row, Stop};
@@ -37,8 +37,8 @@ fn push_token(
     previous: Option<TokenKind>,
     token: Kept,
 ) -> Result<(), AllocError>
-    ensures added { (asked : Asked) (name text : List ℕ) → IsOf asked name text report.old
-        → OnOk result (report.new.out.items ≡ report.old.out.items ++ rows.token_row asked name text previous token) }
+    ensures added { (look : Look) (name text : List ℕ) → IsOf look name text report.old
+        → OnOk result (report.new.out.items ≡ report.old.out.items ++ rows.token_row look name text previous token) }
     ensures stays { Stays report.old report.new }
 {
     let text = report.at(token.span);
@@ -57,8 +57,8 @@ fn push_slot(
     previous: Option<TokenKind>,
     slot: &Option<TokenAndSpan>,
 ) -> Result<Option<TokenKind>, AllocError>
-    ensures added { (asked : Asked) (name text : List ℕ) → IsOf asked name text report.old → writes_errors asked.face ≡ false
-        → OnOk result (report.new.out.items ≡ report.old.out.items ++ token_rows asked name text previous (tokens_found (option_map spanned_view slot.now))) }
+    ensures added { (look : Look) (name text : List ℕ) → IsOf look name text report.old → writes_errors look.asked.face ≡ false
+        → OnOk result (report.new.out.items ≡ report.old.out.items ++ token_rows look name text previous (tokens_found (option_map spanned_view slot.now))) }
     ensures kind { IfOk result (λ kind. kind ≡ kind_behind previous (tokens_found (option_map spanned_view slot.now))) }
     ensures stays { OnOk result (Stays report.old report.new) }
 {
@@ -74,8 +74,8 @@ fn push_slot(
 /// Reads to the end, and writes a row for each token.
 fn read_tokens<W: Write>(report: &mut Report, reader: &mut Reader, out: &mut W) -> Result<(), Stop>
     requires ready { IsReady reader.old }
-    ensures rows { (rule : SlashRule) (begin : Session) (asked : Asked) (name text : List ℕ) → Shows rule begin [] reader.old → IsOf asked name text report.old → writes_errors asked.face ≡ false
-        → OnOk result (Adds (W.contents out.old) (W.contents out.new) report.old.out.items report.new.out.items (token_rows asked name text None (tokens_by rule begin))) }
+    ensures rows { (rule : SlashRule) (begin : Session) (look : Look) (name text : List ℕ) → Shows rule begin [] reader.old → IsOf look name text report.old → writes_errors look.asked.face ≡ false
+        → OnOk result (Adds (W.contents out.old) (W.contents out.new) report.old.out.items report.new.out.items (token_rows look name text None (tokens_by rule begin))) }
     ensures stays { OnOk result (Stays report.old report.new) }
 {
     let mut previous = None;
@@ -94,8 +94,8 @@ pub(crate) fn write_tokens<'a, W: Write>(
     out: &mut W,
 ) -> Result<(), Stop>
     requires { length report.old.text.now < 2 ^ 32 }
-    ensures { (asked : Asked) (name text : List ℕ) → IsOf asked name text report.old → writes_errors asked.face ≡ false
-        → OnOk result (Adds (W.contents out.old) (W.contents out.new) report.old.out.items report.new.out.items (token_rows asked name text None (tokens_by (rule_at named.entry) (begun asked text)))) }
+    ensures { (look : Look) (name text : List ℕ) → IsOf look name text report.old → writes_errors look.asked.face ≡ false
+        → OnOk result (Adds (W.contents out.old) (W.contents out.new) report.old.out.items report.new.out.items (token_rows look name text None (tokens_by (rule_at named.entry) (begun look.asked text)))) }
 {
     let mut reader = open(report, named, false)?;
     read_tokens(report, &mut reader, out)?;

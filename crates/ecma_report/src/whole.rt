@@ -24,12 +24,16 @@ use ecma_replay::Gathered;
 use std::alloc::{AllocError, Global};
 use std::io::Write;
 
-/// Writes a text as a whole: its bytes, or an object in a line.
+/// Writes a text as a whole: its bytes, or an object in a line. Of several files each text ends with a line feed.
 fn write_whole<W: Write>(report: &mut Report, bytes: &[u8], out: &mut W) -> Result<(), Stop> {
-    if !report.asked.json {
-        return write_all(out, bytes);
+    if report.asked.json {
+        return Ok(report.push_text(bytes)?);
     }
-    Ok(report.push_text(bytes)?)
+    write_all(out, bytes)?;
+    if report.among.several {
+        write_all(out, b"\n")?;
+    }
+    Ok(())
 }
 
 /// The canonical text of a text, by what was gathered of it.

@@ -88,7 +88,7 @@ impl Asked {
                 typescript: matches.get_flag("ts"),
                 module: matches.get_flag("module"),
                 strict: matches.get_flag("strict"),
-                standard: false,
+                standard: matches.get_flag("standard"),
             },
             json: matches.get_flag("json"),
             lines: matches.get_flag("lines"),
@@ -113,6 +113,27 @@ impl Asked {
     }
 }
 
+/// How the files of a run stand in what is written.
+#[derive(Clone, Copy, Debug, PartialEq, Eq)]
+pub struct Among {
+    /// Whether several files may be read: each whole text then ends with a line feed.
+    pub several: bool,
+    /// Whether each line names its file.
+    pub names: bool,
+}
+
+impl Among {
+    /// What the words ask for where several files may be read, or one: each line of several names its file, where no word says
+    /// otherwise.
+    pub fn of(matches: &ArgMatches, several: bool) -> Among {
+        let names = several || matches.get_flag("with-filename");
+        Among {
+            several,
+            names: names && !matches.get_flag("no-filename"),
+        }
+    }
+}
+
 /// Which slashes begin regular expressions, as the words say.
 #[derive(Clone, Copy, Debug)]
 pub struct Named<'a> {
@@ -125,19 +146,58 @@ pub struct Named<'a> {
 /// The rules by which a slash may be told.
 const RULES: &[&str] = &["role", "flag"];
 
-fn flag<'a>(alloc: Global, name: &'a str, help: &'a str) -> Arg<'a> {
-    Arg::new(alloc, name)
-        .long(name)
-        .action(ArgAction::SetTrue)
-        .help(help)
-}
+/// The words that are there or not, with their help.
+const FLAGS: &[(&str, &str)] = &[
+    (
+        "ts",
+        "Read as TypeScript, as files ending in .ts, .mts and .cts are",
+    ),
+    (
+        "module",
+        "Read as a module, as files ending in .mjs and .mts are",
+    ),
+    ("strict", "Read as strict code"),
+    (
+        "standard",
+        "Refuse numbers that ECMA-262 refuses, where the lexer of swc takes them",
+    ),
+    (
+        "as-is",
+        "Read files ending in .jsx and .tsx too, as JavaScript and TypeScript: JSX is misread",
+    ),
+    ("json", "Write one JSON object a line"),
+    ("lines", "Write line:column beside byte places"),
+    (
+        "with-filename",
+        "Name the file in each line, as where several files may be read",
+    ),
+    ("no-filename", "Name the file in no line"),
+    (
+        "hidden",
+        "With -r, look into hidden files and directories and into node_modules too",
+    ),
+];
 
-/// The subcommand that asks for this, with its help.
-fn subcommand<'a>(alloc: Global, face: Face) -> Result<Command<'a>, AllocError> {
+/// The words that files are named by.
+fn file_words<'a>(alloc: Global, command: Command<'a>) -> Result<Command<'a>, AllocError> {
     let files = Arg::new(alloc, "files")
         .value_name("FILE")
         .num_args(0..)
         .help("The files; standard input where there is none, and for -");
+    let list = Arg::new(alloc, "files-from")
+        .long("files-from")
+        .value_name("LIST")
+        .help("Read the files too that this file names, one a line; - is standard input");
+    let recursive = Arg::new(alloc, "recursive")
+        .long("recursive")
+        .short('r')
+        .action(ArgAction::SetTrue)
+        .help("Read the files in directories, by their endings, in order of their paths");
+    command.arg(files)?.arg(list)?.arg(recursive)
+}
+
+/// The words that name slashes.
+fn slash_words<'a>(alloc: Global, command: Command<'a>) -> Result<Command<'a>, AllocError> {
     let slash = Arg::new(alloc, "slash")
         .long("slash")
         .value_name("N")
@@ -153,29 +213,21 @@ fn subcommand<'a>(alloc: Global, face: Face) -> Result<Command<'a>, AllocError> 
         .help(
             "Tell regular expressions by the tokens before them (role, if left out), or by the lexer's own flag (flag)",
         );
-    Command::new(alloc, face.name())
-        .about(face.help())
-        .arg(files)?
-        .arg(slash)?
-        .arg(slashes)?
-        .arg(flag(
-            alloc,
-            "ts",
-            "Read as TypeScript, as files ending in .ts, .mts and .cts are",
-        ))?
-        .arg(flag(
-            alloc,
-            "module",
-            "Read as a module, as files ending in .mjs and .mts are",
-        ))?
-        .arg(flag(alloc, "strict", "Read as strict code"))?
-        .arg(flag(
-            alloc,
-            "as-is",
-            "Read files ending in .jsx and .tsx too, as JavaScript and TypeScript: JSX is misread",
-        ))?
-        .arg(flag(alloc, "json", "Write one JSON object a line"))?
-        .arg(flag(alloc, "lines", "Write line:column beside byte places"))
+    command.arg(slash)?.arg(slashes)
+}
+
+/// The subcommand that asks for this, with its help.
+fn subcommand<'a>(alloc: Global, face: Face) -> Result<Command<'a>, AllocError> {
+    let command = Command::new(alloc, face.name()).about(face.help());
+    let mut command = slash_words(alloc, file_words(alloc, command)?)?;
+    for (name, help) in FLAGS {
+        let flag = Arg::new(alloc, name)
+            .long(name)
+            .action(ArgAction::SetTrue)
+            .help(help);
+        command = command.arg(flag)?;
+    }
+    Ok(command)
 }
 
 /// The command line as it is parsed, with its help.
@@ -199,6 +251,49 @@ pub fn is_by_flag(matches: &ArgMatches) -> bool {
 /// Whether a file's ending says that it has JSX, which is not read.
 pub fn has_jsx(name: &str) -> bool {
     name.ends_with(".jsx") || name.ends_with(".tsx")
+}
+
+/// Which files are read in a directory.
+#[derive(Clone, Copy, Debug, PartialEq, Eq)]
+pub struct Chosen {
+    /// Whether hidden files and directories are, and `node_modules`.
+    pub hidden: bool,
+    /// Whether files that have JSX are.
+    pub as_is: bool,
+}
+
+impl Chosen {
+    /// Which the words ask for, where they ask for the files in directories.
+    pub fn of(matches: &ArgMatches) -> Option<Chosen> {
+        if !matches.get_flag("recursive") {
+            return None;
+        }
+        Some(Chosen {
+            hidden: matches.get_flag("hidden"),
+            as_is: matches.get_flag("as-is"),
+        })
+    }
+}
+
+/// The endings of files that hold ECMAScript or TypeScript without JSX.
+const ENDINGS: &[&str] = &[".js", ".mjs", ".cjs", ".ts", ".mts", ".cts"];
+
+/// Whether a file's ending says that it holds ECMAScript or TypeScript without JSX.
+fn has_ending(name: &str) -> bool {
+    for ending in ENDINGS {
+        if name.ends_with(*ending) {
+            return true;
+        }
+    }
+    false
+}
+
+/// Whether what a directory holds under this name is read, or looked into where it is a directory.
+pub fn is_chosen(chosen: Chosen, name: &str, is_directory: bool) -> bool {
+    if !chosen.hidden && (name.starts_with('.') || name == "node_modules") {
+        return false;
+    }
+    is_directory || has_ending(name) || (chosen.as_is && has_jsx(name))
 }
 
 /// The places of the slashes that the words name, in order and each once.

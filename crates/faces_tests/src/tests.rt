@@ -2,6 +2,7 @@
 
 mod faces;
 mod markup;
+mod numbers;
 mod positions;
 mod report;
 mod roles;

@@ -3,7 +3,9 @@ use ecma_options::Options;
 use ecma_place::{BytePos, StringInput};
 use ecma_report::report::{Report, Stop};
 use ecma_report::telling::tell;
-use ecma_report::words::{Asked, Face, Named, command, is_by_flag, slash_places};
+use ecma_report::words::{
+    Among, Asked, Chosen, Face, Named, command, is_by_flag, is_chosen, slash_places,
+};
 use std::alloc::{AllocError, Global};
 use std::io;
 use std::io::Write;
@@ -169,6 +171,35 @@ const ERRORS: &[Told] = &[
         "a.js: no slash is read at the place 9\n",
     ),
     ("errors", "let a = /b/g; // c\n", false, "", ""),
+    // Each message as it is.
+    (
+        "errors",
+        "a = \"\n\\ 1\n\u{1}\n<!-- c\n1__0",
+        true,
+        "token 6 6 Expected unicode escape\ntoken 10 10 Unexpected character '\\u{1}'\nrecorded 4 5 Unterminated string constant\nrecorded 19 20 A numeric separator is only allowed between two digits\nwaiting 12 19 Legacy comments cannot be used in module code\n",
+        "",
+    ),
+    (
+        "errors --with-filename --lines",
+        "\u{1}",
+        true,
+        "a.js:token 1:1 0 0 Unexpected character '\\u{1}'\n",
+        "",
+    ),
+    (
+        "tokens --with-filename",
+        "a\u{1}",
+        true,
+        "a.js:name 0 1 lf a\na.js:error 1 2 - \u{1}\n",
+        "a.js:1:2: Unexpected character '\\u{1}'\n",
+    ),
+    (
+        "tokens --with-filename --no-filename",
+        "a",
+        false,
+        "name 0 1 lf a\n",
+        "",
+    ),
 ];
 
 /// Rows of comments.
@@ -349,11 +380,12 @@ fn words_of(alloc: Global, line: &str) -> Result<Vec<String>, AllocError> {
 }
 
 /// Whether these rows and faults are told of a text.
-fn is_written(
+fn is_written<'t>(
     alloc: Global,
     asked: Asked,
-    named: Named,
-    text: &str,
+    among: Among,
+    named: Named<'t>,
+    text: &'t str,
     wanted: (bool, &str, &str),
 ) -> Result<bool, AllocError> {
     if !StringInput::fits(text, BytePos(0)) {
@@ -361,6 +393,7 @@ fn is_written(
     }
     let (is_faulty, rows, faults) = wanted;
     let mut report = Report::new(alloc, asked, "a.js", text)?;
+    report.among = among;
     let mut out = Vec::new(alloc);
     if tell(&mut report, named, &mut out).is_err() {
         return Ok(false);
@@ -389,7 +422,14 @@ fn is_told(alloc: Global, told: &Told) -> Result<bool, AllocError> {
         by_flag: is_by_flag(behind),
     };
     let wanted = (is_faulty, rows, faults);
-    is_written(alloc, Asked::of(name, behind), named, text, wanted)
+    is_written(
+        alloc,
+        Asked::of(name, behind),
+        Among::of(behind, false),
+        named,
+        text,
+        wanted,
+    )
 }
 
 /// Asserts that all of this is told.
@@ -509,6 +549,87 @@ fn a_closed_pipe_ends_the_reading(rt: HostRuntime) -> Result<(), Fail> {
         assert_eq!(rt; told, Err(Stop::Closed));
         assert!(rt; writes <= 2, "{writes}");
         assert_eq!(rt; faults, FAULT);
+    }
+    Ok(())
+}
+
+/// Names of what a directory holds, whether each is a directory, and whether it is read or looked into: as it is, with hidden ones,
+/// and with those that have JSX.
+const HELD: &[(&str, bool, bool, bool, bool)] = &[
+    ("a.js", false, true, true, true),
+    ("a.mjs", false, true, true, true),
+    ("a.cjs", false, true, true, true),
+    ("a.ts", false, true, true, true),
+    ("a.d.ts", false, true, true, true),
+    ("a.mts", false, true, true, true),
+    ("a.cts", false, true, true, true),
+    ("a.jsx", false, false, false, true),
+    ("a.tsx", false, false, false, true),
+    ("a.json", false, false, false, false),
+    ("js", false, false, false, false),
+    (".js", false, false, true, false),
+    (".a.js", false, false, true, false),
+    (".git", true, false, true, false),
+    ("node_modules", true, false, true, false),
+    ("node_modules.js", false, true, true, true),
+    ("src", true, true, true, true),
+    ("a.js", true, true, true, true),
+];
+
+#[test]
+fn files_are_chosen(rt: HostRuntime) -> Result<(), Fail> {
+    let plain = Chosen {
+        hidden: false,
+        as_is: false,
+    };
+    let hidden = Chosen {
+        hidden: true,
+        as_is: false,
+    };
+    let as_is = Chosen {
+        hidden: false,
+        as_is: true,
+    };
+    for (name, is_directory, in_plain, in_hidden, in_as_is) in HELD {
+        assert_eq!(rt; is_chosen(plain, name, *is_directory), *in_plain, "{name}");
+        assert_eq!(rt;
+            is_chosen(hidden, name, *is_directory),
+            *in_hidden,
+            "{name}"
+        );
+        assert_eq!(rt; is_chosen(as_is, name, *is_directory), *in_as_is, "{name}");
+    }
+    Ok(())
+}
+
+#[test]
+fn canonical_texts_of_several_files_end_with_a_line_feed(rt: HostRuntime) -> Result<(), Fail> {
+    let several = Among {
+        several: true,
+        names: true,
+    };
+    let named = Named {
+        places: &[],
+        by_flag: false,
+    };
+    for (face, wanted) in [
+        (Face::Canonical, "a + b\n"),
+        (
+            Face::Tokens,
+            "a.js:name 0 1 lf a\na.js:punctuator 1 2 - +\na.js:name 2 3 - b\n",
+        ),
+    ] {
+        assert!(rt;
+            is_written(
+                rt.alloc(),
+                asked(face),
+                several,
+                named,
+                "a+b",
+                (false, wanted, "")
+            )?,
+            "{wanted}"
+        );
     }
     Ok(())
 }

@@ -3,7 +3,7 @@ use ecma_options::Options;
 use ecma_place::{BytePos, Span};
 use ecma_positions::{LineStarts, Position};
 use ecma_report::report::{More, Report, Row};
-use ecma_report::words::{Asked, Face};
+use ecma_report::words::{Among, Asked, Face};
 use ecma_stdio::push_escaped;
 use serde_json::json;
 use std::alloc::{AllocError, Global};
@@ -22,6 +22,7 @@ const CASES: &[(&str, More)] = &[
     ("bundle.js", More::Nothing),
     ("", More::LineBreak(true)),
     ("a \"b\"\\c\\.ts", More::LineBreak(false)),
+    ("m.js", More::Message),
     (
         "d/\u{1}\té.js",
         More::Beside {
@@ -38,8 +39,21 @@ const CASES: &[(&str, More)] = &[
     ),
 ];
 
-/// Whether JSON is asked for, and lines.
-const MODES: &[(bool, bool)] = &[(true, false), (true, true), (false, true), (false, false)];
+/// As of a file that is the only one.
+const ALONE: Among = Among {
+    several: false,
+    names: false,
+};
+
+/// Whether JSON is asked for, lines, and the name of the file in each line.
+const MODES: &[(bool, bool, bool)] = &[
+    (true, false, false),
+    (true, true, true),
+    (false, true, true),
+    (false, true, false),
+    (false, false, true),
+    (false, false, false),
+];
 
 /// A row as a JSON object, made as a tree.
 fn object(alloc: Global, file: &str, position: Position, row: Row) -> Result<String, AllocError> {
@@ -49,7 +63,7 @@ fn object(alloc: Global, file: &str, position: Position, row: Row) -> Result<Str
     let hi = row.span.hi.0;
     let text = row.text;
     let value = match row.more {
-        More::Nothing => json!(in alloc; {
+        More::Nothing | More::Message => json!(in alloc; {
             "file": file, "kind": kind, "lo": lo, "hi": hi, "line": line, "column": column, "text": text
         }),
         More::LineBreak(flag) => json!(in alloc; {
@@ -80,7 +94,7 @@ fn head(alloc: Global, lines: bool, position: Position, row: Row) -> Result<Stri
     };
     let place = place.as_str();
     match row.more {
-        More::Nothing => format!(in alloc; "{kind}{place} {lo} {hi} "),
+        More::Nothing | More::Message => format!(in alloc; "{kind}{place} {lo} {hi} "),
         More::LineBreak(true) => format!(in alloc; "{kind}{place} {lo} {hi} lf "),
         More::LineBreak(false) => format!(in alloc; "{kind}{place} {lo} {hi} - "),
         More::Beside { side, token } => {
@@ -90,10 +104,22 @@ fn head(alloc: Global, lines: bool, position: Position, row: Row) -> Result<Stri
     }
 }
 
+/// Adds a text with a space for each line feed and carriage return.
+fn push_spaced(bytes: &mut Vec<u8>, text: &str) -> Result<(), AllocError> {
+    for part in text.split(['\n', '\r']) {
+        bytes.extend_from_slice(part.as_bytes())?;
+        bytes.push(b' ')?;
+    }
+    // One behind the last part is too many.
+    bytes.pop();
+    Ok(())
+}
+
 /// A row of a text with the end of its line.
 fn row_bytes(
     alloc: Global,
     asked: Asked,
+    among: Among,
     file: &str,
     source: &str,
     row: Row,
@@ -104,9 +130,16 @@ fn row_bytes(
         let line = object(alloc, file, position, row)?;
         bytes.extend_from_slice(line.as_bytes())?;
     } else {
+        if among.names {
+            push_escaped(&mut bytes, file.as_bytes())?;
+            bytes.push(b':')?;
+        }
         let head = head(alloc, asked.lines, position, row)?;
         bytes.extend_from_slice(head.as_bytes())?;
-        push_escaped(&mut bytes, row.text.as_bytes())?;
+        match row.more {
+            More::Message => push_spaced(&mut bytes, row.text)?,
+            _ => push_escaped(&mut bytes, row.text.as_bytes())?,
+        }
     }
     bytes.push(b'\n')?;
     Ok(bytes)
@@ -127,11 +160,18 @@ fn asked(json: bool, lines: bool) -> Asked {
 }
 
 /// Whether a report of two rows is these rows.
-fn is_reported(alloc: Global, asked: Asked, file: &str, row: Row) -> Result<bool, AllocError> {
+fn is_reported(
+    alloc: Global,
+    asked: Asked,
+    among: Among,
+    file: &str,
+    row: Row,
+) -> Result<bool, AllocError> {
     let mut report = Report::new(alloc, asked, file, SOURCE)?;
+    report.among = among;
     report.push_row(row)?;
     report.push_row(row)?;
-    let wanted = row_bytes(alloc, asked, file, SOURCE, row)?;
+    let wanted = row_bytes(alloc, asked, among, file, SOURCE, row)?;
     Ok(
         match report.out.as_slice().strip_prefix(wanted.as_slice()) {
             Some(second) => second == wanted.as_slice(),
@@ -141,7 +181,11 @@ fn is_reported(alloc: Global, asked: Asked, file: &str, row: Row) -> Result<bool
 }
 
 /// Whether the rows of a text are reported, in all cases.
-fn are_reported(alloc: Global, asked: Asked, text: &str) -> Result<bool, AllocError> {
+fn are_reported(alloc: Global, asked: Asked, names: bool, text: &str) -> Result<bool, AllocError> {
+    let among = Among {
+        several: false,
+        names,
+    };
     for (file, more) in CASES {
         let row = Row {
             kind: "\"name\"",
@@ -149,7 +193,7 @@ fn are_reported(alloc: Global, asked: Asked, text: &str) -> Result<bool, AllocEr
             more: *more,
             text,
         };
-        if !is_reported(alloc, asked, file, row)? {
+        if !is_reported(alloc, asked, among, file, row)? {
             return Ok(false);
         }
     }
@@ -171,10 +215,10 @@ fn rows_of_each_byte_are_as_trees_write_them(rt: HostRuntime) -> Result<(), Fail
         let mut text = String::from_str(rt.alloc(), "a")?;
         text.push(char::from(byte))?;
         text.push_str("\u{e9}b")?;
-        for (json, lines) in MODES {
+        for (json, lines, names) in MODES {
             assert!(rt;
-                are_reported(rt.alloc(), asked(*json, *lines), text.as_str())?,
-                "{byte} {json} {lines}"
+                are_reported(rt.alloc(), asked(*json, *lines), *names, text.as_str())?,
+                "{byte} {json} {lines} {names}"
             );
         }
     }
@@ -200,9 +244,9 @@ const TEXTS: &[(&str, usize)] = &[
 fn rows_of_texts_are_as_trees_write_them(rt: HostRuntime) -> Result<(), Fail> {
     for (part, count) in TEXTS {
         let text = repeated(rt.alloc(), part, *count)?;
-        for (json, lines) in MODES {
+        for (json, lines, names) in MODES {
             assert!(rt;
-                are_reported(rt.alloc(), asked(*json, *lines), text.as_str())?,
+                are_reported(rt.alloc(), asked(*json, *lines), *names, text.as_str())?,
                 "{part} {json} {lines}"
             );
         }
@@ -301,7 +345,7 @@ fn are_placed(alloc: Global, asked: Asked, places: &[u32]) -> Result<bool, Alloc
             text: "a",
         };
         report.push_row(row)?;
-        wanted.extend_from_slice(&row_bytes(alloc, asked, "a.js", LINES, row)?)?;
+        wanted.extend_from_slice(&row_bytes(alloc, asked, ALONE, "a.js", LINES, row)?)?;
     }
     Ok(report.out.as_slice() == wanted.as_slice())
 }

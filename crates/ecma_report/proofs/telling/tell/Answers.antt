@@ -10,7 +10,7 @@ pub returns : goal.returns
 returns g c = record {
   tokens = λ ask file bytes of face.
       let held = c.args.report.now.out.items in
-      let rows = token_rows ask file bytes None (tokens_by (rule_at c.args.named) (begun ask bytes)) in
+      let rows = token_rows ask file bytes None (tokens_by (rule_at c.args.named) (begun ask.asked bytes)) in
       let before = g.W.Write.contents c.args.out.now in
       let after = g.W.Write.contents c.flush.new.out in
       let told = c.in_ok-write_face.ensures ask file bytes of face in

@@ -14,7 +14,7 @@ returns-clause-added c = λ ask file bytes of face.
     let held = r.out.items in
     let previous = c.args.previous in
     let own = kept_of (spanned_view c.in-Some.token) in
-    let same = c.tell_token.ensures.out (ap (λ a. writes_errors a.face) of.asked ∙ face) in
+    let same = c.tell_token.ensures.out (ap (λ l. writes_errors l.asked.face) of.look ∙ face) in
     c.in_ok-push_token.ensures.added ask file bytes (stays-of ask file bytes r c.tell_token.new.report c.tell_token.ensures.stays of)
     ∙ ap (λ v. v.items ++ token_row ask file bytes previous c.of-own.result) same
     ∙ ap (λ k. held ++ token_row ask file bytes previous k) c.of-own.ensures

@@ -11,7 +11,7 @@ use Rattle.memchr.proofs.lemmas.CallerLemmas.{length-places}
 use Rattle.memchr.proofs.lemmas.PlaceLemmas.{places_between-none}
 use Rattle.ecma_positions.specs.Positions.{is_line_feed, last_line, position_in}
 use Rattle.ecma_positions.specs.declared.position.Position.{Position}
-use Rattle.ecma_report.specs.Lines.{IsInLine}
+use Rattle.ecma_print.specs.Lines.{IsInLine}
 
 module _ (bytes : List ℕ) (p q : ℕ) (le : p ≤ q) (within : q ≤ length bytes) where
   -- the bytes from one place up to another

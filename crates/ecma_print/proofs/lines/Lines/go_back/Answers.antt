@@ -1,8 +1,8 @@
 use Rattle.std.proofs.Common.{◌∙◌, ◌+◌, ◌≤◌, None, Some, length, take, ap, subst, arith}
 use Rattle.memchr.specs.Find.{IsLastByte, is_byte}
-use Rattle.ecma_report.proofs.LineLemmas.{line-of, lines-back, same-line}
-use Rattle.ecma_report.proofs.lines.Lines.go_back.Goals as goal
-use Rattle.ecma_report.proofs.lines.Lines.go_back.Goals.{then-place-self, in-Some, in-None, else-place-self}
+use Rattle.ecma_print.proofs.LineLemmas.{line-of, lines-back, same-line}
+use Rattle.ecma_print.proofs.lines.Lines.go_back.Goals as goal
+use Rattle.ecma_print.proofs.lines.Lines.go_back.Goals.{then-place-self, in-Some, in-None, else-place-self}
 
 pub returns-clause-counts : goal.returns-clause-counts
 returns-clause-counts c = λ counts.

@@ -1,9 +1,9 @@
 use Rattle.std.proofs.Common.{◌≡◌, ◌∙◌, ◌+◌, ◌<◌, ◌^◌, ap, sym, arith, subst, min, length}
-use Rattle.ecma_report.specs.Lines.{Counts}
-use Rattle.ecma_report.specs.declared.lines.Lines.{Lines}
-use Rattle.ecma_report.proofs.LineLemmas.{position-is}
-use Rattle.ecma_report.proofs.lines.Lines.position.Goals as goal
-use Rattle.ecma_report.proofs.lines.Lines.position.Goals.{then-from-to, else-from-to}
+use Rattle.ecma_print.specs.Lines.{Counts}
+use Rattle.ecma_print.specs.declared.lines.Lines.{Lines}
+use Rattle.ecma_print.proofs.LineLemmas.{position-is}
+use Rattle.ecma_print.proofs.lines.Lines.position.Goals as goal
+use Rattle.ecma_print.proofs.lines.Lines.position.Goals.{then-from-to, else-from-to}
 
 pub returns-clause-position : goal.returns-clause-position
 returns-clause-position c = λ counts.

@@ -1,13 +1,13 @@
 //! What is written of a row: a JSON object, as `serde_json` writes one, or what comes before the text of a row in its line.
-ghost use Rattle.std.specs.Prelude.{◌≡◌, ◌∷◌, ◌++◌, ◌<◌, decimal, OnOk};
+ghost use Rattle.std.specs.Prelude.{◌≡◌, ◌∷◌, ◌++◌, ◌<◌, decimal, map, OnOk};
 ghost use Rattle.std.specs.Char.{digit_char};
 ghost use Rattle.json.specs.Print.{escape, escape_byte, quoted};
 ghost use Rattle.serde_json.specs.Written.{compact_text};
-ghost use Rattle.ecma_report.specs.Rows as row_specs;
+ghost use Rattle.ecma_print.specs.Rows as row_specs;
 
-use crate::report::{More, Row};
+use crate::row::{More, Row};
 use ecma_positions::Position;
-use ecma_stdio::push_number;
+use ecma_stdio::{push_escaped, push_number};
 use std::alloc::AllocError;
 
 /// Whether a byte of a JSON string has to be written as an escape.
@@ -100,11 +100,7 @@ fn push_text_member(out: &mut Vec<u8>, before: &[u8], text: &str) -> Result<(), 
 /// # Errors
 ///
 /// `AllocError` where there is no memory; a part of the object may have been added then.
-pub(crate) fn push_text_object(
-    out: &mut Vec<u8>,
-    file: &str,
-    bytes: &[u8],
-) -> Result<(), AllocError>
+pub fn push_text_object(out: &mut Vec<u8>, file: &str, bytes: &[u8]) -> Result<(), AllocError>
     ensures { OnOk result (out.new.items ≡ out.old.items ++ compact_text (row_specs.text_data file.now bytes.now)) }
 {
     push_text_member(out, b"{\"file\":", file)?;
@@ -120,7 +116,7 @@ fn push_line_break(out: &mut Vec<u8>, more: More) -> Result<(), AllocError>
     match more {
         More::LineBreak(true) => out.extend_from_slice(b",\"line_break_before\":true"),
         More::LineBreak(false) => out.extend_from_slice(b",\"line_break_before\":false"),
-        More::Nothing | More::Beside { .. } => Ok(()),
+        More::Nothing | More::Message | More::Beside { .. } => Ok(()),
     }
 }
 
@@ -130,7 +126,7 @@ fn push_side(out: &mut Vec<u8>, more: More) -> Result<(), AllocError>
 {
     match more {
         More::Beside { side, .. } => push_text_member(out, b",\"side\":", side),
-        More::Nothing | More::LineBreak(_) => Ok(()),
+        More::Nothing | More::Message | More::LineBreak(_) => Ok(()),
     }
 }
 
@@ -140,7 +136,7 @@ fn push_token(out: &mut Vec<u8>, more: More) -> Result<(), AllocError>
 {
     match more {
         More::Beside { token, .. } => push_number_member(out, b",\"token\":", token.0 as usize),
-        More::Nothing | More::LineBreak(_) => Ok(()),
+        More::Nothing | More::Message | More::LineBreak(_) => Ok(()),
     }
 }
 
@@ -149,7 +145,7 @@ fn push_token(out: &mut Vec<u8>, more: More) -> Result<(), AllocError>
 /// # Errors
 ///
 /// `AllocError` where there is no memory; a part of the object may have been added then.
-pub(crate) fn push_object(
+pub fn push_object(
     out: &mut Vec<u8>,
     file: &str,
     position: Position,
@@ -195,7 +191,7 @@ fn push_more(out: &mut Vec<u8>, more: More) -> Result<(), AllocError>
     ensures { OnOk result (out.new.items ≡ out.old.items ++ row_specs.more_text more) }
 {
     match more {
-        More::Nothing => Ok(out.push(b' ')?),
+        More::Nothing | More::Message => Ok(out.push(b' ')?),
         More::LineBreak(true) => out.extend_from_slice(b" lf "),
         More::LineBreak(false) => out.extend_from_slice(b" - "),
         More::Beside { side, token } => {
@@ -212,11 +208,7 @@ fn push_more(out: &mut Vec<u8>, more: More) -> Result<(), AllocError>
 /// # Errors
 ///
 /// `AllocError` where there is no memory; a part of it may have been added then.
-pub(crate) fn push_head(
-    out: &mut Vec<u8>,
-    position: Option<Position>,
-    row: Row,
-) -> Result<(), AllocError>
+pub fn push_head(out: &mut Vec<u8>, position: Option<Position>, row: Row) -> Result<(), AllocError>
     ensures { OnOk result (out.new.items ≡ out.old.items ++ row_specs.head position row.entry) }
 {
     out.extend_from_slice(row.kind.as_bytes())?;
@@ -224,4 +216,43 @@ pub(crate) fn push_head(
     push_behind(out, b' ', row.span.lo.0 as usize)?;
     push_behind(out, b' ', row.span.hi.0 as usize)?;
     push_more(out, row.more)
+}
+
+/// The byte in a message that takes one line.
+fn one_line(byte: u8) -> u8
+    ensures { result ≡ row_specs.one_line byte }
+{
+    if byte == b'\n' || byte == b'\r' {
+        b' '
+    } else {
+        byte
+    }
+}
+
+/// Adds a message for people, in one line: a space stands for each line feed and carriage return in it.
+///
+/// # Errors
+///
+/// `AllocError` where there is no memory; a part of it may have been added then.
+pub fn push_message(out: &mut Vec<u8>, message: &[u8]) -> Result<(), AllocError>
+    ensures { OnOk result (out.new.items ≡ out.old.items ++ map row_specs.one_line message.now) }
+{
+    for byte in message {
+        out.push(one_line(*byte))?;
+    }
+    Ok(())
+}
+
+/// Adds the text of a row in its line.
+///
+/// # Errors
+///
+/// `AllocError` where there is no memory; a part of it may have been added then.
+pub fn push_own_text(out: &mut Vec<u8>, row: Row) -> Result<(), AllocError>
+    ensures { OnOk result (out.new.items ≡ out.old.items ++ row_specs.own_text row.entry.more row.entry.text.now) }
+{
+    match row.more {
+        More::Message => push_message(out, row.text.as_bytes()),
+        _ => push_escaped(out, row.text.as_bytes()),
+    }
 }

@@ -1,7 +1,7 @@
 //! The lines and columns of places of a text, counted from the last place that was asked for.
 ghost use Rattle.std.specs.Prelude.{◌≡◌, ◌≤◌, ◌<◌, ◌^◌, ℕ, List, length};
 ghost use Rattle.ecma_positions.specs.Positions.{position_in};
-ghost use Rattle.ecma_report.specs.Lines.{Counts};
+ghost use Rattle.ecma_print.specs.Lines.{Counts};
 
 use ecma_place::BytePos;
 use ecma_positions::Position;
@@ -10,7 +10,7 @@ use memchr::{memchr_iter, memrchr};
 /// Where the last place that was asked for lies. Rows mostly go forward, so that each byte is passed once, and no table of
 /// lines is held.
 #[derive(Clone, Copy, Debug)]
-pub(crate) struct Lines {
+pub struct Lines {
     /// The place, in bytes, no further than the end of the text.
     place: usize,
     /// Its line, from 1.
@@ -21,7 +21,7 @@ pub(crate) struct Lines {
 
 impl Lines {
     /// At the beginning of a text.
-    pub(crate) fn new() -> Lines
+    pub fn new() -> Lines
         ensures { (bytes : List ℕ) → Counts bytes result }
     {
         Lines {
@@ -68,7 +68,7 @@ impl Lines {
 
     /// The line and the column of a place of the text with these bytes, of which all places before were asked for; a place
     /// behind its end counts as one of its last line.
-    pub(crate) fn position(&mut self, bytes: &[u8], place: BytePos) -> Position
+    pub fn position(&mut self, bytes: &[u8], place: BytePos) -> Position
         ensures position { Counts bytes.now self.old → result ≡ position_in bytes.now place }
         ensures counts { Counts bytes.now self.old → Counts bytes.now self.new }
     {

@@ -1,9 +1,9 @@
 use Rattle.std.proofs.Common.{◌∙◌, ◌+◌, None, length, ap, sym, subst, arith}
 use Rattle.std.specs.Prelude.{slice_range}
 use Rattle.memchr.specs.Find.{IsLastByte, is_byte}
-use Rattle.ecma_report.proofs.LineLemmas.{line-behind, lines-on, none-counted, none-in-line}
-use Rattle.ecma_report.proofs.lines.Lines.go_on.Goals as goal
-use Rattle.ecma_report.proofs.lines.Lines.go_on.Goals.{in-Some, in_default}
+use Rattle.ecma_print.proofs.LineLemmas.{line-behind, lines-on, none-counted, none-in-line}
+use Rattle.ecma_print.proofs.lines.Lines.go_on.Goals as goal
+use Rattle.ecma_print.proofs.lines.Lines.go_on.Goals.{in-Some, in_default}
 
 pub returns-clause-counts : goal.returns-clause-counts
 returns-clause-counts c = λ counts.

@@ -3,7 +3,7 @@ use Rattle.std.proofs.Common.{◌≡◌, ℕ, ◌≤◌, [], ◌∷◌, false, �
 use Rattle.std.specs.Prelude.{nat_lt}
 use Rattle.std.proofs.lemmas.Bool.{ltb-false, ne_eqb, or_parts}
 use Rattle.json.specs.Print.{escape_byte}
-use Rattle.ecma_report.specs.Rows.{needs_escape}
+use Rattle.ecma_print.specs.Rows.{needs_escape}
 
 -- a byte of a JSON string that is written as it is
 pub written_as_is : (b : ℕ) → needs_escape b ≡ false → escape_byte b ≡ b ∷ []

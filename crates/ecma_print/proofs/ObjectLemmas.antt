@@ -6,9 +6,9 @@ use Rattle.serde_json.specs.Data.{object}
 use Rattle.serde_json.specs.Written.{compact_text}
 use Rattle.ecma_place.specs.declared.place.Span.{Span}
 use Rattle.ecma_positions.specs.declared.position.Position.{Position}
-use Rattle.ecma_report.specs.declared.report.More.{More}
-use Rattle.ecma_report.specs.declared.report.More.TheVariants.{Nothing, LineBreak, Beside}
-use Rattle.ecma_report.specs.Rows.{line_break_text, members, side_text, text_data, token_text}
+use Rattle.ecma_print.specs.declared.row.More.{More}
+use Rattle.ecma_print.specs.declared.row.More.TheVariants.{Nothing, LineBreak, Message, Beside}
+use Rattle.ecma_print.specs.Rows.{line_break_text, members, side_text, text_data, token_text}
 
 -- a piece that was added before others
 pub behind : (before middle after piece rest : List ℕ) → middle ≡ before ++ piece → after ≡ middle ++ rest → after ≡ before ++ (piece ++ rest)
@@ -31,6 +31,7 @@ parts file at span kind text more =
 pub parts-object : (file : List ℕ) (at : Position) (span : Span) (kind text : List ℕ) (more : More) → parts file at span kind text more ≡ compact_text (object (members file at span kind text more))
 unfolding escape_byte
 parts-object file at span kind text Nothing = refl
+parts-object file at span kind text Message = refl
 parts-object file at span kind text (LineBreak true) = refl
 parts-object file at span kind text (LineBreak false) = refl
 parts-object file at span kind text (Beside side token) = refl

@@ -1,6 +1,6 @@
 use Rattle.std.proofs.Common.{◌≡◌, ◌∙◌, ◌++◌, ap}
-use Rattle.ecma_report.proofs.ObjectLemmas.{behind, parts, parts-object}
-use Rattle.ecma_report.proofs.written.push_object.Goals as goal
+use Rattle.ecma_print.proofs.ObjectLemmas.{behind, parts, parts-object}
+use Rattle.ecma_print.proofs.written.push_object.Goals as goal
 
 pub returns : goal.returns
 returns c =

@@ -1,7 +1,7 @@
 -- Where a count of lines stands.
 use Rattle.std.specs.Prelude.{◌≡◌, ◌≤◌, ◌<◌, ◌+◌, ◌-◌, ℕ, List, true, false, count_by, length, slice_index, take}
 use Rattle.ecma_positions.specs.Positions.{is_line_feed}
-use Rattle.ecma_report.specs.declared.lines.Lines.{Lines}
+use Rattle.ecma_print.specs.declared.lines.Lines.{Lines}
 
 -- a line of a text with these bytes begins there, and a place lies in it, or at its end
 pub record IsInLine (bytes : List ℕ) (start place : ℕ) : Type 0 where

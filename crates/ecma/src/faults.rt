@@ -1,0 +1,68 @@
+//! Lines on standard error.
+
+use ecma_stdio::{Fault, Halt, send};
+use std::alloc::Global;
+use std::io;
+use std::io::{ErrorKind, Write};
+
+/// The status where a text has an error, or there is none.
+pub const FAULTY: u8 = 1;
+
+/// Why there is no text.
+#[derive(Clone, Copy)]
+pub struct Refusal {
+    pub halt: Halt,
+    /// Where the system gave a reason.
+    pub failure: Option<io::Error>,
+}
+
+impl From<Halt> for Refusal {
+    fn from(halt: Halt) -> Refusal {
+        Refusal {
+            halt,
+            failure: None,
+        }
+    }
+}
+
+/// Writes a line about a file, and answers the status.
+pub fn refuse(rt: &HostRuntime, name: &str, message: &str) -> u8 {
+    match format!(in rt.alloc(); "{name}: {message}\n") {
+        Ok(line) => send(&mut rt.stderr(), FAULTY, line.as_bytes()),
+        Err(_) => send(&mut rt.stderr(), FAULTY, b"ecma: out of memory\n"),
+    }
+}
+
+/// Writes a line about a file with the reason that the system gave, and answers the status.
+pub fn refuse_for(rt: &HostRuntime, name: &str, message: &str, failure: Option<io::Error>) -> u8 {
+    let Some(error) = failure else {
+        return refuse(rt, name, message);
+    };
+    match format!(in rt.alloc(); "{message}: {error}") {
+        Ok(message) => refuse(rt, name, message.as_str()),
+        Err(_) => refuse(rt, name, message),
+    }
+}
+
+/// Writes why a file has no text, and answers the status.
+pub fn refuse_text(rt: &HostRuntime, name: &str, refusal: Refusal) -> u8 {
+    match refusal.halt {
+        Halt::ReadFailed => match refusal.failure {
+            Some(error) if error.kind() == ErrorKind::IsADirectory => {
+                refuse(rt, name, "is a directory; -r reads the files in it")
+            }
+            failure => refuse_for(rt, name, "cannot be read", failure),
+        },
+        Halt::Fault(Fault::NotUtf8) => refuse(rt, name, "is not UTF-8"),
+        Halt::Fault(Fault::TooLong) => refuse(rt, name, "is longer than 4,294,967,295 bytes"),
+        Halt::Fault(_) => refuse(rt, name, "out of memory"),
+    }
+}
+
+/// Writes why standard output took no more, and answers the status. A pipe that the reader closed is no fault of the run.
+pub fn refuse_output(rt: &HostRuntime, failure: Option<io::Error>) -> u8 {
+    match failure {
+        Some(error) if error.kind() == ErrorKind::BrokenPipe => FAULTY,
+        failure => refuse_for(rt, "standard output", "cannot be written", failure),
+    }
+}

@@ -1,0 +1,3 @@
+pub mod EscapedLemmas
+pub mod LineLemmas
+pub mod ObjectLemmas
