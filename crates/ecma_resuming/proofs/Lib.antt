@@ -1,0 +1,5 @@
+pub mod GoingOnLemmas
+pub mod OverLemmas
+pub mod RestLemmas
+pub mod ResumingLemmas
+pub mod StartLemmas

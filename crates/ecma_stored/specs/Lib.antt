@@ -1,0 +1,2 @@
+pub mod KindsAt
+pub mod Stored
