@@ -1,4 +1,4 @@
-// What the package answers beside the lines of `ecma_lex` (docs/PROGRAM.md), in bytes and, of strings, in units.
+// What the package answers beside the lines of `ecma_lex` (docs/COMMAND.md), in bytes and, of strings, in units.
 import { spawnSync } from 'node:child_process';
 import fs from 'node:fs';
 import path from 'node:path';
