@@ -1,5 +1,5 @@
 -- The next token behind a complete operand
-use Rattle.std.proofs.Common.{◌≡◌, ◌∙◌, ap, Bool, true, false, Some, None, refl, arith, if◌then◌else◌, List, ◌∷◌}
+use Rattle.std.proofs.Common.{◌≡◌, ◌∙◌, ap, Bool, true, false, Some, None, refl, arith, if◌then◌else◌}
 use Rattle.ecma_word.specs.declared.keyword.Keyword.{Keyword}
 use Rattle.ecma_word.specs.declared.keyword.Keyword.TheVariants as keyword
 use Rattle.ecma_word.specs.declared.known_ident.KnownIdent.{KnownIdent}
@@ -18,9 +18,6 @@ use Rattle.ecma_role_table.specs.declared.part.Reserved as words
 use Rattle.ecma_role_table.specs.declared.part.Reserved.TheVariants as reserved
 use Rattle.ecma_role_table.specs.declared.part.Sign as signs
 use Rattle.ecma_role_table.specs.declared.part.Sign.TheVariants as sign
-use Rattle.ecma_role_table.specs.declared.frame.Around.{Around}
-use Rattle.ecma_role_table.specs.declared.frame.Frame.{Frame}
-use Rattle.ecma_role_table.specs.declared.frame.FrameKind.{FrameKind}
 use Rattle.ecma_role_table.specs.declared.frame.FrameKind.TheVariants as frame
 use Rattle.ecma_role_table.specs.declared.frame.Kinds.TheVariants as kinds
 use Rattle.ecma_role_table.specs.declared.state.State.{State}
@@ -33,12 +30,12 @@ use Rattle.ecma_role_table.specs.declared.moves.Turn.TheVariants.{Again, Done}
 use Rattle.ecma_role_table.specs.Frames.{over_declared_for}
 use Rattle.ecma_role_table.specs.Parts.{part_of_keyword, part_of_known, part_of_word, sign_of_assign, sign_of_operator}
 use Rattle.ecma_role_table.specs.Table.{row}
-use Rattle.ecma_roles.specs.Moves.{brace, bracket, candidate_from, changed, colon, comma, landed, moved, paren, semi, turned_to}
-use Rattle.ecma_roles.specs.Nest.{Nested, dropped, dropped_from, no_function, pending, pushed, top, under}
+use Rattle.ecma_role_moves.specs.Moves.{brace, bracket, candidate_from, changed, colon, comma, landed, moved, paren, semi, turned_to}
+use Rattle.ecma_role_moves.specs.Nest.{Nested, dropped, no_function, pending, pushed, top, under}
 use Rattle.ecma_roles.specs.Track.{TrackView, read_once, read_times, reading, stepped}
 use Rattle.ecma_role_grammar.specs.Tokens.{part, token}
 use Rattle.ecma_role_grammar.proofs.Starts.{again, taken}
-use Rattle.ecma_role_grammar.proofs.Places.{Bare, Braces, Complete, Concise, Ended, Grouped, InterfaceOr, LabelOr, Over, Plain, Postfix, ReadsOn, TypeOr, Whole, Yielding, at, at_landed, completed, ended, goes_on, is_label_end, is_yielding, over, sign_part}
+use Rattle.ecma_role_grammar.proofs.Places.{Braces, Complete, Ended, Grouped, InterfaceOr, LabelOr, Plain, Postfix, ReadsOn, TypeOr, Whole, Yielding, at, at_landed, completed, ended, goes_on, is_label_end, sign_part}
 
 abbrev Alike : Nested → signs.Sign → Bool → State → Type 0
 Alike n s b other = stepped (at other n) (sign_part s b) ≡ stepped (at state.After n) (sign_part s b)
@@ -278,12 +275,13 @@ behind_assign c n op b settled lone = behind-sign c n (sign_of_assign op) b (ass
 abbrev in_move : Bool → Move
 in_move declared = if declared then To state.Operand Pop else To state.Operand Nothing
 
-in-once : (n : Nested) (b : Bool) → Settled n → over_declared_for (top n) (under n) ≡ false → (read_once (at state.After n) (Reserved reserved.In) b ≡ turned_to (Done state.Operand) n) × (read_once (at state.After n) (Reserved reserved.InstanceOf) b ≡ turned_to (Done state.Operand) n)
+in-once : (n : Nested) (b : Bool) → Settled n → over_declared_for (top n) (under n) ≡ false → read_once (at state.After n) (Reserved reserved.In) b ≡ turned_to (Done state.Operand) n
 unfolding read_once row moved changed
-in-once n b settled none = (
-  ap (λ m. moved (in_move (over_declared_for (top m) (under m))) (Reserved reserved.In) m) settled ∙ ap (λ c. moved (in_move c) (Reserved reserved.In) n) none,
-  ap (λ m. moved (in_move (over_declared_for (top m) (under m))) (Reserved reserved.InstanceOf) m) settled ∙ ap (λ c. moved (in_move c) (Reserved reserved.InstanceOf) n) none,
-)
+in-once n b settled none = ap (λ m. moved (in_move (over_declared_for (top m) (under m))) (Reserved reserved.In) m) settled ∙ ap (λ c. moved (in_move c) (Reserved reserved.In) n) none
+
+instanceof-once : (n : Nested) (b : Bool) → Settled n → read_once (at state.After n) (Reserved reserved.InstanceOf) b ≡ turned_to (Done state.Operand) n
+unfolding read_once row moved changed
+instanceof-once n b settled = ap (λ m. moved (To state.Operand Nothing) (Reserved reserved.InstanceOf) m) settled
 
 -- words that are read behind an operand, wherever it is complete
 abbrev IsAgain : State → PartKind → Bool → Nested → State → Type 0
@@ -301,8 +299,11 @@ reserved_behind LabelOr n after r b s is = ap (λ u. u.track) (again 7 b (at sta
 reserved_behind TypeOr n after r b s is = ap (λ u. u.track) (again 7 b (at state.MaybeType n) (Reserved r) (Reserved r) state.Label n (reserved-again r b n).3 ∙ again 6 b (at state.Label n) (Reserved r) (Reserved r) state.After n (reserved-again r b n).2 ∙ taken 5 b (at state.After n) (Reserved r) s after is)
 reserved_behind InterfaceOr n after r b s is = ap (λ u. u.track) (again 7 b (at state.MaybeInterface n) (Reserved r) (Reserved r) state.Label n (reserved-again r b n).4 ∙ again 6 b (at state.Label n) (Reserved r) (Reserved r) state.After n (reserved-again r b n).2 ∙ taken 5 b (at state.After n) (Reserved r) s after is)
 
-pub behind_in : (c : Complete) (n : Nested) (b : Bool) → dropped kinds.Candidates n ≡ n → over_declared_for (top n) (under n) ≡ false → (stepped (completed c n) (part (token (kind.Word (word.Keyword keyword.In)) b)) ≡ at state.Operand n) × (stepped (completed c n) (part (token (kind.Word (word.Keyword keyword.InstanceOf)) b)) ≡ at state.Operand n)
-behind_in c n b settled none = let i = in-once n b settled none in (reserved_behind c n n reserved.In b state.Operand i.0, reserved_behind c n n reserved.InstanceOf b state.Operand i.1)
+pub behind_in : (c : Complete) (n : Nested) (b : Bool) → dropped kinds.Candidates n ≡ n → over_declared_for (top n) (under n) ≡ false → stepped (completed c n) (part (token (kind.Word (word.Keyword keyword.In)) b)) ≡ at state.Operand n
+behind_in c n b settled none = reserved_behind c n n reserved.In b state.Operand (in-once n b settled none)
+
+pub behind_instanceof : (c : Complete) (n : Nested) (b : Bool) → dropped kinds.Candidates n ≡ n → stepped (completed c n) (part (token (kind.Word (word.Keyword keyword.InstanceOf)) b)) ≡ at state.Operand n
+behind_instanceof c n b settled = reserved_behind c n n reserved.InstanceOf b state.Operand (instanceof-once n b settled)
 
 -- Rows that end an assignment expression
 
@@ -310,39 +311,19 @@ ended-all : (n : Nested) (b : Bool) → (stepped (at state.After n) (sign_part s
 unfolding read_times read_once row moved changed
 ended-all n b = (refl, refl, refl, refl, refl)
 
--- a right parenthesis: one that closes a group makes parameters of it behind `yield`
+-- a right parenthesis
 braces-paren : (n : Nested) (b : Bool) → stepped (at state.ArrowEnd n) (sign_part sign.RParen b) ≡ at_landed (paren n)
 unfolding read_times read_once row moved changed
 braces-paren n b = refl
 
-abbrev pub is_head_paren : FrameKind → Bool
-is_head_paren frame.Call = true
-is_head_paren frame.Parameters = true
-is_head_paren frame.Control = true
-is_head_paren frame.For = true
-is_head_paren k = false
+yield-paren : (n : Nested) (b : Bool) → stepped (at state.Restricted n) (sign_part sign.RParen b) ≡ at_landed (paren n)
+unfolding read_times read_once row moved changed
+yield-paren n b = refl
 
-yield-paren : (k : FrameKind) (kept : Around) (fs : List Frame) (a : Around) (m : Over) (pend : Around) (b : Bool) → is_head_paren k ≡ true → let n = over (record { kind = k; kept = kept } ∷ fs) a m pend in stepped (at state.Restricted n) (sign_part sign.RParen b) ≡ at_landed (paren n)
-unfolding read_times read_once row moved changed dropped_from
-yield-paren frame.Call kept fs a Bare pend b h = refl
-yield-paren frame.Call kept fs a (Concise c) pend b h = refl
-yield-paren frame.Parameters kept fs a Bare pend b h = refl
-yield-paren frame.Parameters kept fs a (Concise c) pend b h = refl
-yield-paren frame.Control kept fs a Bare pend b h = refl
-yield-paren frame.Control kept fs a (Concise c) pend b h = refl
-yield-paren frame.For kept fs a Bare pend b h = refl
-yield-paren frame.For kept fs a (Concise c) pend b h = refl
-yield-paren k kept fs a m pend b h = absurd cc
-
-pub end_paren : (e : Ended) (k : FrameKind) (kept : Around) (fs : List Frame) (a : Around) (m : Over) (pend : Around) (b : Bool) → is_head_paren k ≡ true → let n = over (record { kind = k; kept = kept } ∷ fs) a m pend in stepped (ended e n) (part (token kind.RParen b)) ≡ at_landed (paren n)
-end_paren (Whole c) k kept fs a m pend b h = let n = over (record { kind = k; kept = kept } ∷ fs) a m pend in as_after c n sign.RParen b refl ∙ (ended-all n b).0
-end_paren Braces k kept fs a m pend b h = braces-paren (over (record { kind = k; kept = kept } ∷ fs) a m pend) b
-end_paren Yielding k kept fs a m pend b h = yield-paren k kept fs a m pend b h
-
-pub end_group : (e : Ended) (n : Nested) (b : Bool) → is_yielding e ≡ false → stepped (ended e n) (part (token kind.RParen b)) ≡ at_landed (paren n)
-end_group (Whole c) n b h = as_after c n sign.RParen b refl ∙ (ended-all n b).0
-end_group Braces n b h = braces-paren n b
-end_group Yielding n b h = absurd cc
+pub end_paren : (e : Ended) (n : Nested) (b : Bool) → stepped (ended e n) (part (token kind.RParen b)) ≡ at_landed (paren n)
+end_paren (Whole c) n b = as_after c n sign.RParen b refl ∙ (ended-all n b).0
+end_paren Braces n b = braces-paren n b
+end_paren Yielding n b = yield-paren n b
 
 pub end_bracket : (e : Ended) (n : Nested) (b : Bool) → stepped (ended e n) (part (token kind.RBracket b)) ≡ at_landed (bracket n)
 end_bracket e n b = as_after_end e n sign.RBracket b refl ∙ (ended-all n b).1

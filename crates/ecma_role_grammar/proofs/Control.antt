@@ -21,8 +21,8 @@ use Rattle.ecma_role_table.specs.declared.moves.Turn.TheVariants.{Again, Done}
 use Rattle.ecma_role_table.specs.Parts.{part_of_word}
 use Rattle.ecma_role_table.specs.Statements as statements
 use Rattle.ecma_role_table.specs.Table.{row}
-use Rattle.ecma_roles.specs.Moves.{semi, fresh_of, changed, colon, landed, moved, paren, turned_to}
-use Rattle.ecma_roles.specs.Nest.{Nested, dropped, dropped_from, nested, no_function, pending, pushed, top}
+use Rattle.ecma_role_moves.specs.Moves.{semi, fresh_of, changed, colon, landed, moved, paren, turned_to}
+use Rattle.ecma_role_moves.specs.Nest.{Nested, dropped, dropped_from, nested, no_function, pending, pushed, top}
 use Rattle.ecma_roles.specs.Track.{TrackView, read_once, read_times, stepped}
 use Rattle.ecma_role_grammar.specs.Tokens.{Token, part, token}
 use Rattle.ecma_role_grammar.specs.Grammar.{in_parens, is_left_brace, is_declaring, of, is_on_line, begins_brace, Parameters, is_identifier, reserved, with_in, without_in}
@@ -117,7 +117,7 @@ control_part p xs k b c d h list fs before =
     let last = over inner a r.mark r.pend in
     record {
       pend = r.pend;
-      run = goes (no_slash (at state.Statement n) (kind.Word (word.Keyword k)) refl) (control-row k n b h) (goes (no_slash (at state.Control n) kind.LParen refl) (paren-row n c) (joins r.run (one (no_slash (ended r.state last) kind.RParen refl) (end_paren r.state frame.Control a fs a r.mark r.pend d refl ∙ control-closed fs a a r.mark r.pend))));
+      run = goes (no_slash (at state.Statement n) (kind.Word (word.Keyword k)) refl) (control-row k n b h) (goes (no_slash (at state.Control n) kind.LParen refl) (paren-row n c) (joins r.run (one (no_slash (ended r.state last) kind.RParen refl) (end_paren r.state last d ∙ control-closed fs a a r.mark r.pend))));
       keeps = r.keeps;
     }
 
@@ -305,7 +305,7 @@ catch_parameter_run p xs ys b c d target s = record {
       let t = s.runs fs r.pend h in
       record {
         pend = t.pend;
-        run = joins (goes (no_slash (at state.Statement n) (kind.Word (word.Keyword keyword.Catch)) refl) (control-row keyword.Catch n b refl) (goes (no_slash (at state.Control n) kind.LParen refl) (paren-row n c) (joins r.run (one (no_slash (completed r.state last) kind.RParen refl) (end_paren (Whole r.state) frame.Control a fs a Bare r.pend d refl ∙ control-closed fs a a Bare r.pend))))) t.run;
+        run = joins (goes (no_slash (at state.Statement n) (kind.Word (word.Keyword keyword.Catch)) refl) (control-row keyword.Catch n b refl) (goes (no_slash (at state.Control n) kind.LParen refl) (paren-row n c) (joins r.run (one (no_slash (completed r.state last) kind.RParen refl) (end_paren (Whole r.state) last d ∙ control-closed fs a a Bare r.pend))))) t.run;
         keeps = λ k. t.keeps (r.keeps k);
       };
 }
@@ -441,7 +441,7 @@ for_in_runs p xs ys b left list = record {
       let l = left.runs AtForHead n (for-fits p fs before) refl in
       let m = pending l.pend n in
       let r = in-rest p ys (list-of p ys list) fs l.pend in
-      record { finish = r.finish; pend = r.pend; run = joins l.run (goes (no_slash (completed l.state m) (kind.Word (word.Keyword keyword.In)) refl) (behind_in l.state m b (fits_settled p m (for-fits p fs l.pend)) refl).0 r.run); keeps = λ k. r.keeps (l.keeps k) };
+      record { finish = r.finish; pend = r.pend; run = joins l.run (goes (no_slash (completed l.state m) (kind.Word (word.Keyword keyword.In)) refl) (behind_in l.state m b (fits_settled p m (for-fits p fs l.pend)) refl) r.run); keeps = λ k. r.keeps (l.keeps k) };
 }
 
 pub for_of_runs : (p : Parameters) (xs ys : List Token) (b : Bool) → OperandRuns p xs → AssignmentRuns (with_in p) ys → ForHeadRuns p (xs ++ of b ∷ ys)
@@ -497,7 +497,7 @@ shut-paren fs a (Concise b) pend = refl
 
 for-closed : (f : Finish) (fs : List Frame) (a pend : Around) (b : Bool) → stepped (finished f (for_frames fs a) a pend) (part (token kind.RParen b)) ≡ at state.Statement (nested fs a pend)
 for-closed Open fs a pend b = open-paren fs a pend b
-for-closed (Shut e m) fs a pend b = end_paren e frame.For a fs a m pend b refl ∙ shut-paren fs a m pend
+for-closed (Shut e m) fs a pend b = end_paren e (over (record { kind = frame.For; kept = a } ∷ fs) a m pend) b ∙ shut-paren fs a m pend
 
 pub for_rows : (n : Nested) (b : Bool) → (stepped (at state.Statement n) (part (reserved keyword.For b)) ≡ at state.ForKeyword n) × (stepped (at state.ForKeyword n) (part (reserved keyword.Await b)) ≡ at state.ForKeyword n) × (stepped (at state.ForKeyword n) (part (token kind.LParen b)) ≡ at state.ForHead (pushed frame.For n))
 unfolding read_times read_once row moved changed statements.statement

@@ -1,5 +1,5 @@
 -- Expressions of the grammar run: one lemma for each form of production
-use Rattle.std.proofs.Common.{◌≡◌, ◌∙◌, ap, Bool, true, false, List, [], ◌∷◌, ◌++◌, refl, sym}
+use Rattle.std.proofs.Common.{◌≡◌, ◌∙◌, ap, Bool, true, false, List, [], ◌∷◌, ◌++◌, refl}
 use Rattle.ecma_word.specs.declared.keyword.Keyword.TheVariants as keyword
 use Rattle.ecma_word.specs.declared.word.WordKind.{WordKind}
 use Rattle.ecma_word.specs.declared.word.WordKind.TheVariants as word
@@ -20,17 +20,17 @@ use Rattle.ecma_role_table.specs.declared.moves.Turn.TheVariants.{Done}
 use Rattle.ecma_role_table.specs.Frames.{over_candidate}
 use Rattle.ecma_role_table.specs.Parts.{part_of_kind}
 use Rattle.ecma_role_table.specs.Table.{row}
-use Rattle.ecma_roles.specs.Moves.{bracket, changed, colon, comma, comma_in, decorating, landed, moved, paren, turned_to}
-use Rattle.ecma_roles.specs.Nest.{Nested, dropped, dropped_from, framed, nested, pending, pushed, top}
+use Rattle.ecma_role_moves.specs.Moves.{bracket, changed, colon, comma, comma_in, decorating, landed, moved, paren, turned_to}
+use Rattle.ecma_role_moves.specs.Nest.{Nested, dropped, dropped_from, framed, nested, pending, pushed, top}
 use Rattle.ecma_roles.specs.Track.{read_once, read_times, stepped}
-use Rattle.ecma_roles.proofs.NestLemmas.{dropped_none}
+use Rattle.ecma_role_moves.proofs.NestLemmas.{dropped_none}
 use Rattle.ecma_role_grammar.specs.Tokens.{Token, part, token}
-use Rattle.ecma_role_grammar.specs.Grammar.{Parameters, ends_in_yield, is_identifier, is_literal, is_postfix, is_prefix, reserved, with_in}
+use Rattle.ecma_role_grammar.specs.Grammar.{Parameters, is_identifier, is_literal, is_postfix, is_prefix, reserved, with_in}
 use Rattle.ecma_role_grammar.specs.Laws.{around_of}
-use Rattle.ecma_role_grammar.proofs.Runs.{RightAt, goes, is_regex, is_slash, joins, no_slash, one, right_division, right_regex, true_false}
-use Rattle.ecma_role_grammar.proofs.Places.{AssignmentRuns, AtOperand, AtQuestion, Bare, BehindRuns, Braces, Complete, Concise, Ended, Fits, Grouped, ListRuns, OperandRuns, Over, Plain, Postfix, Rests, Separates, Start, Whole, Yielding, around_in, at, at_landed, begin, begin_expects, completed, completed_divides, ended, ends_after, ends_behind, ends_more, fits_settled, is_yielding, opens, opens_front, over, rests_fits, some_front, top_of}
+use Rattle.ecma_role_grammar.proofs.Runs.{RightAt, goes, is_regex, is_slash, joins, no_slash, one, right_division, right_regex}
+use Rattle.ecma_role_grammar.proofs.Places.{AssignmentRuns, AtOperand, AtQuestion, Bare, BehindRuns, Complete, Concise, Ended, Fits, Grouped, ListRuns, OperandRuns, Over, Plain, Postfix, Rests, Separates, Start, Whole, around_in, at, at_landed, begin, begin_expects, completed, completed_divides, ended, fits_settled, opens, opens_front, over, rests_fits, some_front, top_of}
 use Rattle.ecma_role_grammar.proofs.Starts.{Begun, begun, from_start, identifier_begun, starts}
-use Rattle.ecma_role_grammar.proofs.Behind.{behind_assign, behind_binary, behind_bracket, behind_dot, behind_in, behind_paren, behind_question, behind_update, complete_reads_on, end_bracket, end_colon, end_comma, end_group, end_paren, property_name}
+use Rattle.ecma_role_grammar.proofs.Behind.{behind_assign, behind_binary, behind_bracket, behind_dot, behind_in, behind_instanceof, behind_paren, behind_question, behind_update, complete_reads_on, end_bracket, end_colon, end_comma, end_paren, property_name}
 
 -- frames that hold assignment expressions, and lists of them
 abbrev pub holds : FrameKind → Bool
@@ -111,11 +111,6 @@ regex_runs p b = single p (token kind.Regex b) (λ s n fits o. (begun s n kind.R
 
 -- Parentheses
 
-pub no_yield : (e : Ended) (xs : List Token) → (is_yielding e ≡ true → ends_in_yield xs ≡ true) → ends_in_yield xs ≡ false → is_yielding e ≡ false
-no_yield (Whole c) xs h other = refl
-no_yield Braces xs h other = refl
-no_yield Yielding xs h other = absurd (true_false (sym (h refl) ∙ other))
-
 pub paren_row : (n : Nested) (b : Bool) → read_once (at state.Operand n) (part_of_kind kind.LParen) b ≡ turned_to (Done state.Operand) (pushed frame.Paren n)
 unfolding read_once row moved changed
 paren_row n b = refl
@@ -125,8 +120,8 @@ unfolding dropped_from
 group_closed fs a kept Bare pend plain = ap (λ s. at s (nested fs a pend)) (plain state.Group)
 group_closed fs a kept (Concise b) pend plain = ap (λ s. at s (nested fs a pend)) (plain state.Group)
 
-pub parenthesized_runs : (p : Parameters) (xs : List Token) (a b : Bool) → ends_in_yield xs ≡ false → ListRuns (with_in p) xs → OperandRuns p (token kind.LParen a ∷ xs ++ token kind.RParen b ∷ [])
-parenthesized_runs p xs a b other list = record {
+pub parenthesized_runs : (p : Parameters) (xs : List Token) (a b : Bool) → ListRuns (with_in p) xs → OperandRuns p (token kind.LParen a ∷ xs ++ token kind.RParen b ∷ [])
+parenthesized_runs p xs a b list = record {
   some = refl;
   runs = λ s n fits o.
       let fs : List Frame = framed frame.Paren n.around n.pending ∷ n.frames in
@@ -135,7 +130,7 @@ parenthesized_runs p xs a b other list = record {
       record {
         state = Grouped;
         pend = inner.pend;
-        run = goes (no_slash (begin s n) kind.LParen refl) (from_start s n kind.LParen a (xs ++ token kind.RParen b ∷ []) state.Operand (pushed frame.Paren n) refl o (paren_row n a)) (joins inner.run (one (no_slash (ended inner.state last) kind.RParen refl) (end_group inner.state last b (no_yield inner.state xs inner.yields other) ∙ group_closed n.frames n.around n.around inner.mark inner.pend fits.plain)));
+        run = goes (no_slash (begin s n) kind.LParen refl) (from_start s n kind.LParen a (xs ++ token kind.RParen b ∷ []) state.Operand (pushed frame.Paren n) refl o (paren_row n a)) (joins inner.run (one (no_slash (ended inner.state last) kind.RParen refl) (end_paren inner.state last b ∙ group_closed n.frames n.around n.around inner.mark inner.pend fits.plain)));
         label = λ _. refl;
         keeps = inner.keeps;
       };
@@ -210,7 +205,7 @@ arguments_behind p xs a b list = record {
       let last = over fs n.around inner.mark inner.pend in
       record {
         pend = inner.pend;
-        run = goes (no_slash t kind.LParen refl) (behind_paren t n a on (fits_settled p n fits)) (joins inner.run (one (no_slash (ended inner.state last) kind.RParen refl) (end_paren inner.state frame.Call n.around n.frames n.around inner.mark inner.pend b refl ∙ call_closed n.frames n.around n.around inner.mark inner.pend fits.plain)));
+        run = goes (no_slash t kind.LParen refl) (behind_paren t n a on (fits_settled p n fits)) (joins inner.run (one (no_slash (ended inner.state last) kind.RParen refl) (end_paren inner.state last b ∙ call_closed n.frames n.around n.around inner.mark inner.pend fits.plain)));
         keeps = inner.keeps;
       };
 }
@@ -259,7 +254,6 @@ comma_runs p xs ys b list item = record {
         pend = r.pend;
         run = joins l.run (goes (no_slash (ended l.state (over fs a l.mark l.pend)) kind.Comma refl) (comma_row l.state fs a l.mark l.pend b sep rests.calm) r.run);
         label = λ _. r.label refl;
-        yields = λ h. ends_more xs ys (token kind.Comma b) (r.yields h);
         keeps = λ h. r.keeps (l.keeps h);
       };
 }
@@ -280,7 +274,6 @@ comma_spread_runs p xs ys b c list item = record {
         pend = r.pend;
         run = joins l.run (goes (no_slash (ended l.state (over fs a l.mark l.pend)) kind.Comma refl) (comma_row l.state fs a l.mark l.pend b sep rests.calm) (goes (no_slash (at state.Operand (nested fs a l.pend)) kind.DotDotDot refl) (spread_row (nested fs a l.pend) c) r.run));
         label = λ _. r.label refl;
-        yields = λ h. ends_more xs (token kind.DotDotDot c ∷ ys) (token kind.Comma b) (ends_after ys (token kind.DotDotDot c) (r.yields h));
         keeps = λ h. r.keeps (l.keeps h);
       };
 }
@@ -295,7 +288,7 @@ spread_runs p xs b item = record {
   runs = λ s fs a before rests sep o.
       let n = nested fs a before in
       let r = item.runs AtOperand fs a Bare before rests refl in
-      record { state = r.state; mark = r.mark; pend = r.pend; run = goes (no_slash (begin s n) kind.DotDotDot refl) (from_start s n kind.DotDotDot b xs state.Operand n refl o (spread-once n b)) r.run; label = λ _. r.label refl; yields = λ h. ends_after xs (token kind.DotDotDot b) (r.yields h); keeps = r.keeps };
+      record { state = r.state; mark = r.mark; pend = r.pend; run = goes (no_slash (begin s n) kind.DotDotDot refl) (from_start s n kind.DotDotDot b xs state.Operand n refl o (spread-once n b)) r.run; label = λ _. r.label refl; keeps = r.keeps };
 }
 
 -- Operators
@@ -366,10 +359,10 @@ pub binary_runs : (p : Parameters) (xs ys : List Token) (op : BinOpToken) (b : B
 binary_runs p xs ys op b left right = infixed p xs ys (token (kind.BinOp op) b) refl (λ c n fits. behind_binary c n op b (fits_settled p n fits) fits.lone) left right
 
 pub in_runs : (p : Parameters) (xs ys : List Token) (b : Bool) → p.takes_in ≡ true → OperandRuns p xs → OperandRuns p ys → OperandRuns p (xs ++ reserved keyword.In b ∷ ys)
-in_runs p xs ys b takes left right = infixed p xs ys (reserved keyword.In b) refl (λ c n fits. (behind_in c n b (fits_settled p n fits) (fits.declared takes)).0) left right
+in_runs p xs ys b takes left right = infixed p xs ys (reserved keyword.In b) refl (λ c n fits. behind_in c n b (fits_settled p n fits) (fits.declared takes)) left right
 
-pub instanceof_runs : (p : Parameters) (xs ys : List Token) (b : Bool) → p.takes_in ≡ true → OperandRuns p xs → OperandRuns p ys → OperandRuns p (xs ++ reserved keyword.InstanceOf b ∷ ys)
-instanceof_runs p xs ys b takes left right = infixed p xs ys (reserved keyword.InstanceOf b) refl (λ c n fits. (behind_in c n b (fits_settled p n fits) (fits.declared takes)).1) left right
+pub instanceof_runs : (p : Parameters) (xs ys : List Token) (b : Bool) → OperandRuns p xs → OperandRuns p ys → OperandRuns p (xs ++ reserved keyword.InstanceOf b ∷ ys)
+instanceof_runs p xs ys b left right = infixed p xs ys (reserved keyword.InstanceOf b) refl (λ c n fits. behind_instanceof c n b (fits_settled p n fits)) left right
 
 -- Conditionals and assignments
 
@@ -378,7 +371,7 @@ operand_assigned p xs operand = record {
   some = operand.some;
   runs = λ s fs a m before rests o.
       let r = operand.runs s (over fs a m before) (rests_fits p fs a m before rests) o in
-      record { state = Whole r.state; mark = m; pend = r.pend; run = r.run; label = r.label; yields = λ h. absurd (true_false (sym h)); keeps = r.keeps };
+      record { state = Whole r.state; mark = m; pend = r.pend; run = r.run; label = r.label; keeps = r.keeps };
 }
 
 pub assignment_runs : (p : Parameters) (xs ys : List Token) (op : AssignOp) (b : Bool) → OperandRuns p xs → AssignmentRuns p ys → AssignmentRuns p (xs ++ token (kind.AssignOp op) b ∷ ys)
@@ -395,7 +388,6 @@ assignment_runs p xs ys op b left right = record {
         pend = r.pend;
         run = joins l.run (goes (right_division (completed l.state n) (kind.AssignOp op) (completed_divides l.state n) refl) (behind_assign l.state n op b (fits_settled p n fits) fits.lone) r.run);
         label = λ _. r.label refl;
-        yields = λ h. ends_more xs ys (token (kind.AssignOp op) b) (r.yields h);
         keeps = λ h. r.keeps (l.keeps h);
       };
 }
@@ -423,7 +415,6 @@ conditional_runs p xs ys zs b c test first second = record {
         pend = z.pend;
         run = joins t.run (goes (no_slash (completed t.state n) kind.QuestionMark refl) (behind_question (completed t.state n) n b (complete_reads_on t.state n) (fits_settled p n (rests_fits p fs a m t.pend rests))) (joins y.run (goes (no_slash (ended y.state last) kind.Colon refl) (end_colon y.state last (over fs a m y.pend) state.Operand c (y.label refl) closed.0 closed.1 closed.2) z.run)));
         label = λ _. z.label refl;
-        yields = λ h. ends_behind xs (token kind.QuestionMark b ∷ ys ++ token kind.Colon c ∷ zs) (ends_more (token kind.QuestionMark b ∷ ys) zs (token kind.Colon c) (z.yields h));
         keeps = λ h. z.keeps (y.keeps (t.keeps h));
       };
 }

@@ -1,6 +1,6 @@
 -- Functions of the grammar run: parameters, bodies, function expressions and arrow functions, one lemma for each form of
 -- production
-use Rattle.std.proofs.Common.{append_assoc, subst, ◌≡◌, ◌∙◌, ap, Bool, true, false, List, [], ◌∷◌, ◌++◌, Some, refl, sym}
+use Rattle.std.proofs.Common.{append_assoc, subst, ◌≡◌, ◌∙◌, ap, Bool, true, false, List, [], ◌∷◌, ◌++◌, Some, refl}
 use Rattle.ecma_word.specs.declared.keyword.Keyword.TheVariants as keyword
 use Rattle.ecma_word.specs.declared.word.WordKind.{WordKind}
 use Rattle.ecma_word.specs.declared.word.WordKind.TheVariants as word
@@ -23,35 +23,35 @@ use Rattle.ecma_role_table.specs.declared.moves.Turn.TheVariants.{Done}
 use Rattle.ecma_role_table.specs.Parts.{part_of_kind, part_of_word}
 use Rattle.ecma_role_table.specs.Statements as statements
 use Rattle.ecma_role_table.specs.Table.{row}
-use Rattle.ecma_roles.specs.Moves.{arrow, arrow_over, fresh_of, changed, decorating, moved, paren, turned_to}
-use Rattle.ecma_roles.specs.Nest.{function, within, Nested, dropped_from, framed, nested, no_function, pushed}
+use Rattle.ecma_role_moves.specs.Moves.{arrow, arrow_over, fresh_of, changed, decorating, moved, paren, turned_to}
+use Rattle.ecma_role_moves.specs.Nest.{function, within, Nested, dropped_from, framed, nested, no_function, pushed}
 use Rattle.ecma_roles.specs.Track.{read_once, read_times, reading, stepped}
 use Rattle.ecma_role_grammar.specs.Tokens.{Token, part, token}
-use Rattle.ecma_role_grammar.specs.Grammar.{Parameters, async, begins_brace, ends_in_yield, in_arrow, in_function, is_identifier, is_identifier_kind, is_optional_name, reserved, star, with_in}
+use Rattle.ecma_role_grammar.specs.Grammar.{Parameters, async, begins_brace, in_arrow, in_function, is_identifier, is_identifier_kind, is_optional_name, reserved, star, with_in}
 use Rattle.ecma_role_grammar.specs.Laws.{around_of}
-use Rattle.ecma_role_grammar.proofs.Runs.{Run, goes, is_slash, joins, no_slash, one, stays, true_false}
-use Rattle.ecma_role_grammar.proofs.Places.{AssignmentRuns, AsyncAsOne, AsyncHead, AsyncHeadRuns, AsyncList, AsyncNone, AsyncOne, AtArrowBody, AtStatement, Bare, BodyRuns, Braces, Concise, Declared, Expressed, Finish, FunctionRuns, Grouped, Head, HeadOperand, HeadParameters, HeadRuns, Heading, InsideRuns, ItemRuns, Methodic, Open, Opened, OperandRuns, Over, ParameterRuns, Plain, Rests, Shut, Start, async_state, at, at_landed, begin, body_frame, body_state, ended, ends_more, finished, head_state, heading_frame, is_statement, is_yielding_finish, opens, opens_front, other_behind, over, rests_fits, sign_part, some_front, top_of}
+use Rattle.ecma_role_grammar.proofs.Runs.{Run, goes, is_slash, joins, no_slash, one, stays}
+use Rattle.ecma_role_grammar.proofs.Places.{AssignmentRuns, AsyncAsOne, AsyncHead, AsyncHeadRuns, AsyncList, AsyncNone, AsyncOne, AtArrowBody, AtStatement, Bare, BodyRuns, Braces, Concise, Declared, Expressed, Finish, FunctionRuns, Grouped, Head, HeadOperand, HeadParameters, HeadRuns, Heading, InsideRuns, ItemRuns, Methodic, Open, Opened, OperandRuns, Over, ParameterRuns, Plain, Rests, Shut, Start, async_state, at, at_landed, begin, body_frame, body_state, ended, finished, head_state, heading_frame, is_statement, opens, opens_front, over, rests_fits, sign_part, some_front, top_of}
 use Rattle.ecma_role_grammar.proofs.Starts.{AsyncFirst, AsyncOperand, AsyncPlace, async_from, async_operand_from, async_place_state, identifier_name, name_of, from_start}
-use Rattle.ecma_role_grammar.proofs.Behind.{as_after, end_group, end_paren, is_word_part, word_word}
-use Rattle.ecma_role_grammar.proofs.Expressions.{comma_row, group_closed, held, no_yield, paren_row}
+use Rattle.ecma_role_grammar.proofs.Behind.{as_after, end_paren, is_word_part, word_word}
+use Rattle.ecma_role_grammar.proofs.Expressions.{comma_row, group_closed, held, paren_row}
 
 -- Parameters
 
 pub no_parameters_run : (p : Parameters) → ParameterRuns p []
-no_parameters_run p = record { runs = λ fs a before rests sep. record { finish = Open; pend = before; run = stays (at state.Operand (nested fs a before)); yields = λ h. absurd (true_false (sym h)); keeps = λ h. h } }
+no_parameters_run p = record { runs = λ fs a before rests sep. record { finish = Open; pend = before; run = stays (at state.Operand (nested fs a before)); keeps = λ h. h } }
 
 pub parameters_run : (p : Parameters) (xs : List Token) → ItemRuns p xs → ParameterRuns p xs
 parameters_run p xs items = record {
   runs = λ fs a before rests sep.
       let r = items.runs fs a before rests sep in
-      record { finish = Shut r.state r.mark; pend = r.pend; run = r.run; yields = r.yields; keeps = r.keeps };
+      record { finish = Shut r.state r.mark; pend = r.pend; run = r.run; keeps = r.keeps };
 }
 
 pub parameters_comma_run : (p : Parameters) (xs : List Token) (b : Bool) → ItemRuns p xs → ParameterRuns p (xs ++ token kind.Comma b ∷ [])
 parameters_comma_run p xs b items = record {
   runs = λ fs a before rests sep.
       let r = items.runs fs a before rests sep in
-      record { finish = Open; pend = r.pend; run = joins r.run (one (no_slash (ended r.state (over fs a r.mark r.pend)) kind.Comma refl) (comma_row r.state fs a r.mark r.pend b sep rests.calm)); yields = λ h. absurd (true_false (sym h)); keeps = r.keeps };
+      record { finish = Open; pend = r.pend; run = joins r.run (one (no_slash (ended r.state (over fs a r.mark r.pend)) kind.Comma refl) (comma_row r.state fs a r.mark r.pend b sep rests.calm)); keeps = r.keeps };
 }
 
 -- Parameters and body
@@ -67,7 +67,7 @@ shut-parameters fs a kept (Concise b) pend = refl
 
 parameters-closed : (f : Finish) (fs : List Frame) (a kept pend : Around) (b : Bool) → stepped (finished f (record { kind = frame.Parameters; kept = kept } ∷ fs) a pend) (part (token kind.RParen b)) ≡ at state.HeadEnd (nested fs a pend)
 parameters-closed Open fs a kept pend b = open-parameters fs a kept pend b
-parameters-closed (Shut e m) fs a kept pend b = end_paren e frame.Parameters kept fs a m pend b refl ∙ shut-parameters fs a kept m pend
+parameters-closed (Shut e m) fs a kept pend b = end_paren e (over (record { kind = frame.Parameters; kept = kept } ∷ fs) a m pend) b ∙ shut-parameters fs a kept m pend
 
 body-opened : (h : Heading) (fs : List Frame) (a kept pend : Around) (b : Bool) → stepped (at state.HeadEnd (nested (record { kind = heading_frame h; kept = kept } ∷ fs) a pend)) (part (token kind.LBrace b)) ≡ at state.Statement (nested (record { kind = body_frame h; kept = kept } ∷ fs) a pend)
 unfolding read_times read_once row moved changed
@@ -186,21 +186,17 @@ none-closed : (fs : List Frame) (a kept pend : Around) (b : Bool) → stepped (a
 unfolding read_times read_once row moved changed dropped_from
 none-closed fs a kept pend b = refl
 
-no-yield : (f : Finish) (xs : List Token) → (is_yielding_finish f ≡ true → ends_in_yield xs ≡ true) → ends_in_yield xs ≡ false → is_yielding_finish f ≡ false
-no-yield Open xs h other = refl
-no-yield (Shut e m) xs h other = no_yield e xs h other
-
 group-head : (f : Finish) → Head
 group-head Open = HeadParameters
 group-head (Shut e m) = HeadOperand Grouped
 
-group-end : (f : Finish) (fs : List Frame) (a kept pend : Around) (b : Bool) → ((s : State) → decorating (top_of fs) s ≡ s) → is_yielding_finish f ≡ false → stepped (finished f (record { kind = frame.Paren; kept = kept } ∷ fs) a pend) (part (token kind.RParen b)) ≡ at (head_state (group-head f)) (nested fs a pend)
+group-end : (f : Finish) (fs : List Frame) (a kept pend : Around) (b : Bool) → ((s : State) → decorating (top_of fs) s ≡ s) → stepped (finished f (record { kind = frame.Paren; kept = kept } ∷ fs) a pend) (part (token kind.RParen b)) ≡ at (head_state (group-head f)) (nested fs a pend)
 unfolding group-head
-group-end Open fs a kept pend b plain other = none-closed fs a kept pend b
-group-end (Shut e m) fs a kept pend b plain other = end_group e (over (record { kind = frame.Paren; kept = kept } ∷ fs) a m pend) b other ∙ group_closed fs a kept m pend plain
+group-end Open fs a kept pend b plain = none-closed fs a kept pend b
+group-end (Shut e m) fs a kept pend b plain = end_paren e (over (record { kind = frame.Paren; kept = kept } ∷ fs) a m pend) b ∙ group_closed fs a kept m pend plain
 
-pub group_head : (p : Parameters) (xs : List Token) (a b : Bool) → ends_in_yield xs ≡ false → ParameterRuns (with_in p) xs → HeadRuns p (token kind.LParen a ∷ xs ++ token kind.RParen b ∷ [])
-group_head p xs a b other params = record {
+pub group_head : (p : Parameters) (xs : List Token) (a b : Bool) → ParameterRuns (with_in p) xs → HeadRuns p (token kind.LParen a ∷ xs ++ token kind.RParen b ∷ [])
+group_head p xs a b params = record {
   some = refl;
   runs = λ s n fits o.
       let fs : List Frame = framed frame.Paren n.around n.pending ∷ n.frames in
@@ -208,7 +204,7 @@ group_head p xs a b other params = record {
       record {
         head = group-head r.finish;
         pend = r.pend;
-        run = goes (no_slash (begin s n) kind.LParen refl) (from_start s n kind.LParen a (xs ++ token kind.RParen b ∷ []) state.Operand (pushed frame.Paren n) refl o (paren_row n a)) (joins r.run (one (no_slash (finished r.finish fs n.around r.pend) kind.RParen refl) (group-end r.finish n.frames n.around n.around r.pend b fits.plain (no-yield r.finish xs r.yields other))));
+        run = goes (no_slash (begin s n) kind.LParen refl) (from_start s n kind.LParen a (xs ++ token kind.RParen b ∷ []) state.Operand (pushed frame.Paren n) refl o (paren_row n a)) (joins r.run (one (no_slash (finished r.finish fs n.around r.pend) kind.RParen refl) (group-end r.finish n.frames n.around n.around r.pend b fits.plain)));
         keeps = r.keeps;
       };
 }
@@ -263,13 +259,13 @@ async-head : (f : Finish) → AsyncHead
 async-head Open = AsyncNone
 async-head (Shut e m) = AsyncList
 
-async-end : (f : Finish) (fs : List Frame) (a kept pend : Around) (b : Bool) → is_yielding_finish f ≡ false → stepped (finished f (record { kind = frame.AsyncParen; kept = kept } ∷ fs) a pend) (part (token kind.RParen b)) ≡ at (async_state (async-head f)) (nested fs a pend)
+async-end : (f : Finish) (fs : List Frame) (a kept pend : Around) (b : Bool) → stepped (finished f (record { kind = frame.AsyncParen; kept = kept } ∷ fs) a pend) (part (token kind.RParen b)) ≡ at (async_state (async-head f)) (nested fs a pend)
 unfolding async-head
-async-end Open fs a kept pend b other = async-none-closed fs a kept pend b
-async-end (Shut e m) fs a kept pend b other = end_group e (over (record { kind = frame.AsyncParen; kept = kept } ∷ fs) a m pend) b other ∙ async-closed fs a kept m pend
+async-end Open fs a kept pend b = async-none-closed fs a kept pend b
+async-end (Shut e m) fs a kept pend b = end_paren e (over (record { kind = frame.AsyncParen; kept = kept } ∷ fs) a m pend) b ∙ async-closed fs a kept m pend
 
-pub async_group_head : (p : Parameters) (xs : List Token) (a b : Bool) → ends_in_yield xs ≡ false → ParameterRuns (with_in p) xs → AsyncHeadRuns p (async a ∷ (token kind.LParen false ∷ xs ++ token kind.RParen b ∷ []))
-async_group_head p xs a b other params = record {
+pub async_group_head : (p : Parameters) (xs : List Token) (a b : Bool) → ParameterRuns (with_in p) xs → AsyncHeadRuns p (async a ∷ (token kind.LParen false ∷ xs ++ token kind.RParen b ∷ []))
+async_group_head p xs a b params = record {
   some = refl;
   runs = λ s n fits o.
       let fs : List Frame = framed frame.AsyncParen n.around n.pending ∷ n.frames in
@@ -278,17 +274,17 @@ async_group_head p xs a b other params = record {
       record {
         head = async-head r.finish;
         pend = r.pend;
-        run = goes (no_slash (begin s n) (kind.Word (word.Ident (ident.Known known.Async))) refl) q.is (goes (no_slash (at (async_place_state q.place) n) kind.LParen refl) (async-paren-row q.place n false) (joins r.run (one (no_slash (finished r.finish fs n.around r.pend) kind.RParen refl) (async-end r.finish n.frames n.around n.around r.pend b (no-yield r.finish xs r.yields other)))));
+        run = goes (no_slash (begin s n) (kind.Word (word.Ident (ident.Known known.Async))) refl) q.is (goes (no_slash (at (async_place_state q.place) n) kind.LParen refl) (async-paren-row q.place n false) (joins r.run (one (no_slash (finished r.finish fs n.around r.pend) kind.RParen refl) (async-end r.finish n.frames n.around n.around r.pend b))));
         keeps = r.keeps;
       };
 }
 
 -- lists that end in a comma
 pub group_comma_head : (p : Parameters) (xs : List Token) (a b c : Bool) → ItemRuns (with_in p) xs → HeadRuns p (token kind.LParen a ∷ xs ++ token kind.Comma b ∷ token kind.RParen c ∷ [])
-group_comma_head p xs a b c items = subst (λ ys. HeadRuns p (token kind.LParen a ∷ ys)) (append_assoc xs (token kind.Comma b ∷ []) (token kind.RParen c ∷ [])) (group_head p (xs ++ token kind.Comma b ∷ []) a c (other_behind xs (token kind.Comma b) refl) (parameters_comma_run (with_in p) xs b items))
+group_comma_head p xs a b c items = subst (λ ys. HeadRuns p (token kind.LParen a ∷ ys)) (append_assoc xs (token kind.Comma b ∷ []) (token kind.RParen c ∷ [])) (group_head p (xs ++ token kind.Comma b ∷ []) a c (parameters_comma_run (with_in p) xs b items))
 
 pub async_comma_head : (p : Parameters) (xs : List Token) (a b c : Bool) → ItemRuns (with_in p) xs → AsyncHeadRuns p (async a ∷ (token kind.LParen false ∷ xs ++ token kind.Comma b ∷ token kind.RParen c ∷ []))
-async_comma_head p xs a b c items = subst (λ ys. AsyncHeadRuns p (async a ∷ token kind.LParen false ∷ ys)) (append_assoc xs (token kind.Comma b ∷ []) (token kind.RParen c ∷ [])) (async_group_head p (xs ++ token kind.Comma b ∷ []) a c (other_behind xs (token kind.Comma b) refl) (parameters_comma_run (with_in p) xs b items))
+async_comma_head p xs a b c items = subst (λ ys. AsyncHeadRuns p (async a ∷ token kind.LParen false ∷ ys)) (append_assoc xs (token kind.Comma b ∷ []) (token kind.RParen c ∷ [])) (async_group_head p (xs ++ token kind.Comma b ∷ []) a c (parameters_comma_run (with_in p) xs b items))
 
 -- Bodies of arrow functions
 
@@ -296,7 +292,7 @@ pub expression_body : (p : Parameters) (xs : List Token) → begins_brace xs ≡
 expression_body p xs h item = record {
   runs = λ fs a before rests.
       let r = item.runs AtArrowBody fs a (Concise (around_of p)) before rests (rw h refl) in
-      record { place = r.state; mark = r.mark; pend = r.pend; run = r.run; label = r.label refl; yields = r.yields; keeps = r.keeps };
+      record { place = r.state; mark = r.mark; pend = r.pend; run = r.run; label = r.label refl; keeps = r.keeps };
 }
 
 arrow-opened : (fs : List Frame) (a inside pend : Around) (b : Bool) → stepped (at state.ArrowBody (over fs a (Concise inside) pend)) (part (token kind.LBrace b)) ≡ at state.Statement (nested (record { kind = frame.ArrowBody; kept = a } ∷ fs) inside pend)
@@ -319,7 +315,6 @@ braces_body p xs a b body = record {
         pend = no_function;
         run = goes (no_slash (at state.ArrowBody (over fs around (Concise inside) before)) kind.LBrace refl) (arrow-opened fs around inside before a) (joins r.run (one (no_slash r.after kind.RBrace refl) (r.closes b ∙ arrow-closed fs around inside r.pend b)));
         label = refl;
-        yields = λ h. absurd (true_false (sym h));
         keeps = λ h. refl;
       };
 }
@@ -361,7 +356,6 @@ arrow_runs p xs ys head body = record {
         pend = r.pend;
         run = joins h.run (goes (no_slash (at (head_state h.head) n) kind.Arrow refl) (arrow-row h.head n ∙ ap (at state.ArrowBody) (arrow-set false fs a m h.pend rests.no_arrow)) r.run);
         label = λ _. r.label;
-        yields = λ k. ends_more xs ys (token kind.Arrow false) (r.yields k);
         keeps = λ k. r.keeps (h.keeps k);
       };
 }
@@ -379,7 +373,6 @@ async_arrow_runs p xs ys head body = record {
         pend = r.pend;
         run = joins h.run (goes (no_slash (at (async_state h.head) n) kind.Arrow refl) (async-arrow-row h.head n ∙ ap (at state.ArrowBody) (arrow-set true fs a m h.pend rests.no_arrow)) r.run);
         label = λ _. r.label;
-        yields = λ k. ends_more xs ys (token kind.Arrow false) (r.yields k);
         keeps = λ k. r.keeps (h.keeps k);
       };
 }

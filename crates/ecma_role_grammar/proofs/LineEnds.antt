@@ -14,8 +14,8 @@ use Rattle.ecma_role_table.specs.declared.frame.Kinds.TheVariants as kinds
 use Rattle.ecma_role_table.specs.declared.state.State.TheVariants as state
 use Rattle.ecma_role_table.specs.declared.moves.Turn.TheVariants.{Again}
 use Rattle.ecma_role_table.specs.Table.{row}
-use Rattle.ecma_roles.specs.Moves.{changed, fresh_of, moved, turned_to}
-use Rattle.ecma_roles.specs.Nest.{Nested, dropped, nested, top, under}
+use Rattle.ecma_role_moves.specs.Moves.{changed, fresh_of, moved, turned_to}
+use Rattle.ecma_role_moves.specs.Nest.{Nested, dropped, nested, top, under}
 use Rattle.ecma_roles.specs.Track.{Reading, TrackView, ends_candidates, read_left, read_once, read_times, reading, stepped, track}
 use Rattle.ecma_role_grammar.specs.Tokens.{Token, part, token}
 use Rattle.ecma_role_grammar.specs.Grammar.{begins_anew, begins_anew_kind}

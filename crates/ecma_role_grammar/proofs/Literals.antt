@@ -13,18 +13,18 @@ use Rattle.ecma_role_table.specs.declared.state.State.TheVariants as state
 use Rattle.ecma_role_table.specs.declared.moves.Turn.TheVariants.{Done}
 use Rattle.ecma_role_table.specs.Parts.{part_of_kind}
 use Rattle.ecma_role_table.specs.Table.{row}
-use Rattle.ecma_roles.specs.Moves.{changed, comma, moved, turned_to}
-use Rattle.ecma_roles.specs.Nest.{Nested, dropped, dropped_from, framed, nested, no_function, pending, pushed}
+use Rattle.ecma_role_moves.specs.Moves.{changed, comma, moved, turned_to}
+use Rattle.ecma_role_moves.specs.Nest.{Nested, dropped, dropped_from, framed, nested, no_function, pending, pushed}
 use Rattle.ecma_roles.specs.Track.{TrackView, read_once, read_times, stepped}
 use Rattle.ecma_role_grammar.specs.Tokens.{Token, part, token}
 use Rattle.ecma_role_grammar.specs.Grammar.{Parameters, is_on_line, reserved, with_in}
 use Rattle.ecma_role_grammar.specs.Laws.{around_of}
 use Rattle.ecma_role_grammar.proofs.Runs.{goes, joins, no_slash, one, stays}
-use Rattle.ecma_role_grammar.proofs.Places.{AssignmentRuns, AtOperand, AtRestricted, Bare, BehindRuns, Concise, Follows, GapRuns, ItemRuns, ListRuns, OperandRuns, Over, Plain, SpanRuns, Spans, Yielding, at, at_landed, begin, ended, ends_after, ends_behind, ends_more, fits_settled, over}
+use Rattle.ecma_role_grammar.proofs.Places.{AssignmentRuns, AtOperand, AtRestricted, Bare, BehindRuns, Concise, Follows, GapRuns, ItemRuns, ListRuns, OperandRuns, Over, Plain, SpanRuns, Spans, Yielding, at, at_landed, begin, ended, fits_settled, over}
 use Rattle.ecma_role_grammar.proofs.Starts.{FromOperand, FromStatement, Importing, await_from, import_from, import_state, yield_from, begun, from_start}
 use Rattle.ecma_role_grammar.proofs.Behind.{behind_back_quote, end_brace, optional_name, optional_reads_on, plain_reads_on, property_hash, question_dot, behind_dot, behind_in, behind_question, end_bracket, end_paren, property_name}
 use Rattle.ecma_role_grammar.proofs.Expressions.{call_closed, comma_moved, comma_row, fits_pend, followed, held, index_closed, new_row, single, spread_row}
-use Rattle.ecma_roles.specs.Moves.{brace}
+use Rattle.ecma_role_moves.specs.Moves.{brace}
 
 -- Words that are operands, and what stands behind them
 
@@ -90,7 +90,7 @@ import_call_runs p xs a b c item = record {
       record {
         state = Plain;
         pend = inner.pend;
-        run = goes (no_slash (begin s n) (kind.Word (word.Keyword keyword.Import)) refl) i.is (goes (no_slash (at (import_state i.place) n) kind.LParen refl) (import-paren i.place n b (fits_settled p n fits)) (joins inner.run (one (no_slash (ended inner.state last) kind.RParen refl) (end_paren inner.state frame.Call n.around n.frames n.around inner.mark inner.pend c refl ∙ call_closed n.frames n.around n.around inner.mark inner.pend fits.plain))));
+        run = goes (no_slash (begin s n) (kind.Word (word.Keyword keyword.Import)) refl) i.is (goes (no_slash (at (import_state i.place) n) kind.LParen refl) (import-paren i.place n b (fits_settled p n fits)) (joins inner.run (one (no_slash (ended inner.state last) kind.RParen refl) (end_paren inner.state last c ∙ call_closed n.frames n.around n.around inner.mark inner.pend fits.plain))));
         label = λ _. refl;
         keeps = inner.keeps;
       };
@@ -160,7 +160,7 @@ private_in_runs p xs w a b c takes right = record {
       record {
         state = r.state;
         pend = r.pend;
-        run = goes (no_slash (begin s n) kind.Hash refl) (from_start s n kind.Hash a (token (kind.Word w) b ∷ reserved keyword.In c ∷ xs) state.Property n refl o (hash-row n a)) (goes (no_slash (at state.Property n) (kind.Word w) refl) (property_name n w b) (goes (no_slash (at state.After n) (kind.Word (word.Keyword keyword.In)) refl) (behind_in Plain n c (fits_settled p n fits) (fits.declared takes)).0 r.run));
+        run = goes (no_slash (begin s n) kind.Hash refl) (from_start s n kind.Hash a (token (kind.Word w) b ∷ reserved keyword.In c ∷ xs) state.Property n refl o (hash-row n a)) (goes (no_slash (at state.Property n) (kind.Word w) refl) (property_name n w b) (goes (no_slash (at state.After n) (kind.Word (word.Keyword keyword.In)) refl) (behind_in Plain n c (fits_settled p n fits) (fits.declared takes)) r.run));
         label = λ _. r.label refl;
         keeps = r.keeps;
       };
@@ -187,7 +187,7 @@ yield_alone_runs p b h = record {
   some = refl;
   runs = λ s fs a m before rests o.
       let n = over fs a m before in
-      record { state = Yielding; mark = m; pend = before; run = one (no_slash (begin s n) (kind.Word (word.Keyword keyword.Yield)) refl) (yield_from s n b [] (is-generator p n rests.around h) o); label = λ _. refl; yields = λ _. refl; keeps = λ k. k };
+      record { state = Yielding; mark = m; pend = before; run = one (no_slash (begin s n) (kind.Word (word.Keyword keyword.Yield)) refl) (yield_from s n b [] (is-generator p n rests.around h) o); label = λ _. refl; keeps = λ k. k };
 }
 
 pub yield_runs : (p : Parameters) (xs : List Token) (b : Bool) → p.is_generator ≡ true → is_on_line xs ≡ true → AssignmentRuns p xs → AssignmentRuns p (reserved keyword.Yield b ∷ xs)
@@ -196,7 +196,7 @@ yield_runs p xs b h line item = record {
   runs = λ s fs a m before rests o.
       let n = over fs a m before in
       let r = item.runs AtRestricted fs a m before rests line in
-      record { state = r.state; mark = r.mark; pend = r.pend; run = goes (no_slash (begin s n) (kind.Word (word.Keyword keyword.Yield)) refl) (yield_from s n b xs (is-generator p n rests.around h) o) r.run; label = λ _. r.label refl; yields = λ h. ends_after xs (reserved keyword.Yield b) (r.yields h); keeps = r.keeps };
+      record { state = r.state; mark = r.mark; pend = r.pend; run = goes (no_slash (begin s n) (kind.Word (word.Keyword keyword.Yield)) refl) (yield_from s n b xs (is-generator p n rests.around h) o) r.run; label = λ _. r.label refl; keeps = r.keeps };
 }
 
 star-row : (n : Nested) → stepped (at state.Restricted n) (part (token (kind.BinOp binary.Mul) false)) ≡ at state.Operand n
@@ -209,7 +209,7 @@ yield_from_runs p xs b h item = record {
   runs = λ s fs a m before rests o.
       let n = over fs a m before in
       let r = item.runs AtOperand fs a m before rests refl in
-      record { state = r.state; mark = r.mark; pend = r.pend; run = goes (no_slash (begin s n) (kind.Word (word.Keyword keyword.Yield)) refl) (yield_from s n b (token (kind.BinOp binary.Mul) false ∷ xs) (is-generator p n rests.around h) o) (goes (no_slash (at state.Restricted n) (kind.BinOp binary.Mul) refl) (star-row n) r.run); label = λ _. r.label refl; yields = λ h. ends_after (token (kind.BinOp binary.Mul) false ∷ xs) (reserved keyword.Yield b) (ends_after xs (token (kind.BinOp binary.Mul) false) (r.yields h)); keeps = r.keeps };
+      record { state = r.state; mark = r.mark; pend = r.pend; run = goes (no_slash (begin s n) (kind.Word (word.Keyword keyword.Yield)) refl) (yield_from s n b (token (kind.BinOp binary.Mul) false ∷ xs) (is-generator p n rests.around h) o) (goes (no_slash (at state.Restricted n) (kind.BinOp binary.Mul) refl) (star-row n) r.run); label = λ _. r.label refl; keeps = r.keeps };
 }
 
 -- Templates
@@ -356,7 +356,7 @@ pub gap_item_runs : (p : Parameters) (xs ys : List Token) → GapRuns xs → Ite
 gap_item_runs p xs ys gap items = record {
   runs = λ fs a before rests sep.
       let r = items.runs fs a before rests sep in
-      record { state = r.state; mark = r.mark; pend = r.pend; run = joins (gap.runs fs a before sep rests.calm) r.run; label = r.label; yields = λ h. ends_behind xs ys (r.yields h); keeps = r.keeps };
+      record { state = r.state; mark = r.mark; pend = r.pend; run = joins (gap.runs fs a before sep rests.calm) r.run; label = r.label; keeps = r.keeps };
 }
 
 pub spread_item_runs : (p : Parameters) (xs : List Token) (b : Bool) → AssignmentRuns p xs → ItemRuns p (token kind.DotDotDot b ∷ xs)
@@ -364,7 +364,7 @@ spread_item_runs p xs b item = record {
   runs = λ fs a before rests sep.
       let n = nested fs a before in
       let r = item.runs AtOperand fs a Bare before rests refl in
-      record { state = r.state; mark = r.mark; pend = r.pend; run = goes (no_slash (at state.Operand n) kind.DotDotDot refl) (spread_row n b) r.run; label = r.label; yields = λ h. ends_after xs (token kind.DotDotDot b) (r.yields h); keeps = r.keeps };
+      record { state = r.state; mark = r.mark; pend = r.pend; run = goes (no_slash (at state.Operand n) kind.DotDotDot refl) (spread_row n b) r.run; label = r.label; keeps = r.keeps };
 }
 
 pub more_item_runs : (p : Parameters) (xs ys : List Token) (b : Bool) → ItemRuns p xs → ItemRuns p ys → ItemRuns p (xs ++ token kind.Comma b ∷ ys)
@@ -378,7 +378,6 @@ more_item_runs p xs ys b first second = record {
         pend = r.pend;
         run = joins l.run (goes (no_slash (ended l.state (over fs a l.mark l.pend)) kind.Comma refl) (comma_row l.state fs a l.mark l.pend b sep rests.calm) r.run);
         label = r.label;
-        yields = λ h. ends_more xs ys (token kind.Comma b) (r.yields h);
         keeps = λ h. r.keeps (l.keeps h);
       };
 }

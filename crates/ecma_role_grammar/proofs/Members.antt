@@ -1,5 +1,5 @@
 -- Objects and classes of the grammar run: one lemma for each form of production
-use Rattle.std.proofs.Common.{◌≡◌, ◌∙◌, ap, Bool, true, false, not, List, [], ◌∷◌, ◌++◌, Some, refl, subst, sym, ◌&&◌, arith}
+use Rattle.std.proofs.Common.{◌≡◌, ◌∙◌, ap, Bool, true, false, not, List, [], ◌∷◌, ◌++◌, Some, refl, subst, sym}
 use Rattle.ecma_word.specs.declared.keyword.Keyword.TheVariants as keyword
 use Rattle.ecma_word.specs.declared.word.WordKind.{WordKind}
 use Rattle.ecma_word.specs.declared.word.WordKind.TheVariants as word
@@ -23,11 +23,11 @@ use Rattle.ecma_role_table.specs.declared.moves.Turn.TheVariants.{Done}
 use Rattle.ecma_role_table.specs.Parts.{part_of_kind, part_of_word}
 use Rattle.ecma_role_table.specs.Statements as statements
 use Rattle.ecma_role_table.specs.Table.{row}
-use Rattle.ecma_roles.specs.Moves.{brace, semi, bracket, changed, comma, moved, turned_to}
-use Rattle.ecma_roles.specs.Nest.{Nested, async_function, dropped, dropped_from, gains_async, loses_async, nested, no_function, pending, pushed}
+use Rattle.ecma_role_moves.specs.Moves.{brace, semi, bracket, changed, comma, moved, turned_to}
+use Rattle.ecma_role_moves.specs.Nest.{Nested, async_function, dropped, dropped_from, gains_async, loses_async, nested, no_function, pending, pushed}
 use Rattle.ecma_roles.specs.Track.{TrackView, read_once, read_times, reading, stepped}
 use Rattle.ecma_role_grammar.specs.Tokens.{Token, part, token}
-use Rattle.ecma_role_grammar.specs.Grammar.{Parameters, async, begins_async, in_function, is_accessor, is_async_word, is_identifier, is_identifier_kind, is_literal_name, is_member_word, is_on_line, is_optional_name, reserved, static, with_in, without_in}
+use Rattle.ecma_role_grammar.specs.Grammar.{Parameters, async, in_function, is_accessor, is_async_word, is_identifier, is_identifier_kind, is_literal_name, is_on_line, is_optional_name, reserved, static, with_in, without_in}
 use Rattle.ecma_role_grammar.specs.Laws.{around_of}
 use Rattle.ecma_role_grammar.proofs.Runs.{Run, goes, is_slash, joins, lands, no_slash, one, stays, true_false}
 use Rattle.ecma_role_grammar.proofs.Places.{AssignmentRuns, AtOperand, Bare, Complete, Concise, ElementRuns, Fits, FunctionRuns, Grouped, Holder, InClass, InClassExpression, InObject, InsideRuns, MemberRuns, Methodic, NameEnd, NameEnds, NameRuns, Opened, OperandRuns, Over, Plain, Postfix, PropertyEnd, PropertyRuns, Rests, TailRuns, ValueEnd, async_member_state, at, at_landed, begin, body_state, class_end, class_head_frame, class_holder, completed, ended, holder_frame, holder_nest, holder_state, is_label, is_name_place, name_state, named_pending, over, property_ended, rests_fits, sign_part}
@@ -98,7 +98,7 @@ name-row InClassExpression false n (Reserved r) b ok line = refl
 name-row InClassExpression true n (Reserved r) true ok line = absurd cc
 name-row InClassExpression true n (Reserved r) false ok line = refl
 
-member-word : (w : WordKind) → is_member_word w ≡ true → is_name_part (part_of_word w) ≡ true
+member-word : (w : WordKind) → is_async_word (kind.Word w) ≡ false → is_name_part (part_of_word w) ≡ true
 member-word (word.Keyword keyword.Await) h = refl
 member-word (word.Keyword k) h = refl
 member-word (word.Ident (ident.Known known.Async)) h = absurd cc
@@ -121,14 +121,8 @@ literal-name kind.Num h g = (refl, refl)
 literal-name kind.BigInt h g = (refl, refl)
 literal-name k h g = absurd cc
 
-and-left : (b c : Bool) → (b && c) ≡ true → b ≡ true
-and-left b c h = grind (arith, h)
-
-and-right : (b c : Bool) → (b && c) ≡ true → c ≡ true
-and-right b c h = grind (arith, h)
-
 first-line : (is_async b : Bool) (x : TokenKind) (xs : List Token) → is_name_place is_async (token x b ∷ xs) ≡ true → on_line is_async b ≡ true
-first-line true b x xs h = and-left (not b) (not (is_async_word x)) h
+first-line true b x xs h = h
 first-line false b x xs h = refl
 
 -- a name that is not `async`
@@ -139,42 +133,72 @@ plain-name k b h is_async kept fs a pend ok g line =
     one (no_slash (at (name_state h is_async) n) k l.0) (name-row h is_async n (part_of_kind k) b l.1 line)
 
 -- `async` as a name
-async-name-row : (h : Holder) (kept : Around) (fs : List Frame) (a pend : Around) (b : Bool) → stepped (at (holder_state h) (holder_nest h kept fs a pend)) (part (async b)) ≡ at (async_member_state h) (holder_nest h kept fs a (gains_async pend))
+gains-row : (h : Holder) (kept : Around) (fs : List Frame) (a : Around) (g b : Bool) → let pend : Around = record { is_async = false; is_generator = g } in stepped (at (holder_state h) (holder_nest h kept fs a pend)) (part (async b)) ≡ at (async_member_state h) (holder_nest h kept fs a (gains_async pend))
 unfolding read_times read_once row moved changed
-async-name-row InObject kept fs a pend b = refl
-async-name-row InClass kept fs a pend b = refl
-async-name-row InClassExpression kept fs a pend b = refl
+gains-row InObject kept fs a g b = refl
+gains-row InClass kept fs a g b = refl
+gains-row InClassExpression kept fs a g b = refl
 
-not-both : (b : Bool) → (b ≡ true → true ≡ false) → b ≡ false
-not-both false h = refl
-not-both true h = h refl
+async-name-row : (h : Holder) (kept : Around) (fs : List Frame) (a pend : Around) (b : Bool) → pend.is_async ≡ false → stepped (at (holder_state h) (holder_nest h kept fs a pend)) (part (async b)) ≡ at (async_member_state h) (holder_nest h kept fs a (gains_async pend))
+async-name-row h kept fs a pend b none =
+    let same : pend ≡ record { is_async = false; is_generator = pend.is_generator } = ap (λ i. let around : Around = record { is_async = i; is_generator = pend.is_generator } in around) none in
+    subst (λ q. stepped (at (holder_state h) (holder_nest h kept fs a q)) (part (async b)) ≡ at (async_member_state h) (holder_nest h kept fs a (gains_async q))) (sym same) (gains-row h kept fs a pend.is_generator b)
 
 is-async : (k : TokenKind) → is_async_word k ≡ true → k ≡ kind.Word (word.Ident (ident.Known known.Async))
 is-async (kind.Word (word.Ident (ident.Known known.Async))) h = refl
 is-async k h = absurd cc
 
-async-ends : (b : Bool) (h : Holder) (is_async : Bool) (kept : Around) (fs : List Frame) (a pend : Around) → is_name_place is_async (async b ∷ []) ≡ true → (pend.is_async ≡ true → begins_async (async b ∷ []) ≡ false) → NameEnds h is_async kept fs a pend (async b ∷ [])
-async-ends b h true kept fs a pend place none = absurd (true_false (sym (and-right (not b) false place)))
-async-ends b h false kept fs a pend place none = record { named = true; settled = λ _. not-both pend.is_async none; run = one (no_slash (at (holder_state h) (holder_nest h kept fs a pend)) (kind.Word (word.Ident (ident.Known known.Async))) refl) (async-name-row h kept fs a pend b) }
+-- `async` as a name where an async method is read
+kept-row : (h : Holder) (kept : Around) (fs : List Frame) (a : Around) (g b : Bool) → let n = holder_nest h kept fs a (record { is_async = true; is_generator = g }) in stepped (at (holder_state h) n) (part (async b)) ≡ at (holder_state h) n
+unfolding read_times read_once row moved changed
+kept-row InObject kept fs a g b = refl
+kept-row InClass kept fs a g b = refl
+kept-row InClassExpression kept fs a g b = refl
 
-literal-ends : (k : TokenKind) (b : Bool) (is_it : Bool) (h : Holder) (is_async : Bool) (kept : Around) (fs : List Frame) (a pend : Around) → is_async_word k ≡ is_it → is_literal_name k ≡ true → is_name_place is_async (token k b ∷ []) ≡ true → (pend.is_async ≡ true → begins_async (token k b ∷ []) ≡ false) → NameEnds h is_async kept fs a pend (token k b ∷ [])
-literal-ends k b false h is_async kept fs a pend g ok place none = record { named = false; settled = λ e. absurd (true_false (sym e)); run = plain-name k b h is_async kept fs a pend ok g (first-line is_async b k [] place) }
-literal-ends k b true h is_async kept fs a pend g ok place none =
-    let same = is-async k g in
-    subst (λ l. is_name_place is_async (token l b ∷ []) ≡ true → (pend.is_async ≡ true → begins_async (token l b ∷ []) ≡ false) → NameEnds h is_async kept fs a pend (token l b ∷ [])) (sym same) (async-ends b h is_async kept fs a pend) place none
+second-row : (h : Holder) (kept : Around) (fs : List Frame) (a : Around) (g : Bool) → let n = holder_nest h kept fs a (record { is_async = true; is_generator = g }) in stepped (at (async_member_state h) n) (part (async false)) ≡ at (holder_state h) n
+unfolding read_times read_once row moved changed
+second-row InObject kept fs a g = refl
+second-row InClass kept fs a g = refl
+second-row InClassExpression kept fs a g = refl
+
+is-pending : (i : Bool) (pend : Around) → pend.is_async ≡ i → pend ≡ record { is_async = i; is_generator = pend.is_generator }
+is-pending i pend is = ap (λ j. let around : Around = record { is_async = j; is_generator = pend.is_generator } in around) is
+
+async-kept : (h : Holder) (is_async : Bool) (kept : Around) (fs : List Frame) (a : Around) (g b : Bool) → on_line is_async b ≡ true → let n = holder_nest h kept fs a (record { is_async = true; is_generator = g }) in stepped (at (name_state h is_async) n) (part (async b)) ≡ at (holder_state h) n
+async-kept h false kept fs a g b line = kept-row h kept fs a g b
+async-kept h true kept fs a g false line = second-row h kept fs a g
+async-kept h true kept fs a g true line = absurd cc
+
+async-in : (b : Bool) (h : Holder) (is_async : Bool) (kept : Around) (fs : List Frame) (a pend : Around) (i : Bool) → pend.is_async ≡ i → on_line is_async b ≡ true → (is_async ≡ true → pend.is_async ≡ true) → NameEnds h is_async kept fs a pend (async b ∷ [])
+async-in b h is_async kept fs a pend true is line read = record {
+  named = false;
+  settled = λ e. absurd (true_false (sym e));
+  run = one (no_slash (at (name_state h is_async) (holder_nest h kept fs a pend)) (kind.Word (word.Ident (ident.Known known.Async))) refl) (subst (λ q. stepped (at (name_state h is_async) (holder_nest h kept fs a q)) (part (async b)) ≡ at (holder_state h) (holder_nest h kept fs a q)) (sym (is-pending true pend is)) (async-kept h is_async kept fs a pend.is_generator b line));
+}
+async-in b h false kept fs a pend false is line read = record { named = true; settled = λ _. is; run = one (no_slash (at (holder_state h) (holder_nest h kept fs a pend)) (kind.Word (word.Ident (ident.Known known.Async))) refl) (async-name-row h kept fs a pend b is) }
+async-in b h true kept fs a pend false is line read = absurd (true_false (sym (read refl) ∙ is))
+
+async-ends : (b : Bool) (h : Holder) (is_async : Bool) (kept : Around) (fs : List Frame) (a pend : Around) → on_line is_async b ≡ true → (is_async ≡ true → pend.is_async ≡ true) → NameEnds h is_async kept fs a pend (async b ∷ [])
+async-ends b h is_async kept fs a pend line read = async-in b h is_async kept fs a pend pend.is_async refl line read
+
+literal-ends : (k : TokenKind) (b : Bool) (is_it : Bool) (h : Holder) (is_async : Bool) (kept : Around) (fs : List Frame) (a pend : Around) → is_async_word k ≡ is_it → is_literal_name k ≡ true → on_line is_async b ≡ true → (is_async ≡ true → pend.is_async ≡ true) → NameEnds h is_async kept fs a pend (token k b ∷ [])
+literal-ends k b false h is_async kept fs a pend g ok line read = record { named = false; settled = λ e. absurd (true_false (sym e)); run = plain-name k b h is_async kept fs a pend ok g line }
+literal-ends k b true h is_async kept fs a pend g ok line read = subst (λ l. NameEnds h is_async kept fs a pend (token l b ∷ [])) (sym (is-async k g)) (async-ends b h is_async kept fs a pend line read)
 
 pub literal_name_runs : (p : Parameters) (k : TokenKind) (b : Bool) → is_literal_name k ≡ true → NameRuns p (token k b ∷ [])
-literal_name_runs p k b ok = record { runs = λ h is_async kept fs a pend is place none. literal-ends k b (is_async_word k) h is_async kept fs a pend refl ok place none }
+literal_name_runs p k b ok = record { runs = λ h is_async kept fs a pend is place read. literal-ends k b (is_async_word k) h is_async kept fs a pend refl ok (first-line is_async b k [] place) read }
 
-pub private_name_runs : (p : Parameters) (w : WordKind) (a b : Bool) → is_member_word w ≡ true → NameRuns p (token kind.Hash a ∷ token (kind.Word w) b ∷ [])
-private_name_runs p w a b h = record {
-  runs = λ holder is_async kept fs around pend is place none.
-      let n = holder_nest holder kept fs around pend in
-      record {
-        named = false;
-        settled = λ e. absurd (true_false (sym e));
-        run = goes (no_slash (at (name_state holder is_async) n) kind.Hash refl) (hash-row holder is_async n a (first-line is_async a kind.Hash (token (kind.Word w) b ∷ []) place)) (one (no_slash (at (holder_state holder) n) (kind.Word w) refl) (name-row holder false n (part_of_word w) b (member-word w h) refl));
-      };
+-- behind `#` each word is read as where no `async` is next to it
+private-ends : (a : Bool) (h : Holder) (is_async : Bool) (kept : Around) (fs : List Frame) (around pend : Around) (xs : List Token) → on_line is_async a ≡ true → NameEnds h false kept fs around pend xs → NameEnds h is_async kept fs around pend (token kind.Hash a ∷ xs)
+private-ends a h is_async kept fs around pend xs line ends = record {
+  named = ends.named;
+  settled = ends.settled;
+  run = goes (no_slash (at (name_state h is_async) (holder_nest h kept fs around pend)) kind.Hash refl) (hash-row h is_async (holder_nest h kept fs around pend) a line) ends.run;
+}
+
+pub private_name_runs : (p : Parameters) (w : WordKind) (a b : Bool) → NameRuns p (token kind.Hash a ∷ token (kind.Word w) b ∷ [])
+private_name_runs p w a b = record {
+  runs = λ h is_async kept fs around pend is place read. private-ends a h is_async kept fs around pend (token (kind.Word w) b ∷ []) (first-line is_async a kind.Hash (token (kind.Word w) b ∷ []) place) (literal-ends (kind.Word w) b (is_async_word (kind.Word w)) h false kept fs around pend refl refl refl (λ e. absurd (true_false (sym e))));
 }
 
 -- behind `async` as a name these are read as behind any name
@@ -236,7 +260,7 @@ computed-closed InClassExpression kept fs a pend (Concise b) last = refl
 
 pub computed_name_runs : (p : Parameters) (xs : List Token) (a b : Bool) → AssignmentRuns (with_in p) xs → NameRuns p (token kind.LBracket a ∷ xs ++ token kind.RBracket b ∷ [])
 computed_name_runs p xs a b item = record {
-  runs = λ holder is_async kept fs around pend is place none.
+  runs = λ holder is_async kept fs around pend is place read.
       let n = holder_nest holder kept fs around pend in
       let inner : List Frame = record { kind = frame.Computed; kept = pend } ∷ n.frames in
       let r = item.runs AtOperand inner around Bare pend (held (with_in p) frame.Computed pend n.frames around refl is) refl in
@@ -261,18 +285,18 @@ method-end InClass kept fs n = refl
 method-end InClassExpression kept fs n = refl
 
 -- a name, and the parameters and body of a function of this kind
-tail-run : (g i : Bool) (p : Parameters) (xs ys : List Token) (h : Holder) (is_async : Bool) (kept : Around) (fs : List Frame) (a : Around) → a ≡ around_of p → is_name_place is_async xs ≡ true → (i ≡ true → begins_async xs ≡ false) → NameRuns p xs → FunctionRuns (in_function g i) ys
+tail-run : (g i : Bool) (p : Parameters) (xs ys : List Token) (h : Holder) (is_async : Bool) (kept : Around) (fs : List Frame) (a : Around) → a ≡ around_of p → is_name_place is_async xs ≡ true → (is_async ≡ true → i ≡ true) → NameRuns p xs → FunctionRuns (in_function g i) ys
     → Run (at (name_state h is_async) (holder_nest h kept fs a (around_of (in_function g i)))) (xs ++ ys) (at (holder_state h) (holder_nest h kept fs a no_function))
-tail-run g i p xs ys h is_async kept fs a is place none names rest =
+tail-run g i p xs ys h is_async kept fs a is place read names rest =
     let pend = around_of (in_function g i) in
-    let l = names.runs h is_async kept fs a pend is place none in
+    let l = names.runs h is_async kept fs a pend is place read in
     joins l.run (lands (rest.runs (at (name_state h l.named) (holder_nest h kept fs a (named_pending l.named pend))) Methodic pend a (record { kind = holder_frame h; kept = kept } ∷ fs) no_function (λ b. reads-paren h l.named kept fs a pend b l.settled ∙ method-opened h kept fs a pend b)) (method-end h kept fs (holder_nest h kept fs a no_function)))
 
-not-async : (xs : List Token) → false ≡ true → begins_async xs ≡ false
-not-async xs e = absurd (true_false (sym e))
+not-read : (i : Bool) → false ≡ true → i ≡ true
+not-read i e = absurd (true_false (sym e))
 
 pub method_runs : (p : Parameters) (xs ys : List Token) → NameRuns p xs → FunctionRuns (in_function false false) ys → MemberRuns p (xs ++ ys)
-method_runs p xs ys named rest = record { runs = λ h kept fs a is. tail-run false false p xs ys h false kept fs a is refl (not-async xs) named rest }
+method_runs p xs ys named rest = record { runs = λ h kept fs a is. tail-run false false p xs ys h false kept fs a is refl (not-read false) named rest }
 
 generator-row : (h : Holder) (kept : Around) (fs : List Frame) (a : Around) (b : Bool) → stepped (at (holder_state h) (holder_nest h kept fs a no_function)) (part (token (kind.BinOp binary.Mul) b)) ≡ at (holder_state h) (holder_nest h kept fs a (around_of (in_function true false)))
 unfolding read_times read_once row moved changed
@@ -281,7 +305,7 @@ generator-row InClass kept fs a b = refl
 generator-row InClassExpression kept fs a b = refl
 
 pub generator_method_runs : (p : Parameters) (xs ys : List Token) (b : Bool) → NameRuns p xs → FunctionRuns (in_function true false) ys → MemberRuns p (token (kind.BinOp binary.Mul) b ∷ (xs ++ ys))
-generator_method_runs p xs ys b named rest = record { runs = λ h kept fs a is. goes (no_slash (at (holder_state h) (holder_nest h kept fs a no_function)) (kind.BinOp binary.Mul) refl) (generator-row h kept fs a b) (tail-run true false p xs ys h false kept fs a is refl (not-async xs) named rest) }
+generator_method_runs p xs ys b named rest = record { runs = λ h kept fs a is. goes (no_slash (at (holder_state h) (holder_nest h kept fs a no_function)) (kind.BinOp binary.Mul) refl) (generator-row h kept fs a b) (tail-run true false p xs ys h false kept fs a is refl (not-read false) named rest) }
 
 async-row : (h : Holder) (kept : Around) (fs : List Frame) (a : Around) (b : Bool) → stepped (at (holder_state h) (holder_nest h kept fs a no_function)) (part (token (kind.Word (word.Ident (ident.Known known.Async))) b)) ≡ at (async_member_state h) (holder_nest h kept fs a (around_of (in_function false true)))
 unfolding read_times read_once row moved changed
@@ -295,16 +319,13 @@ async-star-row InObject kept fs a = refl
 async-star-row InClass kept fs a = refl
 async-star-row InClassExpression kept fs a = refl
 
-place-of : (b c : Bool) → b ≡ true → c ≡ false → (b && not c) ≡ true
-place-of b c h g = rw h (rw g refl)
+pub async_method_runs : (p : Parameters) (xs ys : List Token) (b : Bool) → is_on_line xs ≡ true → NameRuns p xs → FunctionRuns (in_function false true) ys → MemberRuns p (async b ∷ (xs ++ ys))
+async_method_runs p xs ys b line named rest = record { runs = λ h kept fs a is. goes (no_slash (at (holder_state h) (holder_nest h kept fs a no_function)) (kind.Word (word.Ident (ident.Known known.Async))) refl) (async-row h kept fs a b) (tail-run false true p xs ys h true kept fs a is line (λ _. refl) named rest) }
 
-pub async_method_runs : (p : Parameters) (xs ys : List Token) (b : Bool) → is_on_line xs ≡ true → begins_async xs ≡ false → NameRuns p xs → FunctionRuns (in_function false true) ys → MemberRuns p (async b ∷ (xs ++ ys))
-async_method_runs p xs ys b line other named rest = record { runs = λ h kept fs a is. goes (no_slash (at (holder_state h) (holder_nest h kept fs a no_function)) (kind.Word (word.Ident (ident.Known known.Async))) refl) (async-row h kept fs a b) (tail-run false true p xs ys h true kept fs a is (place-of (is_on_line xs) (begins_async xs) line other) (λ _. other) named rest) }
-
-pub async_generator_method_runs : (p : Parameters) (xs ys : List Token) (b : Bool) → begins_async xs ≡ false → NameRuns p xs → FunctionRuns (in_function true true) ys → MemberRuns p (async b ∷ token (kind.BinOp binary.Mul) false ∷ (xs ++ ys))
-async_generator_method_runs p xs ys b other named rest = record {
+pub async_generator_method_runs : (p : Parameters) (xs ys : List Token) (b : Bool) → NameRuns p xs → FunctionRuns (in_function true true) ys → MemberRuns p (async b ∷ token (kind.BinOp binary.Mul) false ∷ (xs ++ ys))
+async_generator_method_runs p xs ys b named rest = record {
   runs = λ h kept fs a is.
-      goes (no_slash (at (holder_state h) (holder_nest h kept fs a no_function)) (kind.Word (word.Ident (ident.Known known.Async))) refl) (async-row h kept fs a b) (goes (no_slash (at (async_member_state h) (holder_nest h kept fs a (around_of (in_function false true)))) (kind.BinOp binary.Mul) refl) (async-star-row h kept fs a) (tail-run true true p xs ys h false kept fs a is refl (λ _. other) named rest));
+      goes (no_slash (at (holder_state h) (holder_nest h kept fs a no_function)) (kind.Word (word.Ident (ident.Known known.Async))) refl) (async-row h kept fs a b) (goes (no_slash (at (async_member_state h) (holder_nest h kept fs a (around_of (in_function false true)))) (kind.BinOp binary.Mul) refl) (async-star-row h kept fs a) (tail-run true true p xs ys h false kept fs a is refl (not-read true) named rest));
 }
 
 accessor-name : (k : TokenKind) → is_accessor k ≡ true → (is_literal_name k ≡ true) × (is_async_word k ≡ false)
@@ -316,7 +337,7 @@ pub accessor_runs : (p : Parameters) (xs ys : List Token) (k : TokenKind) (b : B
 accessor_runs p xs ys k b ok named rest = record {
   runs = λ h kept fs a is.
       let l = accessor-name k ok in
-      joins (plain-name k b h false kept fs a no_function l.0 l.1 refl) (tail-run false false p xs ys h false kept fs a is refl (not-async xs) named rest);
+      joins (plain-name k b h false kept fs a no_function l.0 l.1 refl) (tail-run false false p xs ys h false kept fs a is refl (not-read false) named rest);
 }
 
 -- Properties

@@ -13,11 +13,11 @@ use Rattle.ecma_role_table.specs.declared.part.PartKind.TheVariants.{Sign}
 use Rattle.ecma_role_table.specs.declared.part.Sign as signs
 use Rattle.ecma_role_table.specs.declared.part.Sign.TheVariants as sign
 use Rattle.ecma_role_table.specs.Frames.{over_candidate, over_declared_for, over_for}
-use Rattle.ecma_roles.specs.Moves.{Landed, arrow_over, back_of, behind_comma, candidate_from, decorating, fresh_of}
-use Rattle.ecma_roles.specs.Nest.{Nested, gains_async, dropped, kind_in, nested, no_function, over_kinds, pending, pushed, top, under}
+use Rattle.ecma_role_moves.specs.Moves.{Landed, arrow_over, back_of, behind_comma, candidate_from, decorating, fresh_of}
+use Rattle.ecma_role_moves.specs.Nest.{Nested, gains_async, dropped, kind_in, nested, no_function, over_kinds, pending, pushed, top, under}
 use Rattle.ecma_roles.specs.Slashes.{expects_operand}
 use Rattle.ecma_roles.specs.Track.{TrackView, stepped, track}
-use Rattle.ecma_roles.proofs.NestLemmas.{dropped_none}
+use Rattle.ecma_role_moves.proofs.NestLemmas.{dropped_none}
 use Rattle.ecma_token.specs.declared.kind.TokenKind.{TokenKind}
 use Rattle.ecma_token.specs.declared.kind.TokenKind.TheVariants as kind
 use Rattle.ecma_word.specs.declared.keyword.Keyword.TheVariants as keyword
@@ -26,7 +26,7 @@ use Rattle.ecma_word.specs.declared.word.WordKind.TheVariants as word
 use Rattle.ecma_word.specs.declared.word.IdentKind.TheVariants as ident
 use Rattle.ecma_word.specs.declared.operator.BinOpToken.TheVariants as binary
 use Rattle.ecma_role_grammar.specs.Tokens.{Token, part, token}
-use Rattle.ecma_role_grammar.specs.Grammar.{Parameters, begins_anew_kind, begins_async, begins_brace, begins_declaration, begins_function, ends_in_yield, is_async_word, is_declaration, is_on_line, is_yield}
+use Rattle.ecma_role_grammar.specs.Grammar.{Parameters, begins_anew_kind, begins_brace, begins_declaration, begins_function, is_async_word, is_declaration, is_on_line}
 use Rattle.ecma_role_grammar.specs.Laws.{around_of}
 use Rattle.ecma_role_grammar.proofs.Runs.{Run}
 
@@ -132,11 +132,6 @@ abbrev pub is_label_end : Ended → Bool
 is_label_end (Whole c) = is_label c
 is_label_end Braces = false
 is_label_end Yielding = false
-
--- `yield` with nothing behind it
-abbrev pub is_yielding : Ended → Bool
-is_yielding Yielding = true
-is_yielding e = false
 
 pub completed_divides : (c : Complete) (nest : Nested) (w : Bool) → expects_operand (completed c nest) w ≡ false
 completed_divides Plain nest w = refl
@@ -267,7 +262,6 @@ pub record Ends (s : Start) (fs : List Frame) (a : Around) (m : Over) (before : 
   pub pend : Around
   pub run : Run (begin s (over fs a m before)) xs (ended state (over fs a mark pend))
   pub label : is_statement s ≡ false → is_label_end state ≡ false
-  pub yields : is_yielding state ≡ true → ends_in_yield xs ≡ true
   pub keeps : before ≡ no_function → pend ≡ no_function
 
 pub record AssignmentRuns (p : Parameters) (xs : List Token) : Type 0 where
@@ -334,15 +328,10 @@ abbrev pub finished : Finish → List Frame → Around → Around → TrackView
 finished Open fs a pend = at state.Operand (nested fs a pend)
 finished (Shut e m) fs a pend = ended e (over fs a m pend)
 
-abbrev pub is_yielding_finish : Finish → Bool
-is_yielding_finish Open = false
-is_yielding_finish (Shut e m) = is_yielding e
-
 pub record Finishes (fs : List Frame) (a before : Around) (xs : List Token) : Type 0 where
   pub finish : Finish
   pub pend : Around
   pub run : Run (at state.Operand (nested fs a before)) xs (finished finish fs a pend)
-  pub yields : is_yielding_finish finish ≡ true → ends_in_yield xs ≡ true
   pub keeps : before ≡ no_function → pend ≡ no_function
 
 pub record ParameterRuns (p : Parameters) (xs : List Token) : Type 0 where
@@ -397,7 +386,6 @@ pub record BodyEnds (fs : List Frame) (a inside before : Around) (xs : List Toke
   pub pend : Around
   pub run : Run (at state.ArrowBody (over fs a (Concise inside) before)) xs (ended place (over fs a mark pend))
   pub label : is_label_end place ≡ false
-  pub yields : is_yielding place ≡ true → ends_in_yield xs ≡ true
   pub keeps : before ≡ no_function → pend ≡ no_function
 
 pub record BodyRuns (p : Parameters) (xs : List Token) : Type 0 where
@@ -461,9 +449,9 @@ name_state h false = holder_state h
 abbrev pub holder_nest : Holder → Around → List Frame → Around → Around → Nested
 holder_nest h kept fs a pend = nested (record { kind = holder_frame h; kept = kept } ∷ fs) a pend
 
--- the name of a member, also right behind `async`; where the name is `async` itself, that is taken for a word before a name
+-- the name of a member, also right behind `async`; `async` where no `async` was read is taken for a word before a name
 abbrev pub is_name_place : Bool → List Token → Bool
-is_name_place true xs = is_on_line xs && not (begins_async xs)
+is_name_place true xs = is_on_line xs
 is_name_place false xs = true
 
 abbrev pub named_pending : Bool → Around → Around
@@ -476,7 +464,7 @@ pub record NameEnds (h : Holder) (is_async : Bool) (kept : Around) (fs : List Fr
   pub run : Run (at (name_state h is_async) (holder_nest h kept fs a pend)) xs (at (name_state h named) (holder_nest h kept fs a (named_pending named pend)))
 
 pub record NameRuns (p : Parameters) (xs : List Token) : Type 0 where
-  pub runs : (h : Holder) (is_async : Bool) (kept : Around) (fs : List Frame) (a pend : Around) → a ≡ around_of p → is_name_place is_async xs ≡ true → (pend.is_async ≡ true → begins_async xs ≡ false) → NameEnds h is_async kept fs a pend xs
+  pub runs : (h : Holder) (is_async : Bool) (kept : Around) (fs : List Frame) (a pend : Around) → a ≡ around_of p → is_name_place is_async xs ≡ true → (is_async ≡ true → pend.is_async ≡ true) → NameEnds h is_async kept fs a pend xs
 
 pub record MemberRuns (p : Parameters) (xs : List Token) : Type 0 where
   pub runs : (h : Holder) (kept : Around) (fs : List Frame) (a : Around) → a ≡ around_of p → Run (at (holder_state h) (holder_nest h kept fs a no_function)) xs (at (holder_state h) (holder_nest h kept fs a no_function))
@@ -712,24 +700,3 @@ pub record Opens (fs : List Frame) (a before : Around) (xs : List Token) : Type 
 
 pub record InsideRuns (p : Parameters) (xs : List Token) : Type 0 where
   pub runs : (fs : List Frame) (before : Around) → fresh_of (top_of fs) ≡ state.Statement → Opens fs (around_of p) before xs
-
--- What ends in `yield`
-
-pub ends_behind : (xs ys : List Token) → ends_in_yield ys ≡ true → ends_in_yield (xs ++ ys) ≡ true
-ends_behind xs [] h = absurd cc
-ends_behind [] (y ∷ ys) h = h
-ends_behind (x ∷ []) (y ∷ ys) h = h
-ends_behind (x ∷ z ∷ xs) (y ∷ ys) h = ends_behind (z ∷ xs) (y ∷ ys) h
-
-pub ends_more : (xs ys : List Token) (x : Token) → ends_in_yield ys ≡ true → ends_in_yield (xs ++ x ∷ ys) ≡ true
-ends_more xs [] x h = absurd cc
-ends_more xs (y ∷ ys) x h = ends_behind xs (x ∷ y ∷ ys) h
-
-pub ends_after : (ys : List Token) (x : Token) → ends_in_yield ys ≡ true → ends_in_yield (x ∷ ys) ≡ true
-ends_after [] x h = absurd cc
-ends_after (y ∷ ys) x h = h
-
-pub other_behind : (xs : List Token) (x : Token) → is_yield x.kind ≡ false → ends_in_yield (xs ++ x ∷ []) ≡ false
-other_behind [] x h = h
-other_behind (y ∷ []) x h = h
-other_behind (y ∷ z ∷ xs) x h = other_behind (z ∷ xs) x h

@@ -9,8 +9,8 @@ use Rattle.ecma_token.specs.declared.kind.TokenKind.TheVariants as kind
 use Rattle.ecma_role_table.specs.declared.state.State.TheVariants as state
 use Rattle.ecma_role_table.specs.Statements as statements
 use Rattle.ecma_role_table.specs.Table.{row}
-use Rattle.ecma_roles.specs.Moves.{changed, moved}
-use Rattle.ecma_roles.specs.Nest.{dropped_from, nested, no_function}
+use Rattle.ecma_role_moves.specs.Moves.{changed, moved}
+use Rattle.ecma_role_moves.specs.Nest.{dropped_from, nested, no_function}
 use Rattle.ecma_roles.specs.Slashes.{expects_operand}
 use Rattle.ecma_roles.specs.Track.{TrackView, read_once, read_times, track, tracked}
 use Rattle.ecma_role_grammar.specs.Tokens.{Division, RegularExpression, Token, parts}

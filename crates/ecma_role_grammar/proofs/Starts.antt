@@ -19,8 +19,8 @@ use Rattle.ecma_role_table.specs.declared.moves.Turn.TheVariants.{Again, Done}
 use Rattle.ecma_role_table.specs.Parts.{part_of_kind, part_of_word}
 use Rattle.ecma_role_table.specs.Table.{row}
 use Rattle.ecma_role_table.specs.Statements as statements
-use Rattle.ecma_roles.specs.Moves.{changed, moved, turned_to}
-use Rattle.ecma_roles.specs.Nest.{Nested}
+use Rattle.ecma_role_moves.specs.Moves.{changed, moved, turned_to}
+use Rattle.ecma_role_moves.specs.Nest.{Nested}
 use Rattle.ecma_roles.specs.Track.{TrackView, read_once, read_times, reading, stepped, track}
 use Rattle.ecma_roles.proofs.TrackLemmas.{nothing_left, one_more}
 use Rattle.ecma_role_grammar.specs.Tokens.{Token, part, token}

@@ -9,10 +9,10 @@ use Rattle.ecma_token.specs.declared.kind.TokenKind.TheVariants as kind
 use Rattle.ecma_role_table.specs.declared.frame.Around.{Around}
 use Rattle.ecma_role_table.specs.declared.state.State.{State}
 use Rattle.ecma_role_table.specs.declared.state.State.TheVariants as state
-use Rattle.ecma_roles.specs.Nest.{Nested, dropped, dropped_from, nested, no_function, over_kinds, pushed}
+use Rattle.ecma_role_moves.specs.Nest.{Nested, dropped, dropped_from, nested, no_function, over_kinds, pushed}
 use Rattle.ecma_roles.specs.Slashes.{expects_operand}
-use Rattle.ecma_roles.specs.Moves.{arrow_over, candidate_from, decorating}
-use Rattle.ecma_roles.proofs.NestLemmas.{dropped_none}
+use Rattle.ecma_role_moves.specs.Moves.{arrow_over, candidate_from, decorating}
+use Rattle.ecma_role_moves.proofs.NestLemmas.{dropped_none}
 use Rattle.ecma_role_table.specs.Frames.{over_candidate, over_declared_for}
 use Rattle.ecma_role_table.specs.declared.frame.Frame.{Frame}
 use Rattle.ecma_role_table.specs.declared.frame.FrameKind.{FrameKind}
@@ -114,7 +114,7 @@ runs n p xs (this_value {p = q} a) = expressions.this_runs q a
 runs n p xs (identifier_reference {p = q} w a h) = expressions.identifier_runs q w a h
 runs n p xs (literal {p = q} k a h) = expressions.literal_runs q k a h
 runs n p xs (regular_expression {p = q} a) = expressions.regex_runs q a
-runs n p xs (parenthesized {p = q} {xs = us} a b h d) = expressions.parenthesized_runs q us a b h (runs Expression (with_in q) us d)
+runs n p xs (parenthesized {p = q} {xs = us} a b d) = expressions.parenthesized_runs q us a b (runs Expression (with_in q) us d)
 runs n p xs (member_primary {p = q} {xs = us} d) = runs PrimaryExpression q us d
 runs n p xs (member_index {p = q} {xs = us} {ys = vs} a b d k) = expressions.followed q us (token kind.LBracket a ∷ vs ++ token kind.RBracket b ∷ []) (runs MemberExpression q us d) (expressions.index_behind q vs a b (runs Expression (with_in q) vs k))
 runs n p xs (member_name {p = q} {xs = us} w a b d) = expressions.followed q us (token kind.Dot a ∷ token (kind.Word w) b ∷ []) (runs MemberExpression q us d) (expressions.name_behind q w a b)
@@ -140,7 +140,7 @@ runs n p xs (unary_update {p = q} {xs = us} d) = runs UpdateExpression q us d
 runs n p xs (unary_prefix {p = q} {xs = us} k a h d) = expressions.prefix_runs q us k a h (runs UnaryExpression q us d)
 runs n p xs (binary_unary {p = q} {xs = us} d) = runs UnaryExpression q us d
 runs n p xs (binary_operation {p = q} {xs = us} {ys = vs} op a d k) = expressions.binary_runs q us vs op a (runs BinaryExpression q us d) (runs UnaryExpression q vs k)
-runs n p xs (binary_instanceof {p = q} {xs = us} {ys = vs} a h d k) = expressions.instanceof_runs q us vs a h (runs BinaryExpression q us d) (runs UnaryExpression q vs k)
+runs n p xs (binary_instanceof {p = q} {xs = us} {ys = vs} a d k) = expressions.instanceof_runs q us vs a (runs BinaryExpression q us d) (runs UnaryExpression q vs k)
 runs n p xs (binary_in {p = q} {xs = us} {ys = vs} a h d k) = expressions.in_runs q us vs a h (runs BinaryExpression q us d) (runs UnaryExpression q vs k)
 runs n p xs (conditional_binary {p = q} {xs = us} d) = expressions.operand_assigned q us (runs BinaryExpression q us d)
 runs n p xs (conditional {p = q} {xs = us} {ys = vs} {zs = ws} a b d k j) = expressions.conditional_runs q us vs ws a b (runs BinaryExpression q us d) (runs AssignmentExpression (with_in q) vs k) (runs AssignmentExpression q ws j)
@@ -192,17 +192,17 @@ runs n p xs (yield_value {p = q} {xs = us} a h k d) = literals.yield_runs q us a
 runs n p xs (yield_from {p = q} {xs = us} a h d) = literals.yield_from_runs q us a h (runs AssignmentExpression q us d)
 runs n p xs (arrow {p = q} {xs = us} {ys = vs} d k) = functions.arrow_runs q us vs (runs ArrowParameters q us d) (runs ConciseBody (in_arrow false q) vs k)
 runs n p xs (arrow_name {p = q} w a h) = functions.operand_head q (token (kind.Word w) a ∷ []) (expressions.identifier_runs q w a h)
-runs n p xs (arrow_none {p = q} a b) = functions.group_head q [] a b refl (functions.no_parameters_run (with_in q))
-runs n p xs (arrow_list {p = q} {xs = us} a b h d) = functions.group_head q us a b h (functions.parameters_run (with_in q) us (literals.list_items (with_in q) us (runs Expression (with_in q) us d)))
+runs n p xs (arrow_none {p = q} a b) = functions.group_head q [] a b (functions.no_parameters_run (with_in q))
+runs n p xs (arrow_list {p = q} {xs = us} a b d) = functions.group_head q us a b (functions.parameters_run (with_in q) us (literals.list_items (with_in q) us (runs Expression (with_in q) us d)))
 runs n p xs (arrow_comma {p = q} {xs = us} a b c d) = functions.group_comma_head q us a b c (literals.list_items (with_in q) us (runs Expression (with_in q) us d))
-runs n p xs (arrow_rest {p = q} {xs = us} a b h d) = functions.group_head q us a b h (functions.parameters_run (with_in q) us (runs BindingRest q us d))
-runs n p xs (arrow_list_rest {p = q} {xs = us} {ys = vs} a b c h d k) = functions.group_head q (us ++ token kind.Comma b ∷ vs) a c h (functions.parameters_run (with_in q) (us ++ token kind.Comma b ∷ vs) (literals.more_item_runs (with_in q) us vs b (literals.list_items (with_in q) us (runs Expression (with_in q) us d)) (runs BindingRest q vs k)))
+runs n p xs (arrow_rest {p = q} {xs = us} a b d) = functions.group_head q us a b (functions.parameters_run (with_in q) us (runs BindingRest q us d))
+runs n p xs (arrow_list_rest {p = q} {xs = us} {ys = vs} a b c d k) = functions.group_head q (us ++ token kind.Comma b ∷ vs) a c (functions.parameters_run (with_in q) (us ++ token kind.Comma b ∷ vs) (literals.more_item_runs (with_in q) us vs b (literals.list_items (with_in q) us (runs Expression (with_in q) us d)) (runs BindingRest q vs k)))
 runs n p xs (concise_body {p = q} {xs = us} h d) = functions.expression_body q us h (runs AssignmentExpression q us d)
 runs n p xs (function_body {p = q} {xs = us} a b d) = functions.braces_body q us a b (runs Body q us d)
 runs n p xs (async_arrow {p = q} {xs = us} {ys = vs} d k) = functions.async_arrow_runs q us vs (runs AsyncArrowParameters q us d) (runs ConciseBody (in_arrow true q) vs k)
 runs n p xs (async_name {p = q} w a h) = functions.async_one_head q w a h
-runs n p xs (async_none {p = q} a b) = functions.async_group_head q [] a b refl (functions.no_parameters_run (with_in q))
-runs n p xs (async_list {p = q} {xs = us} a b h d) = functions.async_group_head q us a b h (functions.parameters_run (with_in q) us (literals.list_items (with_in q) us (runs ArgumentList q us d)))
+runs n p xs (async_none {p = q} a b) = functions.async_group_head q [] a b (functions.no_parameters_run (with_in q))
+runs n p xs (async_list {p = q} {xs = us} a b d) = functions.async_group_head q us a b (functions.parameters_run (with_in q) us (literals.list_items (with_in q) us (runs ArgumentList q us d)))
 runs n p xs (async_comma {p = q} {xs = us} a b c d) = functions.async_comma_head q us a b c (literals.list_items (with_in q) us (runs ArgumentList q us d))
 runs n p xs (rest_name {p = q} w a b h) = literals.spread_item_runs (with_in q) (token (kind.Word w) b ∷ []) a (expressions.operand_assigned (with_in q) (token (kind.Word w) b ∷ []) (expressions.identifier_runs (with_in q) w b h))
 runs n p xs (rest_pattern {p = q} {xs = us} a d) = literals.spread_item_runs (with_in q) us a (expressions.operand_assigned (with_in q) us (literals.operand_within (without_in q) us (runs BindingPattern q us d).0))
@@ -239,11 +239,11 @@ runs n p xs (property_spread {p = q} {xs = us} a d) = members.property_spread_ru
 runs n p xs (literal_name {p = q} t a h) = members.literal_name_runs q t a h
 runs n p xs (computed_name {p = q} {xs = us} a b d) = members.computed_name_runs q us a b (runs AssignmentExpression (with_in q) us d)
 runs n p xs (element_property_name {p = q} {xs = us} d) = runs PropertyName q us d
-runs n p xs (element_private_name {p = q} w a b h) = members.private_name_runs q w a b h
+runs n p xs (element_private_name {p = q} w a b) = members.private_name_runs q w a b
 runs n p xs (method {p = q} {xs = us} {ys = vs} d k) = members.method_runs q us vs (runs ClassElementName q us d) (runs ParametersAndBody (in_function false false) vs k)
 runs n p xs (generator_method {p = q} {xs = us} {ys = vs} a d k) = members.generator_method_runs q us vs a (runs ClassElementName q us d) (runs ParametersAndBody (in_function true false) vs k)
-runs n p xs (async_method {p = q} {xs = us} {ys = vs} a h i d k) = members.async_method_runs q us vs a h i (runs ClassElementName q us d) (runs ParametersAndBody (in_function false true) vs k)
-runs n p xs (async_generator_method {p = q} {xs = us} {ys = vs} a h d k) = members.async_generator_method_runs q us vs a h (runs ClassElementName q us d) (runs ParametersAndBody (in_function true true) vs k)
+runs n p xs (async_method {p = q} {xs = us} {ys = vs} a h d k) = members.async_method_runs q us vs a h (runs ClassElementName q us d) (runs ParametersAndBody (in_function false true) vs k)
+runs n p xs (async_generator_method {p = q} {xs = us} {ys = vs} a d k) = members.async_generator_method_runs q us vs a (runs ClassElementName q us d) (runs ParametersAndBody (in_function true true) vs k)
 runs n p xs (accessor {p = q} {xs = us} {ys = vs} t a h d k) = members.accessor_runs q us vs t a h (runs ClassElementName q us d) (runs ParametersAndBody (in_function false false) vs k)
 runs n p xs (class_expression {p = q} name us a h d) = members.class_expression_runs q name us a h (runs ClassTail q us d)
 runs n p xs (class_plain {p = q} {xs = us} a b d) = members.class_plain_runs q us a b (runs ClassElementList q us d)

@@ -1,9 +1,8 @@
 -- A grammar of ECMAScript's expressions, statements and modules (ECMA-262, 13 to 16), with their semicolons written but before a
 -- right brace and a line that begins with a word, a number or a string. The tokens mark each slash: `Regex` is a regular expression, which stands where an operand begins (the goal
 -- InputElementRegExp of 12.1); the operators `/` and `/=` divide, and stand behind a complete operand (InputElementDiv).
--- Not in it: other semicolons that are not written (12.10), `async` and `let` as identifiers, `#async`, async methods named
--- `async`, groups and parameters of arrow functions that end in the word `yield`, `instanceof` where `in` is none, and what only
--- annex B has. It derives more than ECMA-262 where that changes no role: where `return` stands and early errors are not looked at
+-- Not in it: other semicolons that are not written (12.10), `async` and `let` as identifiers, and what only annex B has. It
+-- derives more than ECMA-262 where that changes no role: where `return` stands and early errors are not looked at
 use Rattle.std.specs.Prelude.{◌≡◌, ◌++◌, Bool, true, false, not, ◌&&◌, ◌||◌, List, [], ◌∷◌}
 use Rattle.ecma_word.specs.declared.keyword.Keyword.{Keyword}
 use Rattle.ecma_word.specs.declared.keyword.Keyword.TheVariants as keyword
@@ -190,16 +189,6 @@ abbrev pub begins_brace : List Token → Bool
 begins_brace [] = false
 begins_brace (x ∷ xs) = is_left_brace x.kind
 
--- the last token is `yield`, with nothing behind it
-abbrev pub is_yield : TokenKind → Bool
-is_yield (kind.Word (word.Keyword keyword.Yield)) = true
-is_yield kind = false
-
-abbrev pub ends_in_yield : List Token → Bool
-ends_in_yield [] = false
-ends_in_yield (x ∷ []) = is_yield x.kind
-ends_in_yield (x ∷ y ∷ xs) = ends_in_yield (y ∷ xs)
-
 -- a token that no expression goes on with, at the start of a line: a word but `in` and `instanceof`, a number or a string
 abbrev pub begins_anew_kind : TokenKind → Bool
 begins_anew_kind (kind.Word (word.Keyword keyword.In)) = false
@@ -237,21 +226,12 @@ is_optional_name p xs = false
 
 -- Names of members
 
--- a name behind `#`: an IdentifierName but `async`, which is left out
-abbrev pub is_member_word : WordKind → Bool
-is_member_word (word.Ident (ident.Known known.Async)) = false
-is_member_word name = true
-
 abbrev pub is_literal_name : TokenKind → Bool
 is_literal_name (kind.Word name) = true
 is_literal_name kind.Str = true
 is_literal_name kind.Num = true
 is_literal_name kind.BigInt = true
 is_literal_name kind = false
-
-abbrev pub begins_async : List Token → Bool
-begins_async [] = false
-begins_async (x ∷ xs) = is_async_word x.kind
 
 abbrev pub is_accessor : TokenKind → Bool
 is_accessor (kind.Word (word.Ident (ident.Known known.Get))) = true
@@ -318,8 +298,7 @@ pub data Derives : Nonterminal → Parameters → List Token → Type 0 where
   identifier_reference : {p : Parameters} (name : WordKind) (a : Bool) → is_identifier p name ≡ true → Derives PrimaryExpression p (token (kind.Word name) a ∷ [])
   literal : {p : Parameters} (kind : TokenKind) (a : Bool) → is_literal kind ≡ true → Derives PrimaryExpression p (token kind a ∷ [])
   regular_expression : {p : Parameters} (a : Bool) → Derives PrimaryExpression p (token kind.Regex a ∷ [])
-  -- a group that ends in the word `yield` is left out
-  parenthesized : {p : Parameters} {xs : List Token} (a b : Bool) → ends_in_yield xs ≡ false → Derives Expression (with_in p) xs → Derives PrimaryExpression p (token kind.LParen a ∷ xs ++ token kind.RParen b ∷ [])
+  parenthesized : {p : Parameters} {xs : List Token} (a b : Bool) → Derives Expression (with_in p) xs → Derives PrimaryExpression p (token kind.LParen a ∷ xs ++ token kind.RParen b ∷ [])
   template : {p : Parameters} {xs : List Token} → Derives TemplateLiteral p xs → Derives PrimaryExpression p xs
   function_expression : {p : Parameters} (name xs : List Token) (is_generator a b : Bool) → is_optional_name (in_function is_generator false) name ≡ true → Derives ParametersAndBody (in_function is_generator false) xs → Derives PrimaryExpression p (reserved keyword.Function a ∷ (star is_generator b ++ (name ++ xs)))
   async_function_expression : {p : Parameters} (name xs : List Token) (is_generator a b : Bool) → is_optional_name (in_function is_generator true) name ≡ true → Derives ParametersAndBody (in_function is_generator true) xs → Derives PrimaryExpression p (async a ∷ reserved keyword.Function false ∷ (star is_generator b ++ (name ++ xs)))
@@ -346,14 +325,14 @@ pub data Derives : Nonterminal → Parameters → List Token → Type 0 where
   property_spread : {p : Parameters} {xs : List Token} (a : Bool) → Derives AssignmentExpression (with_in p) xs → Derives PropertyDefinition p (token kind.DotDotDot a ∷ xs)
   literal_name : {p : Parameters} (kind : TokenKind) (a : Bool) → is_literal_name kind ≡ true → Derives PropertyName p (token kind a ∷ [])
   computed_name : {p : Parameters} {xs : List Token} (a b : Bool) → Derives AssignmentExpression (with_in p) xs → Derives PropertyName p (token kind.LBracket a ∷ xs ++ token kind.RBracket b ∷ [])
-  -- MethodDefinition (15.4 to 15.6, 15.8): no line terminator behind `async`; async methods that are named `async` are left
-  -- out, and how many parameters an accessor has is not looked at
+  -- MethodDefinition (15.4 to 15.6, 15.8): no line terminator behind `async`; how many parameters an accessor has is not
+  -- looked at
   element_property_name : {p : Parameters} {xs : List Token} → Derives PropertyName p xs → Derives ClassElementName p xs
-  element_private_name : {p : Parameters} (name : WordKind) (a b : Bool) → is_member_word name ≡ true → Derives ClassElementName p (token kind.Hash a ∷ token (kind.Word name) b ∷ [])
+  element_private_name : {p : Parameters} (name : WordKind) (a b : Bool) → Derives ClassElementName p (token kind.Hash a ∷ token (kind.Word name) b ∷ [])
   method : {p : Parameters} {xs ys : List Token} → Derives ClassElementName p xs → Derives ParametersAndBody (in_function false false) ys → Derives MethodDefinition p (xs ++ ys)
   generator_method : {p : Parameters} {xs ys : List Token} (a : Bool) → Derives ClassElementName p xs → Derives ParametersAndBody (in_function true false) ys → Derives MethodDefinition p (token (kind.BinOp binary.Mul) a ∷ (xs ++ ys))
-  async_method : {p : Parameters} {xs ys : List Token} (a : Bool) → is_on_line xs ≡ true → begins_async xs ≡ false → Derives ClassElementName p xs → Derives ParametersAndBody (in_function false true) ys → Derives MethodDefinition p (async a ∷ (xs ++ ys))
-  async_generator_method : {p : Parameters} {xs ys : List Token} (a : Bool) → begins_async xs ≡ false → Derives ClassElementName p xs → Derives ParametersAndBody (in_function true true) ys → Derives MethodDefinition p (async a ∷ token (kind.BinOp binary.Mul) false ∷ (xs ++ ys))
+  async_method : {p : Parameters} {xs ys : List Token} (a : Bool) → is_on_line xs ≡ true → Derives ClassElementName p xs → Derives ParametersAndBody (in_function false true) ys → Derives MethodDefinition p (async a ∷ (xs ++ ys))
+  async_generator_method : {p : Parameters} {xs ys : List Token} (a : Bool) → Derives ClassElementName p xs → Derives ParametersAndBody (in_function true true) ys → Derives MethodDefinition p (async a ∷ token (kind.BinOp binary.Mul) false ∷ (xs ++ ys))
   accessor : {p : Parameters} {xs ys : List Token} (kind : TokenKind) (a : Bool) → is_accessor kind ≡ true → Derives ClassElementName p xs → Derives ParametersAndBody (in_function false false) ys → Derives MethodDefinition p (token kind a ∷ (xs ++ ys))
   -- Classes (15.7)
   class_expression : {p : Parameters} (name xs : List Token) (a : Bool) → is_optional_name p name ≡ true → Derives ClassTail p xs → Derives PrimaryExpression p (reserved keyword.Class a ∷ (name ++ xs))
@@ -429,7 +408,7 @@ pub data Derives : Nonterminal → Parameters → List Token → Type 0 where
   -- operators between two operands (13.6 to 13.13): which of them binds closer gives no slash another role
   binary_unary : {p : Parameters} {xs : List Token} → Derives UnaryExpression p xs → Derives BinaryExpression p xs
   binary_operation : {p : Parameters} {xs ys : List Token} (operator : BinOpToken) (a : Bool) → Derives BinaryExpression p xs → Derives UnaryExpression p ys → Derives BinaryExpression p (xs ++ token (kind.BinOp operator) a ∷ ys)
-  binary_instanceof : {p : Parameters} {xs ys : List Token} (a : Bool) → p.takes_in ≡ true → Derives BinaryExpression p xs → Derives UnaryExpression p ys → Derives BinaryExpression p (xs ++ reserved keyword.InstanceOf a ∷ ys)
+  binary_instanceof : {p : Parameters} {xs ys : List Token} (a : Bool) → Derives BinaryExpression p xs → Derives UnaryExpression p ys → Derives BinaryExpression p (xs ++ reserved keyword.InstanceOf a ∷ ys)
   binary_in : {p : Parameters} {xs ys : List Token} (a : Bool) → p.takes_in ≡ true → Derives BinaryExpression p xs → Derives UnaryExpression p ys → Derives BinaryExpression p (xs ++ reserved keyword.In a ∷ ys)
   binary_private : {p : Parameters} {xs : List Token} (name : WordKind) (a b c : Bool) → p.takes_in ≡ true → Derives UnaryExpression p xs → Derives BinaryExpression p (token kind.Hash a ∷ token (kind.Word name) b ∷ reserved keyword.In c ∷ xs)
   -- ConditionalExpression (13.14)
@@ -446,17 +425,17 @@ pub data Derives : Nonterminal → Parameters → List Token → Type 0 where
   arrow : {p : Parameters} {xs ys : List Token} → Derives ArrowParameters p xs → Derives ConciseBody (in_arrow false p) ys → Derives AssignmentExpression p (xs ++ token kind.Arrow false ∷ ys)
   arrow_name : {p : Parameters} (name : WordKind) (a : Bool) → is_identifier p name ≡ true → Derives ArrowParameters p (token (kind.Word name) a ∷ [])
   arrow_none : {p : Parameters} (a b : Bool) → Derives ArrowParameters p (token kind.LParen a ∷ token kind.RParen b ∷ [])
-  arrow_list : {p : Parameters} {xs : List Token} (a b : Bool) → ends_in_yield xs ≡ false → Derives Expression (with_in p) xs → Derives ArrowParameters p (token kind.LParen a ∷ xs ++ token kind.RParen b ∷ [])
+  arrow_list : {p : Parameters} {xs : List Token} (a b : Bool) → Derives Expression (with_in p) xs → Derives ArrowParameters p (token kind.LParen a ∷ xs ++ token kind.RParen b ∷ [])
   arrow_comma : {p : Parameters} {xs : List Token} (a b c : Bool) → Derives Expression (with_in p) xs → Derives ArrowParameters p (token kind.LParen a ∷ xs ++ token kind.Comma b ∷ token kind.RParen c ∷ [])
-  arrow_rest : {p : Parameters} {xs : List Token} (a b : Bool) → ends_in_yield xs ≡ false → Derives BindingRest p xs → Derives ArrowParameters p (token kind.LParen a ∷ xs ++ token kind.RParen b ∷ [])
-  arrow_list_rest : {p : Parameters} {xs ys : List Token} (a b c : Bool) → ends_in_yield (xs ++ token kind.Comma b ∷ ys) ≡ false → Derives Expression (with_in p) xs → Derives BindingRest p ys → Derives ArrowParameters p (token kind.LParen a ∷ (xs ++ token kind.Comma b ∷ ys) ++ token kind.RParen c ∷ [])
+  arrow_rest : {p : Parameters} {xs : List Token} (a b : Bool) → Derives BindingRest p xs → Derives ArrowParameters p (token kind.LParen a ∷ xs ++ token kind.RParen b ∷ [])
+  arrow_list_rest : {p : Parameters} {xs ys : List Token} (a b c : Bool) → Derives Expression (with_in p) xs → Derives BindingRest p ys → Derives ArrowParameters p (token kind.LParen a ∷ (xs ++ token kind.Comma b ∷ ys) ++ token kind.RParen c ∷ [])
   concise_body : {p : Parameters} {xs : List Token} → begins_brace xs ≡ false → Derives AssignmentExpression p xs → Derives ConciseBody p xs
   function_body : {p : Parameters} {xs : List Token} (a b : Bool) → Derives Body p xs → Derives ConciseBody p (token kind.LBrace a ∷ xs ++ token kind.RBrace b ∷ [])
   -- AsyncArrowFunction (15.9): no line terminator behind `async`
   async_arrow : {p : Parameters} {xs ys : List Token} → Derives AsyncArrowParameters p xs → Derives ConciseBody (in_arrow true p) ys → Derives AssignmentExpression p (xs ++ token kind.Arrow false ∷ ys)
   async_name : {p : Parameters} (name : WordKind) (a : Bool) → is_identifier p name ≡ true → Derives AsyncArrowParameters p (async a ∷ token (kind.Word name) false ∷ [])
   async_none : {p : Parameters} (a b : Bool) → Derives AsyncArrowParameters p (async a ∷ token kind.LParen false ∷ token kind.RParen b ∷ [])
-  async_list : {p : Parameters} {xs : List Token} (a b : Bool) → ends_in_yield xs ≡ false → Derives ArgumentList p xs → Derives AsyncArrowParameters p (async a ∷ (token kind.LParen false ∷ xs ++ token kind.RParen b ∷ []))
+  async_list : {p : Parameters} {xs : List Token} (a b : Bool) → Derives ArgumentList p xs → Derives AsyncArrowParameters p (async a ∷ (token kind.LParen false ∷ xs ++ token kind.RParen b ∷ []))
   async_comma : {p : Parameters} {xs : List Token} (a b c : Bool) → Derives ArgumentList p xs → Derives AsyncArrowParameters p (async a ∷ (token kind.LParen false ∷ xs ++ token kind.Comma b ∷ token kind.RParen c ∷ []))
   -- Expression (13.16)
   expression : {p : Parameters} {xs : List Token} → Derives AssignmentExpression p xs → Derives Expression p xs

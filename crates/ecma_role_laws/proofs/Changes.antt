@@ -8,8 +8,8 @@ use Rattle.ecma_role_table.specs.declared.frame.Kinds.TheVariants as kinds
 use Rattle.ecma_role_table.specs.declared.moves.Change.{Change}
 use Rattle.ecma_role_table.specs.declared.moves.Change.TheVariants as change
 use Rattle.ecma_role_table.specs.Frames.{is_of}
-use Rattle.ecma_roles.specs.Moves.{arrow_over, changed, parameters_over}
-use Rattle.ecma_roles.specs.Nest.{Nested, dropped, framed, no_function, pending, pushed, top, turned_frames, within}
+use Rattle.ecma_role_moves.specs.Moves.{arrow_over, changed, parameters_over}
+use Rattle.ecma_role_moves.specs.Nest.{Nested, dropped, framed, no_function, pending, pushed, top, turned_frames, within}
 use Rattle.ecma_role_laws.specs.Brackets.{Bracket, bracket_of, enclosed, enclosing}
 use Rattle.ecma_role_laws.proofs.Right.{AClass, Need, base, bracket_in, is_anything, is_bracket, is_kept, is_opened, is_soft, is_sound, is_there, meets, turn_meets}
 use Rattle.ecma_role_laws.proofs.Frames.{and_left, and_right, any_meets, bracket_opened, chained, chained_more, dropped_frames, outside_chained, outside_kept, popped_chained, popped_kept, popped_meets, soft_kept, top_of, turned_chained, turned_kept}

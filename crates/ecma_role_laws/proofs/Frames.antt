@@ -6,7 +6,7 @@ use Rattle.ecma_role_table.specs.declared.frame.Frame.{Frame}
 use Rattle.ecma_role_table.specs.declared.frame.FrameKind.{FrameKind}
 use Rattle.ecma_role_table.specs.declared.frame.Kinds.{Kinds}
 use Rattle.ecma_role_table.specs.Frames.{is_of}
-use Rattle.ecma_roles.specs.Nest.{around_behind, dropped_from, kind_in, outside, pending_behind, popped_from, turned_frames}
+use Rattle.ecma_role_moves.specs.Nest.{around_behind, dropped_from, kind_in, outside, pending_behind, popped_from, turned_frames}
 use Rattle.ecma_role_laws.specs.Brackets.{Bracket, Enclosed, bracket_of, enclosed, enclosing, nearest}
 use Rattle.ecma_role_laws.proofs.Right.{Need, base, bracket_in, is_alike, is_anything, is_bracket, is_same, is_soft, meets, pop_meets, turn_meets}
 

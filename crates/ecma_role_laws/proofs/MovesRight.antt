@@ -20,8 +20,8 @@ use Rattle.ecma_role_table.specs.declared.moves.Grouping.TheVariants as grouping
 use Rattle.ecma_role_table.specs.declared.moves.Move.{Move}
 use Rattle.ecma_role_table.specs.declared.moves.Move.TheVariants as move
 use Rattle.ecma_role_table.specs.Frames.{is_of, is_template}
-use Rattle.ecma_roles.specs.Moves.{Landed, angle, angle_over, annotated, back_of, behind_annotation, behind_brace, behind_candidate, behind_comma, behind_method, behind_no_class, body_of, brace_over, bracket_over, by_head, by_mark, candidate_behind, candidate_from, candidate_in_object, changed, class_body_of, colon_in, colon_over, colon_plain, colon_waits, comma_in, decorated_of, decorating, equals_behind, fresh_of, greater_at, is_waiting, landed, last_candidate, moved, next_candidate, operand_for_key, operand_for_member, paren_over, semi_at, type_angles, without_arrow, word_turned}
-use Rattle.ecma_roles.specs.Nest.{Nested, dropped, kind_at, kind_in, no_function, outside, pending, popped, popped_from, popped_times, top, turned, turned_frames, under}
+use Rattle.ecma_role_moves.specs.Moves.{Landed, angle, angle_over, annotated, back_of, behind_annotation, behind_brace, behind_candidate, behind_comma, behind_method, behind_no_class, body_of, brace_over, bracket_over, by_head, by_mark, candidate_behind, candidate_from, candidate_in_object, changed, class_body_of, colon_in, colon_over, colon_plain, colon_waits, comma_in, decorated_of, decorating, equals_behind, fresh_of, greater_at, is_waiting, landed, last_candidate, moved, next_candidate, operand_for_key, operand_for_member, paren_over, semi_at, type_angles, without_arrow, word_turned}
+use Rattle.ecma_role_moves.specs.Nest.{Nested, dropped, kind_at, kind_in, no_function, outside, pending, popped, popped_from, popped_times, top, turned, turned_frames, under}
 use Rattle.ecma_role_laws.specs.Brackets.{Bracket, Enclosed, Parentheses, Squares, Braces, Template, bracket_of, enclosed, enclosing, in_text}
 use Rattle.ecma_role_laws.proofs.Right.{AClassHead, ADecorator, AFunctionHead, AType, base, bracket_in, is_bracket, is_code, is_done, is_kept, is_kind, is_plain, is_right, is_safe, is_soft, is_there, leads, meets}
 use Rattle.ecma_role_laws.proofs.Frames.{Reached, and_left, and_right, bracket_opened, chained, chained_base, chained_rest, dropped_frames, outside_reaches, popped_kept, top_of, turned_kept}

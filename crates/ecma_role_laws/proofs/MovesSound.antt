@@ -16,8 +16,8 @@ use Rattle.ecma_role_table.specs.declared.moves.Move.TheVariants as move
 use Rattle.ecma_role_table.specs.declared.moves.Turn.{Turn}
 use Rattle.ecma_role_table.specs.declared.moves.Turn.TheVariants.{Again, Done}
 use Rattle.ecma_role_table.specs.Frames.{is_template}
-use Rattle.ecma_roles.specs.Moves.{Landed, Turned, angle, angle_over, annotated, back_of, behind_annotation, behind_brace, behind_candidate, behind_comma, behind_ended_type, behind_method, behind_no_body, behind_no_class, body_of, brace_of, brace_over, bracket_over, by_head, by_mark, candidate_in_object, class_body_of, colon_in, colon_over, colon_plain, colon_waits, decorated_of, decorating, equals_behind, fresh_of, greater_at, is_waiting, landed, last_candidate, moved, operand_for_key, operand_for_member, paren_over, semi_at, substitution_in, template_over, type_angles, unclosed, without_arrow, word_turned}
-use Rattle.ecma_roles.specs.Nest.{Nested, dropped, kind_at, no_function, pending, popped, popped_times, top, turned, turned_frames, under}
+use Rattle.ecma_role_moves.specs.Moves.{Landed, Turned, angle, angle_over, annotated, back_of, behind_annotation, behind_brace, behind_candidate, behind_comma, behind_ended_type, behind_method, behind_no_body, behind_no_class, body_of, brace_of, brace_over, bracket_over, by_head, by_mark, candidate_in_object, class_body_of, colon_in, colon_over, colon_plain, colon_waits, decorated_of, decorating, equals_behind, fresh_of, greater_at, is_waiting, landed, last_candidate, moved, operand_for_key, operand_for_member, paren_over, semi_at, substitution_in, template_over, type_angles, unclosed, without_arrow, word_turned}
+use Rattle.ecma_role_moves.specs.Nest.{Nested, dropped, kind_at, no_function, pending, popped, popped_times, top, turned, turned_frames, under}
 use Rattle.ecma_role_laws.proofs.Right.{AClass, AClassHead, ADecorator, AType, ATemplate, Need, base, is_anything, is_safe, is_same, is_there, meets, need}
 use Rattle.ecma_role_laws.proofs.Frames.{chained, popped_chained, popped_meets, turned_chained}
 use Rattle.ecma_role_laws.proofs.Changes.{Sound, change_sound, dropped_chained, pushed_chained, turned_sound}

@@ -101,14 +101,14 @@ right-function_head_end kind top met = grind (arith, met)
 right-class_head : (kind : PartKind) (top : Option FrameKind) → meets (need state.ClassHead) top ≡ true → is_fit state.ClassHead kind top (members.class_head kind) ≡ true
 right-class_head kind top met = grind (arith, met)
 
-right-member : (kind : PartKind) (top : Option FrameKind) → meets (need state.Member) top ≡ true → is_fit state.Member kind top (members.member kind) ≡ true
-right-member kind top met = grind (arith, met)
+right-member : (kind : PartKind) (method : Around) (top : Option FrameKind) → meets (need state.Member) top ≡ true → is_fit state.Member kind top (members.member kind method) ≡ true
+right-member kind method top met = grind (arith, met)
 
 right-behind_member_async : (kind : PartKind) (had_line_break : Bool) (top : Option FrameKind) → meets (need state.MemberAsync) top ≡ true → is_fit state.MemberAsync kind top (members.behind_member_async kind had_line_break) ≡ true
 right-behind_member_async kind had_line_break top met = grind (arith, met)
 
-right-key : (kind : PartKind) (top : Option FrameKind) → meets (need state.Key) top ≡ true → is_fit state.Key kind top (members.key kind) ≡ true
-right-key kind top met = grind (arith, met)
+right-key : (kind : PartKind) (method : Around) (top : Option FrameKind) → meets (need state.Key) top ≡ true → is_fit state.Key kind top (members.key kind method) ≡ true
+right-key kind method top met = grind (arith, met)
 
 right-behind_key_async : (kind : PartKind) (top : Option FrameKind) → meets (need state.KeyAsync) top ≡ true → is_fit state.KeyAsync kind top (members.behind_key_async kind) ≡ true
 right-behind_key_async kind top met = grind (arith, met)
@@ -249,9 +249,9 @@ row_right state.Clause kind seen met = right-clause kind seen.top met
 row_right state.Head kind seen met = right-function_head kind seen.top met
 row_right state.HeadEnd kind seen met = right-function_head_end kind seen.top met
 row_right state.ClassHead kind seen met = right-class_head kind seen.top met
-row_right state.Member kind seen met = right-member kind seen.top met
+row_right state.Member kind seen met = right-member kind seen.method seen.top met
 row_right state.MemberAsync kind seen met = right-behind_member_async kind seen.had_line_break seen.top met
-row_right state.Key kind seen met = right-key kind seen.top met
+row_right state.Key kind seen met = right-key kind seen.method seen.top met
 row_right state.KeyAsync kind seen met = right-behind_key_async kind seen.top met
 row_right state.KeyComma kind seen met = right-behind_key_comma kind seen.top met
 row_right state.KeyCommaName kind seen met = right-behind_key_comma_name kind seen.top met

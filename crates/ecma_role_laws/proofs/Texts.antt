@@ -12,8 +12,8 @@ use Rattle.ecma_role_table.specs.declared.state.State.TheVariants as state
 use Rattle.ecma_role_table.specs.declared.moves.Turn.TheVariants.{Done}
 use Rattle.ecma_role_table.specs.Operands.{template_text}
 use Rattle.ecma_role_table.specs.Table.{row}
-use Rattle.ecma_roles.specs.Moves.{changed, moved, substitution_in, template_over, turned_to}
-use Rattle.ecma_roles.specs.Nest.{Nested, popped, popped_from, top}
+use Rattle.ecma_role_moves.specs.Moves.{changed, moved, substitution_in, template_over, turned_to}
+use Rattle.ecma_role_moves.specs.Nest.{Nested, popped, popped_from, top}
 use Rattle.ecma_roles.specs.Track.{TrackView, read_once, read_times, reading, stepped, track}
 use Rattle.ecma_roles.proofs.TrackLemmas.{nothing_left, one_more}
 use Rattle.ecma_role_laws.specs.Brackets.{Enclosed, Template, bracket_of, enclosed, enclosing, in_text}

@@ -1,6 +1,8 @@
 -- Where an operand is complete: the rows of the table, one a clause
 use Rattle.std.specs.Prelude.{Bool, false, true, not, ◌&&◌, Option, if◌then◌else◌}
 use Rattle.ecma_role_table.specs.declared.part.PartKind.{PartKind}
+use Rattle.ecma_role_table.specs.declared.part.Name as names
+use Rattle.ecma_role_table.specs.declared.part.Sign as signs
 use Rattle.ecma_role_table.specs.declared.part.PartKind.TheVariants.{Name, Reserved, Sign}
 use Rattle.ecma_role_table.specs.declared.part.Name.TheVariants as name
 use Rattle.ecma_role_table.specs.declared.part.Reserved.TheVariants as reserved
@@ -20,48 +22,52 @@ abbrev pub after_word : Bool → Option FrameKind → Move
 after_word had_line_break top = if over_candidate top && not had_line_break then Again state.Operand Nothing else Fresh
 
 -- a sign behind an operand
-abbrev pub after_sign : PartKind → Bool → Bool → Option FrameKind → Move
-after_sign (Sign sign.Dot) had_line_break typescript top = To state.Property Nothing
-after_sign (Sign sign.LParen) had_line_break typescript top = To state.Operand (Push frame.Call)
-after_sign (Sign sign.LBracket) had_line_break typescript top = To state.Operand (Push frame.Bracket)
-after_sign (Sign sign.LBrace) had_line_break typescript top = if over_class_head top then ClassBody else FreshBrace
-after_sign (Sign sign.RParen) had_line_break typescript top = Paren
-after_sign (Sign sign.RBracket) had_line_break typescript top = Bracket
-after_sign (Sign sign.RBrace) had_line_break typescript top = Brace
-after_sign (Sign sign.Semi) had_line_break typescript top = Semi
-after_sign (Sign sign.Comma) had_line_break typescript top = Comma
-after_sign (Sign sign.Colon) had_line_break typescript top = Colon grouping.None
-after_sign (Sign sign.QuestionMark) had_line_break typescript top = To state.Conditional (Push frame.Conditional)
-after_sign (Sign sign.Arrow) had_line_break typescript top = To state.ArrowBody (Arrow false)
-after_sign (Sign sign.Update) had_line_break typescript top = if had_line_break then FreshOperand else To state.AfterPostfix Nothing
-after_sign (Sign sign.Bang) had_line_break typescript top = if had_line_break then FreshOperand else To state.After Nothing
-after_sign (Sign sign.Tilde) had_line_break typescript top = Fresh
-after_sign (Sign sign.At) had_line_break typescript top = Fresh
-after_sign (Sign sign.Hash) had_line_break typescript top = Fresh
-after_sign (Sign sign.Literal) had_line_break typescript top = Fresh
-after_sign (Sign sign.Regex) had_line_break typescript top = Fresh
-after_sign (Sign sign.BackQuote) had_line_break typescript top = To state.Quasi (Push frame.Template)
-after_sign (Sign sign.Lt) had_line_break typescript top = if typescript then To state.Operand (Push frame.Candidate) else To state.Operand Nothing
-after_sign (Sign sign.Gt) had_line_break typescript top = Greater angles.One
-after_sign (Sign sign.RShift) had_line_break typescript top = Greater angles.Two
-after_sign (Sign sign.ZeroFillRShift) had_line_break typescript top = Greater angles.Three
-after_sign (Sign sign.GtEq) had_line_break typescript top = To state.Operand DropCandidates
-after_sign (Sign sign.RShiftEq) had_line_break typescript top = To state.Operand DropCandidates
-after_sign (Sign sign.ZeroFillRShiftEq) had_line_break typescript top = To state.Operand DropCandidates
-after_sign kind had_line_break typescript top = To state.Operand Nothing
+abbrev pub after_sign : signs.Sign → Bool → Bool → Option FrameKind → Move
+after_sign sign.Dot had_line_break typescript top = To state.Property Nothing
+after_sign sign.LParen had_line_break typescript top = To state.Operand (Push frame.Call)
+after_sign sign.LBracket had_line_break typescript top = To state.Operand (Push frame.Bracket)
+after_sign sign.LBrace had_line_break typescript top = if over_class_head top then ClassBody else FreshBrace
+after_sign sign.RParen had_line_break typescript top = Paren
+after_sign sign.RBracket had_line_break typescript top = Bracket
+after_sign sign.RBrace had_line_break typescript top = Brace
+after_sign sign.Semi had_line_break typescript top = Semi
+after_sign sign.Comma had_line_break typescript top = Comma
+after_sign sign.Colon had_line_break typescript top = Colon grouping.None
+after_sign sign.QuestionMark had_line_break typescript top = To state.Conditional (Push frame.Conditional)
+after_sign sign.Arrow had_line_break typescript top = To state.ArrowBody (Arrow false)
+after_sign sign.Update had_line_break typescript top = if had_line_break then FreshOperand else To state.AfterPostfix Nothing
+after_sign sign.Bang had_line_break typescript top = if had_line_break then FreshOperand else To state.After Nothing
+after_sign sign.Tilde had_line_break typescript top = Fresh
+after_sign sign.At had_line_break typescript top = Fresh
+after_sign sign.Hash had_line_break typescript top = Fresh
+after_sign sign.Literal had_line_break typescript top = Fresh
+after_sign sign.Regex had_line_break typescript top = Fresh
+after_sign sign.BackQuote had_line_break typescript top = To state.Quasi (Push frame.Template)
+after_sign sign.Lt had_line_break typescript top = if typescript then To state.Operand (Push frame.Candidate) else To state.Operand Nothing
+after_sign sign.Gt had_line_break typescript top = Greater angles.One
+after_sign sign.RShift had_line_break typescript top = Greater angles.Two
+after_sign sign.ZeroFillRShift had_line_break typescript top = Greater angles.Three
+after_sign sign.GtEq had_line_break typescript top = To state.Operand DropCandidates
+after_sign sign.RShiftEq had_line_break typescript top = To state.Operand DropCandidates
+after_sign sign.ZeroFillRShiftEq had_line_break typescript top = To state.Operand DropCandidates
+after_sign other had_line_break typescript top = To state.Operand Nothing
+
+-- a name behind an operand
+abbrev pub after_name : names.Name → Bool → Option FrameKind → Option FrameKind → Move
+after_name name.Of had_line_break top under = if over_for top then To state.Operand Nothing else if over_declared_for top under then To state.Operand Pop else after_word had_line_break top
+after_name name.As had_line_break top under = if had_line_break then after_word had_line_break top else To state.TypeOperand (Push frame.Assertion)
+after_name name.Satisfies had_line_break top under = if had_line_break then after_word had_line_break top else To state.TypeOperand (Push frame.Assertion)
+after_name name.Implements had_line_break top under = if over_class_head top then To state.ClassHead Nothing else after_word had_line_break top
+after_name _ had_line_break top under = after_word had_line_break top
 
 -- an operand is complete (ECMA-262, 12.1: the goal symbols that take a division)
 abbrev pub after_operand : PartKind → Bool → Bool → Option FrameKind → Option FrameKind → Move
 after_operand (Reserved reserved.Extends) had_line_break typescript top under = To state.Operand Nothing
 after_operand (Reserved reserved.In) had_line_break typescript top under = if over_declared_for top under then To state.Operand Pop else To state.Operand Nothing
-after_operand (Reserved reserved.InstanceOf) had_line_break typescript top under = if over_declared_for top under then To state.Operand Pop else To state.Operand Nothing
-after_operand (Name name.Of) had_line_break typescript top under = if over_for top then To state.Operand Nothing else if over_declared_for top under then To state.Operand Pop else after_word had_line_break top
-after_operand (Name name.As) had_line_break typescript top under = if had_line_break then after_word had_line_break top else To state.TypeOperand (Push frame.Assertion)
-after_operand (Name name.Satisfies) had_line_break typescript top under = if had_line_break then after_word had_line_break top else To state.TypeOperand (Push frame.Assertion)
-after_operand (Name name.Implements) had_line_break typescript top under = if over_class_head top then To state.ClassHead Nothing else after_word had_line_break top
-after_operand (Name n) had_line_break typescript top under = after_word had_line_break top
+after_operand (Reserved reserved.InstanceOf) had_line_break typescript top under = To state.Operand Nothing
 after_operand (Reserved r) had_line_break typescript top under = after_word had_line_break top
-after_operand (Sign s) had_line_break typescript top under = after_sign (Sign s) had_line_break typescript top
+after_operand (Name n) had_line_break typescript top under = after_name n had_line_break top under
+after_operand (Sign s) had_line_break typescript top under = after_sign s had_line_break typescript top
 
 -- behind a postfix operator or an asserted type, where no type arguments stand
 abbrev pub after_postfix : PartKind → Move

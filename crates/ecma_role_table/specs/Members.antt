@@ -5,6 +5,7 @@ use Rattle.ecma_role_table.specs.declared.part.PartKind.TheVariants.{Name, Reser
 use Rattle.ecma_role_table.specs.declared.part.Name.TheVariants as name
 use Rattle.ecma_role_table.specs.declared.part.Reserved.TheVariants as reserved
 use Rattle.ecma_role_table.specs.declared.part.Sign.TheVariants as sign
+use Rattle.ecma_role_table.specs.declared.frame.Around.{Around}
 use Rattle.ecma_role_table.specs.declared.frame.FrameKind.TheVariants as frame
 use Rattle.ecma_role_table.specs.declared.state.State.TheVariants as state
 use Rattle.ecma_role_table.specs.declared.moves.Move.{Move}
@@ -38,23 +39,23 @@ class_head (Sign sign.Comma) = To state.ClassHead Nothing
 class_head (Sign sign.Dot) = To state.ClassHead Nothing
 class_head kind = NoClassBody
 
--- a member of a class (ECMA-262, 15.7)
-abbrev pub member : PartKind → Move
-member (Name name.Async) = To state.MemberAsync PendAsync
-member (Name n) = To state.Member Nothing
-member (Reserved r) = To state.Member Nothing
-member (Sign sign.Star) = To state.Member PendGenerator
-member (Sign sign.LParen) = To state.Operand Method
-member (Sign sign.Lt) = To state.TypeBrackets (Push frame.HeadAngle)
-member (Sign sign.LBracket) = To state.Operand (Push frame.Computed)
-member (Sign sign.LBrace) = To state.Statement Static
-member (Sign sign.RBrace) = Brace
-member (Sign sign.Assign) = To state.Operand ClearPending
-member (Sign sign.Colon) = To state.TypeOperand (Push frame.Annotation)
-member (Sign sign.Semi) = To state.Member ClearPending
-member (Sign sign.At) = To state.Decorator (Push frame.MemberDecorator)
-member (Sign sign.BackQuote) = Again state.Operand Nothing
-member kind = To state.Member Nothing
+-- a member of a class, in which `async` behind `async` is a name (ECMA-262, 15.7, 15.8)
+abbrev pub member : PartKind → Around → Move
+member (Name name.Async) method = if method.is_async then To state.Member Nothing else To state.MemberAsync PendAsync
+member (Name n) method = To state.Member Nothing
+member (Reserved r) method = To state.Member Nothing
+member (Sign sign.Star) method = To state.Member PendGenerator
+member (Sign sign.LParen) method = To state.Operand Method
+member (Sign sign.Lt) method = To state.TypeBrackets (Push frame.HeadAngle)
+member (Sign sign.LBracket) method = To state.Operand (Push frame.Computed)
+member (Sign sign.LBrace) method = To state.Statement Static
+member (Sign sign.RBrace) method = Brace
+member (Sign sign.Assign) method = To state.Operand ClearPending
+member (Sign sign.Colon) method = To state.TypeOperand (Push frame.Annotation)
+member (Sign sign.Semi) method = To state.Member ClearPending
+member (Sign sign.At) method = To state.Decorator (Push frame.MemberDecorator)
+member (Sign sign.BackQuote) method = Again state.Operand Nothing
+member kind method = To state.Member Nothing
 
 -- behind `async` in a class: a word, or the name of a member (ECMA-262, 15.8)
 abbrev pub behind_member_async : PartKind → Bool → Move
@@ -64,27 +65,29 @@ behind_member_async (Sign sign.Colon) had_line_break = Again state.Member LoseAs
 behind_member_async (Sign sign.Semi) had_line_break = Again state.Member LoseAsync
 behind_member_async (Sign sign.Lt) had_line_break = Again state.Member LoseAsync
 behind_member_async (Sign sign.RBrace) had_line_break = Again state.Member LoseAsync
+behind_member_async (Sign sign.QuestionMark) had_line_break = Again state.Member LoseAsync
+behind_member_async (Sign sign.Bang) had_line_break = Again state.Member LoseAsync
 behind_member_async kind had_line_break = if had_line_break then Again state.Member LoseAsync else Again state.Member Nothing
 
--- a key of an object or of an enumeration (ECMA-262, 13.2.5)
-abbrev pub key : PartKind → Move
-key (Name name.Async) = To state.KeyAsync PendAsync
-key (Name n) = To state.Key Nothing
-key (Reserved r) = To state.Key Nothing
-key (Sign sign.Star) = To state.Key PendGenerator
-key (Sign sign.LParen) = To state.Operand Method
-key (Sign sign.Lt) = To state.TypeBrackets (Push frame.HeadAngle)
-key (Sign sign.LBracket) = To state.Operand (Push frame.Computed)
-key (Sign sign.RBrace) = Brace
-key (Sign sign.RParen) = Paren
-key (Sign sign.RBracket) = Bracket
-key (Sign sign.Colon) = To state.Operand ClearPending
-key (Sign sign.Assign) = To state.Operand ClearPending
-key (Sign sign.DotDotDot) = To state.Operand ClearPending
-key (Sign sign.Comma) = To state.Key ClearPending
-key (Sign sign.BackQuote) = Again state.Operand Nothing
-key (Sign sign.LBrace) = Again state.Operand Nothing
-key kind = To state.Key Nothing
+-- a key of an object or of an enumeration, in which `async` behind `async` is a name (ECMA-262, 13.2.5, 15.8)
+abbrev pub key : PartKind → Around → Move
+key (Name name.Async) method = if method.is_async then To state.Key Nothing else To state.KeyAsync PendAsync
+key (Name n) method = To state.Key Nothing
+key (Reserved r) method = To state.Key Nothing
+key (Sign sign.Star) method = To state.Key PendGenerator
+key (Sign sign.LParen) method = To state.Operand Method
+key (Sign sign.Lt) method = To state.TypeBrackets (Push frame.HeadAngle)
+key (Sign sign.LBracket) method = To state.Operand (Push frame.Computed)
+key (Sign sign.RBrace) method = Brace
+key (Sign sign.RParen) method = Paren
+key (Sign sign.RBracket) method = Bracket
+key (Sign sign.Colon) method = To state.Operand ClearPending
+key (Sign sign.Assign) method = To state.Operand ClearPending
+key (Sign sign.DotDotDot) method = To state.Operand ClearPending
+key (Sign sign.Comma) method = To state.Key ClearPending
+key (Sign sign.BackQuote) method = Again state.Operand Nothing
+key (Sign sign.LBrace) method = Again state.Operand Nothing
+key kind method = To state.Key Nothing
 
 -- behind `async` in an object: a word, or a key (ECMA-262, 15.8)
 abbrev pub behind_key_async : PartKind → Move

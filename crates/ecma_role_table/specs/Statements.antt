@@ -68,7 +68,7 @@ export_default kind around = statement kind around
 -- behind `return`, `throw` or `yield`, which a line break ends (ECMA-262, 12.10.1)
 abbrev pub restricted : PartKind → Bool → Move
 restricted (Sign sign.RBrace) had_line_break = Again state.Operand Nothing
-restricted (Sign sign.RParen) had_line_break = Again state.Operand Nothing
+restricted (Sign sign.RParen) had_line_break = Again state.After Nothing
 restricted (Sign sign.RBracket) had_line_break = Again state.Operand Nothing
 restricted (Sign sign.Comma) had_line_break = Again state.Operand Nothing
 restricted (Sign sign.Colon) had_line_break = Again state.Operand Nothing

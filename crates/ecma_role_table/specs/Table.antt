@@ -1,4 +1,5 @@
 -- The table: for each state its row
+use Rattle.std.specs.Prelude.{Bool, true, false}
 use Rattle.ecma_role_table.specs.declared.part.PartKind.{PartKind}
 use Rattle.ecma_role_table.specs.declared.state.State.{State}
 use Rattle.ecma_role_table.specs.declared.state.State.TheVariants as state
@@ -41,9 +42,9 @@ row state.Clause kind seen = modules.clause kind
 row state.Head kind seen = members.function_head kind
 row state.HeadEnd kind seen = members.function_head_end kind
 row state.ClassHead kind seen = members.class_head kind
-row state.Member kind seen = members.member kind
+row state.Member kind seen = members.member kind seen.method
 row state.MemberAsync kind seen = members.behind_member_async kind seen.had_line_break
-row state.Key kind seen = members.key kind
+row state.Key kind seen = members.key kind seen.method
 row state.KeyAsync kind seen = members.behind_key_async kind
 row state.KeyComma kind seen = members.behind_key_comma kind
 row state.KeyCommaName kind seen = members.behind_key_comma_name kind
@@ -80,3 +81,53 @@ row state.TypeProperty kind seen = types.behind_type_dot kind
 row state.TypeParen kind seen = types.in_type_paren kind
 row state.TypeParenName kind seen = types.behind_type_paren_name kind
 row state.TypeBrackets kind seen = types.in_type_brackets kind
+
+-- an operand is expected or complete
+abbrev pub is_of_operands : State → Bool
+is_of_operands state.Operand = true
+is_of_operands state.Conditional = true
+is_of_operands state.ArrowBody = true
+is_of_operands state.Quasi = true
+is_of_operands state.After = true
+is_of_operands state.AfterPostfix = true
+is_of_operands state.Group = true
+is_of_operands state.GroupParameters = true
+is_of_operands state.AsyncGroup = true
+is_of_operands state.AsyncGroupParameters = true
+is_of_operands state.Async = true
+is_of_operands state.AsyncStatement = true
+is_of_operands state.AsyncAs = true
+is_of_operands state.AsyncParameter = true
+is_of_operands state.AsyncTypeArguments = true
+is_of_operands state.TypeArguments = true
+is_of_operands state.ImportExpression = true
+is_of_operands state.Property = true
+is_of_operands state.OptionalProperty = true
+is_of_operands state.ArrowEnd = true
+is_of_operands other = false
+
+-- the head or body of a function, a class or an object, or a type, is read
+abbrev pub is_of_parts : State → Bool
+is_of_parts state.Head = true
+is_of_parts state.HeadEnd = true
+is_of_parts state.ClassHead = true
+is_of_parts state.Member = true
+is_of_parts state.MemberAsync = true
+is_of_parts state.Key = true
+is_of_parts state.KeyAsync = true
+is_of_parts state.KeyComma = true
+is_of_parts state.KeyCommaName = true
+is_of_parts state.AliasHead = true
+is_of_parts state.InterfaceHead = true
+is_of_parts state.Decorator = true
+is_of_parts state.AfterDecorator = true
+is_of_parts state.TypeOperand = true
+is_of_parts state.TypeEnd = true
+is_of_parts state.TypeName = true
+is_of_parts state.TypeParameters = true
+is_of_parts state.Asserts = true
+is_of_parts state.TypeProperty = true
+is_of_parts state.TypeParen = true
+is_of_parts state.TypeParenName = true
+is_of_parts state.TypeBrackets = true
+is_of_parts other = false

@@ -19,74 +19,63 @@ fn after_word(had_line_break: bool, top: Option<FrameKind>) -> Move
 }
 
 /// A sign behind an operand.
-fn after_sign(
-    kind: PartKind,
-    had_line_break: bool,
-    typescript: bool,
-    top: Option<FrameKind>,
-) -> Move
-    ensures { result ≡ rows.after_sign kind had_line_break typescript top }
+fn after_sign(sign: Sign, had_line_break: bool, typescript: bool, top: Option<FrameKind>) -> Move
+    ensures { result ≡ rows.after_sign sign had_line_break typescript top }
 {
-    match kind {
-        PartKind::Sign(Sign::Dot) => Move::To(State::Property, Change::Nothing),
-        PartKind::Sign(Sign::LParen) => Move::To(State::Operand, Change::Push(FrameKind::Call)),
-        PartKind::Sign(Sign::LBracket) => Move::To(
-            State::Operand,
-            Change::Push(FrameKind::Bracket),
-        ),
-        PartKind::Sign(Sign::LBrace) => {
-            if over_class_head(top) {
-                Move::ClassBody
-            } else {
-                Move::FreshBrace
-            }
+    match sign {
+        Sign::Dot => Move::To(State::Property, Change::Nothing),
+        Sign::LParen => Move::To(State::Operand, Change::Push(FrameKind::Call)),
+        Sign::LBracket => Move::To(State::Operand, Change::Push(FrameKind::Bracket)),
+        Sign::LBrace if over_class_head(top) => Move::ClassBody,
+        Sign::LBrace => Move::FreshBrace,
+        Sign::RParen => Move::Paren,
+        Sign::RBracket => Move::Bracket,
+        Sign::RBrace => Move::Brace,
+        Sign::Semi => Move::Semi,
+        Sign::Comma => Move::Comma,
+        Sign::Colon => Move::Colon(Grouping::None),
+        Sign::QuestionMark => Move::To(State::Conditional, Change::Push(FrameKind::Conditional)),
+        Sign::Arrow => Move::To(State::ArrowBody, Change::Arrow(false)),
+        Sign::Update | Sign::Bang if had_line_break => Move::FreshOperand,
+        Sign::Update => Move::To(State::AfterPostfix, Change::Nothing),
+        Sign::Bang => Move::To(State::After, Change::Nothing),
+        Sign::Tilde | Sign::At | Sign::Hash | Sign::Literal | Sign::Regex => Move::Fresh,
+        Sign::BackQuote => Move::To(State::Quasi, Change::Push(FrameKind::Template)),
+        Sign::Lt if typescript => Move::To(State::Operand, Change::Push(FrameKind::Candidate)),
+        Sign::Gt => Move::Greater(Angles::One),
+        Sign::RShift => Move::Greater(Angles::Two),
+        Sign::ZeroFillRShift => Move::Greater(Angles::Three),
+        Sign::GtEq | Sign::RShiftEq | Sign::ZeroFillRShiftEq => {
+            Move::To(State::Operand, Change::DropCandidates)
         }
-        PartKind::Sign(Sign::RParen) => Move::Paren,
-        PartKind::Sign(Sign::RBracket) => Move::Bracket,
-        PartKind::Sign(Sign::RBrace) => Move::Brace,
-        PartKind::Sign(Sign::Semi) => Move::Semi,
-        PartKind::Sign(Sign::Comma) => Move::Comma,
-        PartKind::Sign(Sign::Colon) => Move::Colon(Grouping::None),
-        PartKind::Sign(Sign::QuestionMark) => Move::To(
-            State::Conditional,
-            Change::Push(FrameKind::Conditional),
-        ),
-        PartKind::Sign(Sign::Arrow) => Move::To(State::ArrowBody, Change::Arrow(false)),
-        PartKind::Sign(Sign::Update) => {
-            if had_line_break {
-                Move::FreshOperand
-            } else {
-                Move::To(State::AfterPostfix, Change::Nothing)
-            }
-        }
-        PartKind::Sign(Sign::Bang) => {
-            if had_line_break {
-                Move::FreshOperand
-            } else {
-                Move::To(State::After, Change::Nothing)
-            }
-        }
-        PartKind::Sign(Sign::Tilde | Sign::At | Sign::Hash | Sign::Literal | Sign::Regex) =>
-            Move::Fresh,
-        PartKind::Sign(Sign::BackQuote) => Move::To(
-            State::Quasi,
-            Change::Push(FrameKind::Template),
-        ),
-        PartKind::Sign(Sign::Lt) => {
-            if typescript {
-                Move::To(State::Operand, Change::Push(FrameKind::Candidate))
-            } else {
-                Move::To(State::Operand, Change::Nothing)
-            }
-        }
-        PartKind::Sign(Sign::Gt) => Move::Greater(Angles::One),
-        PartKind::Sign(Sign::RShift) => Move::Greater(Angles::Two),
-        PartKind::Sign(Sign::ZeroFillRShift) => Move::Greater(Angles::Three),
-        PartKind::Sign(Sign::GtEq | Sign::RShiftEq | Sign::ZeroFillRShiftEq) => Move::To(
-            State::Operand,
-            Change::DropCandidates,
-        ),
         _ => Move::To(State::Operand, Change::Nothing),
+    }
+}
+
+/// A name behind an operand.
+fn after_name(
+    name: Name,
+    had_line_break: bool,
+    top: Option<FrameKind>,
+    under: Option<FrameKind>,
+) -> Move
+    ensures { result ≡ rows.after_name name had_line_break top under }
+{
+    match name {
+        Name::Of => {
+            if over_for(top) {
+                Move::To(State::Operand, Change::Nothing)
+            } else if over_declared_for(top, under) {
+                Move::To(State::Operand, Change::Pop)
+            } else {
+                after_word(had_line_break, top)
+            }
+        }
+        Name::As | Name::Satisfies if !had_line_break => {
+            Move::To(State::TypeOperand, Change::Push(FrameKind::Assertion))
+        }
+        Name::Implements if over_class_head(top) => Move::To(State::ClassHead, Change::Nothing),
+        _ => after_word(had_line_break, top),
     }
 }
 
@@ -101,39 +90,19 @@ pub fn after_operand(
     ensures { result ≡ rows.after_operand kind had_line_break typescript top under }
 {
     match kind {
-        PartKind::Reserved(Reserved::Extends) => Move::To(State::Operand, Change::Nothing),
-        PartKind::Reserved(Reserved::In | Reserved::InstanceOf) => {
+        PartKind::Reserved(Reserved::Extends | Reserved::InstanceOf) => {
+            Move::To(State::Operand, Change::Nothing)
+        }
+        PartKind::Reserved(Reserved::In) => {
             if over_declared_for(top, under) {
                 Move::To(State::Operand, Change::Pop)
             } else {
                 Move::To(State::Operand, Change::Nothing)
             }
         }
-        PartKind::Name(Name::Of) => {
-            if over_for(top) {
-                Move::To(State::Operand, Change::Nothing)
-            } else if over_declared_for(top, under) {
-                Move::To(State::Operand, Change::Pop)
-            } else {
-                after_word(had_line_break, top)
-            }
-        }
-        PartKind::Name(Name::As | Name::Satisfies) => {
-            if had_line_break {
-                after_word(had_line_break, top)
-            } else {
-                Move::To(State::TypeOperand, Change::Push(FrameKind::Assertion))
-            }
-        }
-        PartKind::Name(Name::Implements) => {
-            if over_class_head(top) {
-                Move::To(State::ClassHead, Change::Nothing)
-            } else {
-                after_word(had_line_break, top)
-            }
-        }
-        PartKind::Name(_) | PartKind::Reserved(_) => after_word(had_line_break, top),
-        PartKind::Sign(_) => after_sign(kind, had_line_break, typescript, top),
+        PartKind::Reserved(_) => after_word(had_line_break, top),
+        PartKind::Name(name) => after_name(name, had_line_break, top, under),
+        PartKind::Sign(sign) => after_sign(sign, had_line_break, typescript, top),
     }
 }
 
@@ -200,41 +169,21 @@ pub fn behind_async(kind: PartKind, had_line_break: bool, typescript: bool) -> M
     ensures { result ≡ rows.behind_async kind had_line_break typescript }
 {
     match kind {
+        PartKind::Sign(Sign::LParen) => {
+            Move::To(State::Operand, Change::Push(FrameKind::AsyncParen))
+        }
+        PartKind::Sign(Sign::Lt) if typescript => {
+            Move::To(State::Operand, Change::Push(FrameKind::AsyncCandidate))
+        }
+        _ if had_line_break => Move::Again(State::After, Change::Nothing),
         PartKind::Reserved(Reserved::Function) => {
-            if had_line_break {
-                Move::Again(State::After, Change::Nothing)
-            } else {
-                Move::To(
-                    State::Head,
-                    Change::Enter(FrameKind::FunctionExpressionHead, true),
-                )
-            }
+            Move::To(
+                State::Head,
+                Change::Enter(FrameKind::FunctionExpressionHead, true),
+            )
         }
-        PartKind::Name(Name::As | Name::Satisfies) => {
-            if had_line_break {
-                Move::Again(State::After, Change::Nothing)
-            } else {
-                Move::To(State::AsyncAs, Change::Nothing)
-            }
-        }
-        PartKind::Name(_) => {
-            if had_line_break {
-                Move::Again(State::After, Change::Nothing)
-            } else {
-                Move::To(State::AsyncParameter, Change::Nothing)
-            }
-        }
-        PartKind::Sign(Sign::LParen) => Move::To(
-            State::Operand,
-            Change::Push(FrameKind::AsyncParen),
-        ),
-        PartKind::Sign(Sign::Lt) => {
-            if typescript {
-                Move::To(State::Operand, Change::Push(FrameKind::AsyncCandidate))
-            } else {
-                Move::Again(State::After, Change::Nothing)
-            }
-        }
+        PartKind::Name(Name::As | Name::Satisfies) => Move::To(State::AsyncAs, Change::Nothing),
+        PartKind::Name(_) => Move::To(State::AsyncParameter, Change::Nothing),
         _ => Move::Again(State::After, Change::Nothing),
     }
 }
@@ -244,38 +193,18 @@ pub fn behind_async_statement(kind: PartKind, had_line_break: bool, typescript: 
     ensures { result ≡ rows.behind_async_statement kind had_line_break typescript }
 {
     match kind {
+        PartKind::Sign(Sign::LParen) => {
+            Move::To(State::Operand, Change::Push(FrameKind::AsyncParen))
+        }
+        PartKind::Sign(Sign::Lt) if typescript => {
+            Move::To(State::Operand, Change::Push(FrameKind::AsyncCandidate))
+        }
+        _ if had_line_break => Move::Again(State::Label, Change::Nothing),
         PartKind::Reserved(Reserved::Function) => {
-            if had_line_break {
-                Move::Again(State::Label, Change::Nothing)
-            } else {
-                Move::To(State::Head, Change::Enter(FrameKind::FunctionHead, true))
-            }
+            Move::To(State::Head, Change::Enter(FrameKind::FunctionHead, true))
         }
-        PartKind::Name(Name::As | Name::Satisfies) => {
-            if had_line_break {
-                Move::Again(State::Label, Change::Nothing)
-            } else {
-                Move::To(State::AsyncAs, Change::Nothing)
-            }
-        }
-        PartKind::Name(_) => {
-            if had_line_break {
-                Move::Again(State::Label, Change::Nothing)
-            } else {
-                Move::To(State::AsyncParameter, Change::Nothing)
-            }
-        }
-        PartKind::Sign(Sign::LParen) => Move::To(
-            State::Operand,
-            Change::Push(FrameKind::AsyncParen),
-        ),
-        PartKind::Sign(Sign::Lt) => {
-            if typescript {
-                Move::To(State::Operand, Change::Push(FrameKind::AsyncCandidate))
-            } else {
-                Move::Again(State::Label, Change::Nothing)
-            }
-        }
+        PartKind::Name(Name::As | Name::Satisfies) => Move::To(State::AsyncAs, Change::Nothing),
+        PartKind::Name(_) => Move::To(State::AsyncParameter, Change::Nothing),
         _ => Move::Again(State::Label, Change::Nothing),
     }
 }
@@ -318,54 +247,30 @@ pub fn behind_type_arguments(kind: PartKind, had_line_break: bool, top: Option<F
     ensures { result ≡ rows.behind_type_arguments kind had_line_break top }
 {
     match kind {
-        PartKind::Name(Name::Implements) => {
-            if over_class_head(top) {
-                Move::To(State::ClassHead, Change::Nothing)
-            } else if had_line_break {
-                Move::Again(State::After, Change::Nothing)
-            } else {
-                Move::Again(State::Operand, Change::Nothing)
-            }
+        PartKind::Name(Name::Implements) if over_class_head(top) => {
+            Move::To(State::ClassHead, Change::Nothing)
         }
-        PartKind::Reserved(Reserved::In | Reserved::InstanceOf) => Move::Again(
-            State::After,
-            Change::Nothing,
-        ),
-        PartKind::Name(Name::As | Name::Satisfies | Name::Of) => Move::Again(
-            State::After,
-            Change::Nothing,
-        ),
-        PartKind::Name(_) | PartKind::Reserved(_) => {
-            if had_line_break {
-                Move::Again(State::After, Change::Nothing)
-            } else {
-                Move::Again(State::Operand, Change::Nothing)
-            }
+        _ if had_line_break => Move::Again(State::After, Change::Nothing),
+        PartKind::Reserved(Reserved::In | Reserved::InstanceOf) => {
+            Move::Again(State::After, Change::Nothing)
+        }
+        PartKind::Name(Name::As | Name::Satisfies | Name::Of) => {
+            Move::Again(State::After, Change::Nothing)
+        }
+        PartKind::Name(_) | PartKind::Reserved(_) => Move::Again(State::Operand, Change::Nothing),
+        PartKind::Sign(Sign::LBrace) if over_class_head(top) => {
+            Move::Again(State::After, Change::Nothing)
         }
         PartKind::Sign(
             Sign::Literal
             | Sign::Regex
             | Sign::LBracket
+            | Sign::LBrace
             | Sign::Bang
             | Sign::Update
             | Sign::Tilde
             | Sign::Hash,
-        ) => {
-            if had_line_break {
-                Move::Again(State::After, Change::Nothing)
-            } else {
-                Move::Again(State::Operand, Change::Nothing)
-            }
-        }
-        PartKind::Sign(Sign::LBrace) => {
-            if had_line_break {
-                Move::Again(State::After, Change::Nothing)
-            } else if over_class_head(top) {
-                Move::Again(State::After, Change::Nothing)
-            } else {
-                Move::Again(State::Operand, Change::Nothing)
-            }
-        }
+        ) => Move::Again(State::Operand, Change::Nothing),
         _ => Move::Again(State::After, Change::Nothing),
     }
 }

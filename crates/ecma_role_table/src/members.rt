@@ -2,7 +2,7 @@
 ghost use Rattle.std.specs.Prelude.{◌≡◌};
 ghost use Rattle.ecma_role_table.specs.Members as rows;
 
-use crate::frame::FrameKind;
+use crate::frame::{Around, FrameKind};
 use crate::moves::{Change, Move};
 use crate::part::{Name, PartKind, Reserved, Sign};
 use crate::state::State;
@@ -58,12 +58,18 @@ pub fn class_head(kind: PartKind) -> Move
     }
 }
 
-/// A member of a class (ECMA-262, 15.7).
-pub fn member(kind: PartKind) -> Move
-    ensures { result ≡ rows.member kind }
+/// A member of a class, in which `async` behind `async` is a name (ECMA-262, 15.7, 15.8).
+pub fn member(kind: PartKind, method: Around) -> Move
+    ensures { result ≡ rows.member kind method }
 {
     match kind {
-        PartKind::Name(Name::Async) => Move::To(State::MemberAsync, Change::PendAsync),
+        PartKind::Name(Name::Async) => {
+            if method.is_async {
+                Move::To(State::Member, Change::Nothing)
+            } else {
+                Move::To(State::MemberAsync, Change::PendAsync)
+            }
+        }
         PartKind::Name(_) | PartKind::Reserved(_) => Move::To(State::Member, Change::Nothing),
         PartKind::Sign(Sign::Star) => Move::To(State::Member, Change::PendGenerator),
         PartKind::Sign(Sign::LParen) => Move::To(State::Operand, Change::Method),
@@ -98,7 +104,14 @@ pub fn behind_member_async(kind: PartKind, had_line_break: bool) -> Move
 {
     match kind {
         PartKind::Sign(
-            Sign::LParen | Sign::Assign | Sign::Colon | Sign::Semi | Sign::Lt | Sign::RBrace,
+            Sign::LParen
+            | Sign::Assign
+            | Sign::Colon
+            | Sign::Semi
+            | Sign::Lt
+            | Sign::RBrace
+            | Sign::QuestionMark
+            | Sign::Bang,
         ) => Move::Again(State::Member, Change::LoseAsync),
         _ => {
             if had_line_break {
@@ -110,12 +123,18 @@ pub fn behind_member_async(kind: PartKind, had_line_break: bool) -> Move
     }
 }
 
-/// A key of an object or of an enumeration (ECMA-262, 13.2.5).
-pub fn key(kind: PartKind) -> Move
-    ensures { result ≡ rows.key kind }
+/// A key of an object or of an enumeration, in which `async` behind `async` is a name (ECMA-262, 13.2.5, 15.8).
+pub fn key(kind: PartKind, method: Around) -> Move
+    ensures { result ≡ rows.key kind method }
 {
     match kind {
-        PartKind::Name(Name::Async) => Move::To(State::KeyAsync, Change::PendAsync),
+        PartKind::Name(Name::Async) => {
+            if method.is_async {
+                Move::To(State::Key, Change::Nothing)
+            } else {
+                Move::To(State::KeyAsync, Change::PendAsync)
+            }
+        }
         PartKind::Name(_) | PartKind::Reserved(_) => Move::To(State::Key, Change::Nothing),
         PartKind::Sign(Sign::Star) => Move::To(State::Key, Change::PendGenerator),
         PartKind::Sign(Sign::LParen) => Move::To(State::Operand, Change::Method),

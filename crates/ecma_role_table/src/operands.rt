@@ -78,23 +78,13 @@ fn operand_sign(sign: Sign, typescript: bool) -> Move
         Sign::LParen => Move::To(State::Operand, Change::Push(FrameKind::Paren)),
         Sign::LBracket => Move::To(State::Operand, Change::Push(FrameKind::Bracket)),
         Sign::LBrace => Move::To(State::Key, Change::Object),
-        Sign::Lt => {
-            if typescript {
-                Move::To(State::TypeBrackets, Change::Push(FrameKind::OperandAngle))
-            } else {
-                Move::To(State::Operand, Change::Nothing)
-            }
+        Sign::Lt if typescript => {
+            Move::To(State::TypeBrackets, Change::Push(FrameKind::OperandAngle))
         }
-        Sign::LShift => {
-            if typescript {
-                Move::To(
-                    State::TypeBrackets,
-                    Change::PushTwo(FrameKind::OperandAngle, FrameKind::InnerAngle),
-                )
-            } else {
-                Move::To(State::Operand, Change::Nothing)
-            }
-        }
+        Sign::LShift if typescript => Move::To(
+            State::TypeBrackets,
+            Change::PushTwo(FrameKind::OperandAngle, FrameKind::InnerAngle),
+        ),
         Sign::RParen => Move::Again(State::After, Change::Parameters),
         Sign::RBracket
         | Sign::RBrace

@@ -101,9 +101,9 @@ pub fn restricted(kind: PartKind, had_line_break: bool) -> Move
     ensures { result ≡ rows.restricted kind had_line_break }
 {
     match kind {
-        PartKind::Sign(
-            Sign::RBrace | Sign::RParen | Sign::RBracket | Sign::Comma | Sign::Colon | Sign::Semi,
-        ) => Move::Again(State::Operand, Change::Nothing),
+        PartKind::Sign(Sign::RParen) => Move::Again(State::After, Change::Nothing),
+        PartKind::Sign(Sign::RBrace | Sign::RBracket | Sign::Comma | Sign::Colon | Sign::Semi) =>
+            Move::Again(State::Operand, Change::Nothing),
         _ => {
             if had_line_break {
                 Move::Fresh

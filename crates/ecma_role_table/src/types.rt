@@ -1,5 +1,6 @@
 //! Types, of which only brackets and ends matter.
 ghost use Rattle.std.specs.Prelude.{◌≡◌};
+ghost use Rattle.ecma_role_table.specs.declared.part.PartKind.TheVariants as parts;
 ghost use Rattle.ecma_role_table.specs.Types as rows;
 
 use crate::frame::{FrameKind, over_type_conditional, over_type_extends};
@@ -7,48 +8,42 @@ use crate::moves::{Angles, Change, Move};
 use crate::part::{Name, PartKind, Reserved, Sign};
 use crate::state::State;
 
+/// A sign where a type is expected.
+fn type_sign(sign: Sign) -> Move
+    ensures { result ≡ rows.type_operand (parts.Sign sign) }
+{
+    match sign {
+        Sign::LParen => Move::To(State::TypeParen, Change::Push(FrameKind::OuterParen)),
+        Sign::LBracket => Move::To(State::TypeBrackets, Change::Push(FrameKind::OuterBracket)),
+        Sign::LBrace => Move::To(State::TypeBrackets, Change::Push(FrameKind::OuterBrace)),
+        Sign::BackQuote => Move::To(State::Quasi, Change::Push(FrameKind::OuterTemplate)),
+        Sign::Lt => Move::To(
+            State::TypeBrackets,
+            Change::Push(FrameKind::ParametersAngle),
+        ),
+        Sign::Literal => Move::To(State::TypeEnd, Change::Nothing),
+        Sign::BitOr | Sign::BitAnd | Sign::DotDotDot | Sign::Minus | Sign::Dot | Sign::Hash =>
+            Move::To(State::TypeOperand, Change::Nothing),
+        _ => Move::EndType,
+    }
+}
+
 /// A type is expected.
 pub fn type_operand(kind: PartKind) -> Move
     ensures { result ≡ rows.type_operand kind }
 {
     match kind {
-        PartKind::Sign(Sign::LParen) => Move::To(
-            State::TypeParen,
-            Change::Push(FrameKind::OuterParen),
-        ),
-        PartKind::Sign(Sign::LBracket) => Move::To(
-            State::TypeBrackets,
-            Change::Push(FrameKind::OuterBracket),
-        ),
-        PartKind::Sign(Sign::LBrace) => Move::To(
-            State::TypeBrackets,
-            Change::Push(FrameKind::OuterBrace),
-        ),
-        PartKind::Sign(Sign::BackQuote) => Move::To(
-            State::Quasi,
-            Change::Push(FrameKind::OuterTemplate),
-        ),
-        PartKind::Sign(Sign::Lt) => Move::To(
-            State::TypeBrackets,
-            Change::Push(FrameKind::ParametersAngle),
-        ),
-        PartKind::Sign(Sign::Literal) => Move::To(State::TypeEnd, Change::Nothing),
-        PartKind::Sign(
-            Sign::BitOr | Sign::BitAnd | Sign::DotDotDot | Sign::Minus | Sign::Dot | Sign::Hash,
-        ) => Move::To(State::TypeOperand, Change::Nothing),
+        PartKind::Sign(sign) => type_sign(sign),
         PartKind::Name(Name::Asserts) => Move::To(State::Asserts, Change::Nothing),
         PartKind::Name(Name::TypeOperator) => Move::To(State::TypeOperand, Change::Nothing),
-        PartKind::Reserved(Reserved::Typeof | Reserved::New | Reserved::Import) => Move::To(
-            State::TypeOperand,
-            Change::Nothing,
-        ),
+        PartKind::Reserved(Reserved::Typeof | Reserved::New | Reserved::Import) => {
+            Move::To(State::TypeOperand, Change::Nothing)
+        }
         PartKind::Name(Name::PredefinedType) => Move::To(State::TypeEnd, Change::Nothing),
-        PartKind::Reserved(Reserved::Void | Reserved::This | Reserved::Constant) => Move::To(
-            State::TypeEnd,
-            Change::Nothing,
-        ),
+        PartKind::Reserved(Reserved::Void | Reserved::This | Reserved::Constant) => {
+            Move::To(State::TypeEnd, Change::Nothing)
+        }
         PartKind::Name(_) | PartKind::Reserved(_) => Move::To(State::TypeName, Change::Nothing),
-        _ => Move::EndType,
     }
 }
 
@@ -59,47 +54,21 @@ pub fn behind_type(kind: PartKind, had_line_break: bool, top: Option<FrameKind>)
     match kind {
         PartKind::Sign(Sign::BitOr | Sign::BitAnd) => Move::To(State::TypeOperand, Change::Nothing),
         PartKind::Sign(Sign::Dot) => Move::To(State::TypeProperty, Change::Nothing),
+        PartKind::Sign(Sign::QuestionMark) if over_type_extends(top) => {
+            Move::To(State::TypeOperand, Change::Turn(FrameKind::TypeConditional))
+        }
+        PartKind::Sign(Sign::Colon) if over_type_conditional(top) => {
+            Move::To(State::TypeOperand, Change::Pop)
+        }
+        _ if had_line_break => Move::EndType,
         PartKind::Sign(Sign::LBracket) => {
-            if had_line_break {
-                Move::EndType
-            } else {
-                Move::To(State::TypeBrackets, Change::Push(FrameKind::OuterBracket))
-            }
-        }
-        PartKind::Sign(Sign::QuestionMark) => {
-            if over_type_extends(top) {
-                Move::To(State::TypeOperand, Change::Turn(FrameKind::TypeConditional))
-            } else {
-                Move::EndType
-            }
-        }
-        PartKind::Sign(Sign::Colon) => {
-            if over_type_conditional(top) {
-                Move::To(State::TypeOperand, Change::Pop)
-            } else {
-                Move::EndType
-            }
+            Move::To(State::TypeBrackets, Change::Push(FrameKind::OuterBracket))
         }
         PartKind::Reserved(Reserved::Extends) => {
-            if had_line_break {
-                Move::EndType
-            } else {
-                Move::To(State::TypeOperand, Change::Push(FrameKind::TypeExtends))
-            }
+            Move::To(State::TypeOperand, Change::Push(FrameKind::TypeExtends))
         }
-        PartKind::Name(Name::Is) => {
-            if had_line_break {
-                Move::EndType
-            } else {
-                Move::To(State::TypeOperand, Change::Nothing)
-            }
-        }
-        PartKind::Reserved(Reserved::New) => {
-            if had_line_break {
-                Move::EndType
-            } else {
-                Move::To(State::TypeOperand, Change::Nothing)
-            }
+        PartKind::Reserved(Reserved::New) | PartKind::Name(Name::Is) => {
+            Move::To(State::TypeOperand, Change::Nothing)
         }
         _ => Move::EndType,
     }
@@ -204,44 +173,39 @@ pub fn behind_type_paren_name(kind: PartKind) -> Move
     }
 }
 
+/// A sign in the brackets of a type.
+fn sign_in_type_brackets(sign: Sign) -> Move
+    ensures { result ≡ rows.in_type_brackets (parts.Sign sign) }
+{
+    match sign {
+        Sign::LParen => Move::To(State::TypeBrackets, Change::Push(FrameKind::InnerParen)),
+        Sign::LBracket => Move::To(State::TypeBrackets, Change::Push(FrameKind::InnerBracket)),
+        Sign::LBrace => Move::To(State::TypeBrackets, Change::Push(FrameKind::InnerBrace)),
+        Sign::Lt => Move::To(State::TypeBrackets, Change::Push(FrameKind::InnerAngle)),
+        Sign::LShift => Move::To(
+            State::TypeBrackets,
+            Change::PushTwo(FrameKind::InnerAngle, FrameKind::InnerAngle),
+        ),
+        Sign::BackQuote => Move::To(State::Quasi, Change::Push(FrameKind::InnerTemplate)),
+        Sign::RParen => Move::Paren,
+        Sign::RBracket => Move::Bracket,
+        Sign::RBrace => Move::Brace,
+        Sign::Gt => Move::TypeGreater(Angles::One, false),
+        Sign::RShift => Move::TypeGreater(Angles::Two, false),
+        Sign::ZeroFillRShift => Move::TypeGreater(Angles::Three, false),
+        Sign::GtEq => Move::TypeGreater(Angles::One, true),
+        Sign::RShiftEq => Move::TypeGreater(Angles::Two, true),
+        Sign::ZeroFillRShiftEq => Move::TypeGreater(Angles::Three, true),
+        _ => Move::To(State::TypeBrackets, Change::Nothing),
+    }
+}
+
 /// In the brackets of a type, of which only the brackets matter.
 pub fn in_type_brackets(kind: PartKind) -> Move
     ensures { result ≡ rows.in_type_brackets kind }
 {
     match kind {
-        PartKind::Sign(Sign::LParen) => Move::To(
-            State::TypeBrackets,
-            Change::Push(FrameKind::InnerParen),
-        ),
-        PartKind::Sign(Sign::LBracket) => Move::To(
-            State::TypeBrackets,
-            Change::Push(FrameKind::InnerBracket),
-        ),
-        PartKind::Sign(Sign::LBrace) => Move::To(
-            State::TypeBrackets,
-            Change::Push(FrameKind::InnerBrace),
-        ),
-        PartKind::Sign(Sign::Lt) => Move::To(
-            State::TypeBrackets,
-            Change::Push(FrameKind::InnerAngle),
-        ),
-        PartKind::Sign(Sign::LShift) => Move::To(
-            State::TypeBrackets,
-            Change::PushTwo(FrameKind::InnerAngle, FrameKind::InnerAngle),
-        ),
-        PartKind::Sign(Sign::BackQuote) => Move::To(
-            State::Quasi,
-            Change::Push(FrameKind::InnerTemplate),
-        ),
-        PartKind::Sign(Sign::RParen) => Move::Paren,
-        PartKind::Sign(Sign::RBracket) => Move::Bracket,
-        PartKind::Sign(Sign::RBrace) => Move::Brace,
-        PartKind::Sign(Sign::Gt) => Move::TypeGreater(Angles::One, false),
-        PartKind::Sign(Sign::RShift) => Move::TypeGreater(Angles::Two, false),
-        PartKind::Sign(Sign::ZeroFillRShift) => Move::TypeGreater(Angles::Three, false),
-        PartKind::Sign(Sign::GtEq) => Move::TypeGreater(Angles::One, true),
-        PartKind::Sign(Sign::RShiftEq) => Move::TypeGreater(Angles::Two, true),
-        PartKind::Sign(Sign::ZeroFillRShiftEq) => Move::TypeGreater(Angles::Three, true),
+        PartKind::Sign(sign) => sign_in_type_brackets(sign),
         _ => Move::To(State::TypeBrackets, Change::Nothing),
     }
 }

@@ -1,4 +1,3 @@
-pub mod NestLemmas
 pub mod RankLemmas
 pub mod RowRanks
 pub mod SettledLemmas

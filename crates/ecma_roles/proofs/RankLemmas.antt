@@ -12,8 +12,8 @@ use Rattle.ecma_role_table.specs.declared.moves.Move.{Move}
 use Rattle.ecma_role_table.specs.declared.moves.Move.TheVariants as move
 use Rattle.ecma_role_table.specs.declared.moves.Turn.{Turn}
 use Rattle.ecma_role_table.specs.declared.moves.Turn.TheVariants.{Again, Done}
-use Rattle.ecma_roles.specs.Moves.{Landed, angle_over, angle, back_of, behind_annotation, behind_ended_type, behind_method, behind_no_body, behind_no_class, by_head, by_mark, decorated_of, equals_behind, fresh_of, landed, moved, operand_for_key, operand_for_member, type_angles, word_turned}
-use Rattle.ecma_roles.specs.Nest.{Nested, dropped, popped, top}
+use Rattle.ecma_role_moves.specs.Moves.{Landed, angle_over, angle, back_of, behind_annotation, behind_ended_type, behind_method, behind_no_body, behind_no_class, by_head, by_mark, decorated_of, equals_behind, fresh_of, landed, moved, operand_for_key, operand_for_member, type_angles, word_turned}
+use Rattle.ecma_role_moves.specs.Nest.{Nested, dropped, popped, top}
 use Rattle.ecma_roles.specs.Rank.{height, rank, rank_of_begins, rank_of_fresh, turn_height}
 use Rattle.ecma_roles.specs.Track.{TrackView, read_on, read_once, read_times, reading, readied, seen, track}
 use Rattle.ecma_role_table.specs.Table.{row}

@@ -102,16 +102,16 @@ low-function_head_end kind = grind arith
 low-class_head : (kind : PartKind) → height (members.class_head kind) kind ≤ rank state.ClassHead kind
 low-class_head kind = grind arith
 
-low-member : (kind : PartKind) → height (members.member kind) kind ≤ rank state.Member kind
+low-member : (kind : PartKind) (method : Around) → height (members.member kind method) kind ≤ rank state.Member kind
 unfolding goes_on begins_statements
-low-member kind = grind arith
+low-member kind method = grind arith
 
 low-behind_member_async : (kind : PartKind) (had_line_break : Bool) → height (members.behind_member_async kind had_line_break) kind ≤ rank state.MemberAsync kind
 low-behind_member_async kind had_line_break = grind arith
 
-low-key : (kind : PartKind) → height (members.key kind) kind ≤ rank state.Key kind
+low-key : (kind : PartKind) (method : Around) → height (members.key kind method) kind ≤ rank state.Key kind
 unfolding goes_on begins_statements
-low-key kind = grind arith
+low-key kind method = grind arith
 
 low-behind_key_async : (kind : PartKind) → height (members.behind_key_async kind) kind ≤ rank state.KeyAsync kind
 low-behind_key_async kind = grind arith
@@ -255,9 +255,9 @@ row_low state.Clause kind seen = low-clause kind
 row_low state.Head kind seen = low-function_head kind
 row_low state.HeadEnd kind seen = low-function_head_end kind
 row_low state.ClassHead kind seen = low-class_head kind
-row_low state.Member kind seen = low-member kind
+row_low state.Member kind seen = low-member kind seen.method
 row_low state.MemberAsync kind seen = low-behind_member_async kind seen.had_line_break
-row_low state.Key kind seen = low-key kind
+row_low state.Key kind seen = low-key kind seen.method
 row_low state.KeyAsync kind seen = low-behind_key_async kind
 row_low state.KeyComma kind seen = low-behind_key_comma kind
 row_low state.KeyCommaName kind seen = low-behind_key_comma_name kind

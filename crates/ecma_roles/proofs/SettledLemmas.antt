@@ -10,11 +10,11 @@ use Rattle.ecma_role_table.specs.declared.state.State.TheVariants as state
 use Rattle.ecma_role_table.specs.Frames.{over_candidate}
 use Rattle.ecma_role_table.specs.Statements.{statement}
 use Rattle.ecma_role_table.specs.Table.{row}
-use Rattle.ecma_roles.specs.Moves.{moved, changed, turned_to}
-use Rattle.ecma_roles.specs.Nest.{Nested, top}
+use Rattle.ecma_role_moves.specs.Moves.{moved, changed, turned_to}
+use Rattle.ecma_role_moves.specs.Nest.{Nested, top}
 use Rattle.ecma_roles.specs.Settled.{Settles, is_dot, is_name, is_operand, is_operator, is_prefix, is_word}
-use Rattle.ecma_roles.specs.Track.{TrackView, after_turn, read_once, read_times, readied, reading, seen, stepped, track}
-use Rattle.ecma_roles.proofs.NestLemmas.{dropped_none}
+use Rattle.ecma_roles.specs.Track.{TrackView, read_once, read_times, readied, reading, seen, stepped, track}
+use Rattle.ecma_role_moves.proofs.NestLemmas.{dropped_none}
 use Rattle.ecma_roles.proofs.TrackLemmas.{nothing_left, one_more}
 
 -- one row that changes nothing but the state

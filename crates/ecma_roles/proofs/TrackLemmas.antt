@@ -3,8 +3,8 @@ use Rattle.std.proofs.Common.{◌≡◌, ◌+◌, ◌-◌, ◌<◌, ◌∙◌, a
 use Rattle.ecma_role_table.specs.declared.part.PartKind.{PartKind}
 use Rattle.ecma_role_table.specs.declared.state.State.{State}
 use Rattle.ecma_role_table.specs.declared.moves.Turn.TheVariants.{Again, Done}
-use Rattle.ecma_roles.specs.Moves.{turned_to}
-use Rattle.ecma_roles.specs.Nest.{Nested}
+use Rattle.ecma_role_moves.specs.Moves.{turned_to}
+use Rattle.ecma_role_moves.specs.Nest.{Nested}
 use Rattle.ecma_roles.specs.Track.{Reading, TrackView, after_turn, read_once, read_times, reading, track}
 
 -- where nothing is left nothing changes

@@ -1,5 +1,3 @@
-pub mod Moves
-pub mod Nest
 pub mod Rank
 pub mod Settled
 pub mod Slashes

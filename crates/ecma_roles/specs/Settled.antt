@@ -6,7 +6,7 @@ use Rattle.ecma_role_table.specs.declared.part.PartKind.TheVariants.{Name, Reser
 use Rattle.ecma_role_table.specs.declared.part.Reserved.TheVariants as reserved
 use Rattle.ecma_role_table.specs.declared.part.Sign.TheVariants as sign
 use Rattle.ecma_role_table.specs.declared.state.State.{State}
-use Rattle.ecma_roles.specs.Nest.{Nested}
+use Rattle.ecma_role_moves.specs.Nest.{Nested}
 use Rattle.ecma_roles.specs.Track.{stepped, track}
 pub use Rattle.ecma_role_table.specs.declared.state.State.TheVariants.{After}
 

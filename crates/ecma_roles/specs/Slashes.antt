@@ -5,7 +5,7 @@ use Rattle.ecma_role_table.specs.declared.frame.FrameKind.TheVariants as frame
 use Rattle.ecma_role_table.specs.declared.frame.Kinds.TheVariants as kinds
 use Rattle.ecma_role_table.specs.declared.state.State.{State}
 use Rattle.ecma_role_table.specs.declared.state.State.TheVariants as state
-use Rattle.ecma_roles.specs.Nest.{Nested, kind_in, outside, top}
+use Rattle.ecma_role_moves.specs.Nest.{Nested, kind_in, outside, top}
 use Rattle.ecma_roles.specs.Track.{TrackView}
 
 -- a statement has to begin behind what is declared with a type and no initializer, and behind an alias

@@ -15,8 +15,8 @@ use Rattle.ecma_role_table.specs.declared.state.State.TheVariants as state
 use Rattle.ecma_role_table.specs.declared.moves.Turn.{Turn}
 use Rattle.ecma_role_table.specs.declared.moves.Turn.TheVariants.{Again, Done}
 use Rattle.ecma_role_table.specs.declared.table.Seen.{Seen}
-use Rattle.ecma_roles.specs.Moves.{Turned, moved}
-use Rattle.ecma_roles.specs.Nest.{Nested, nested, dropped, function, top, turned, under}
+use Rattle.ecma_role_moves.specs.Moves.{Turned, moved}
+use Rattle.ecma_role_moves.specs.Nest.{Nested, nested, dropped, function, top, turned, under}
 use Rattle.ecma_role_table.specs.Table.{row}
 
 pub record TrackView : Type 0 where
@@ -75,7 +75,7 @@ readied state.TypeBrackets kind had_line_break nest = pattern_over (top nest) ki
 readied other kind had_line_break nest = nest
 
 abbrev pub seen : Bool → Bool → Nested → Seen
-seen had_line_break typescript nest = record { had_line_break = had_line_break; typescript = typescript; around = nest.around; top = top nest; under = under nest }
+seen had_line_break typescript nest = record { had_line_break = had_line_break; typescript = typescript; around = nest.around; method = nest.pending; top = top nest; under = under nest }
 
 -- a token of this kind, read once in the state of a track
 abbrev pub read_in : State → PartKind → Bool → Bool → Nested → Turned

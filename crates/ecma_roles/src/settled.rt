@@ -3,7 +3,7 @@ ghost use Rattle.std.specs.Prelude.{◌≡◌, IfSome};
 ghost use Rattle.ecma_roles.specs.Settled as tokens;
 ghost use Rattle.ecma_roles.specs.Settled.{Settles};
 
-use crate::nest::Nest;
+use ecma_role_moves::nest::Nest;
 use ecma_role_table::frame::over_candidate;
 use ecma_role_table::part::{Name, PartKind, Reserved, Sign};
 use ecma_role_table::state::State;

@@ -2,7 +2,7 @@
 ghost use Rattle.std.specs.Prelude.{◌≡◌};
 ghost use Rattle.ecma_roles.specs.Slashes as slashes;
 
-use crate::nest::Nest;
+use ecma_role_moves::nest::Nest;
 use ecma_role_table::frame::{FrameKind, Kinds};
 use ecma_role_table::state::State;
 

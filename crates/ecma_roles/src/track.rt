@@ -1,15 +1,15 @@
 //! A track of tokens.
 ghost use Rattle.std.specs.Prelude.{◌≡◌, ◌+◌, ◌≤◌, IfOk, IsOk, OnOk, OnErr, Some};
-ghost use Rattle.ecma_roles.specs.Nest as nests;
-ghost use Rattle.ecma_roles.specs.Nest.{IsShallow};
-ghost use Rattle.ecma_roles.specs.Moves.{turned_to};
+ghost use Rattle.ecma_role_moves.specs.Nest as nests;
+ghost use Rattle.ecma_role_moves.specs.Nest.{IsShallow};
+ghost use Rattle.ecma_role_moves.specs.Moves.{turned_to};
 ghost use Rattle.ecma_roles.specs.Slashes as slashes;
 ghost use Rattle.ecma_roles.specs.Track as tracks;
 
-use crate::nest::Nest;
-use crate::perform::perform;
 use crate::settled::settled;
 use crate::slash::expects_operand;
+use ecma_role_moves::nest::Nest;
+use ecma_role_moves::perform::perform;
 use ecma_role_table::frame::{Around, FrameKind, Kinds};
 use ecma_role_table::moves::Turn;
 use ecma_role_table::part::{Name, Part, PartKind, Reserved, Sign};
@@ -119,6 +119,7 @@ fn read_once(
         had_line_break,
         typescript,
         around: nest.around(),
+        method: nest.pending(),
         top: nest.top(),
         under: nest.under(),
     };

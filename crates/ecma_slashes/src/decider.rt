@@ -1,5 +1,5 @@
 //! What decides which slashes begin regular expressions, as far as a text is read.
-ghost use Rattle.std.specs.Prelude.{◌≡◌, [], None, Some, option_map, OnErr, OnOk, IsOk};
+ghost use Rattle.std.specs.Prelude.{◌≡◌, [], None, Some, option_map, OnErr, OnOk, IfOk, IsOk};
 ghost use Rattle.ecma_token.specs.View.{spanned_view};
 ghost use Rattle.ecma_role_table.specs.declared.part.Part.{Part};
 ghost use Rattle.ecma_state.specs.Session.{Session};
@@ -83,7 +83,7 @@ impl<'d> Namer<'d> {
         match self {
             Namer::Rule(slashes) => slashes.name(allowed, false, slash),
             Namer::Decider(decider) => {
-                let expected = decider.expects(slot);
+                let expected = decider.expects(is_assign(slot));
                 decider.slashes.name(allowed, expected, slash)
             }
         }
@@ -148,19 +148,58 @@ impl<'a> Decider<'a> {
         }
     }
 
-    /// Whether the tokens before let expect an expression where the slash stands that was read into the slot.
-    fn expects(&self, slot: &Option<TokenAndSpan>) -> bool
+    /// Whether the tokens before let expect an expression where a slash comes next, with or without `=` behind it.
+    fn expects(&self, is_assign: bool) -> bool
         requires { self.now.last ≡ None }
-        ensures { result ≡ expected_by (known_to self.now) (roles.is_assign (option_map spanned_view slot.now)) }
+        ensures { result ≡ expected_by (known_to self.now) is_assign }
     {
         match self.slashes {
             Slashes::ByFlag | Slashes::At(_) => false,
             Slashes::ByRole => match &self.track {
-                Some(track) => track.expects_operand(is_assign(slot)),
+                Some(track) => track.expects_operand(is_assign),
                 None => false,
             },
             Slashes::Numbered(_) => self.left == 1,
         }
+    }
+
+    /// Whether what the rule asks of the tokens before says that a slash which comes next, with or without `=` behind it,
+    /// begins a regular expression; no, where it asks nothing of them.
+    ///
+    /// # Errors
+    ///
+    /// `AllocError` where there is no memory for what the last token opens. Nothing is then changed.
+    pub fn expects_operand(&mut self, is_assign: bool) -> Result<bool, AllocError>
+        ensures told { IfOk result (λ expects. expects ≡ expected_by (known_to self.old) is_assign) }
+        ensures follows { known_to self.new ≡ known_to self.old }
+        ensures slashes { self.new.slashes ≡ self.old.slashes }
+        ensures err { OnErr result (self.new ≡ self.old) }
+        ensures free { HasRoom self.old.track → IsOk result }
+    {
+        self.catch_up()?;
+        Ok(self.expects(is_assign))
+    }
+
+    /// The same decider. It does not allocate where at most 64 frames enclose the place.
+    ///
+    /// # Errors
+    ///
+    /// `AllocError` where there is no memory for the frames.
+    pub fn copy(&self) -> Result<Decider<'a>, AllocError>
+        ensures copy { IfOk result (λ copy. copy ≡ self.now) }
+        ensures free { HasRoom self.now.track → IsOk result }
+    {
+        let track = match &self.track {
+            Some(track) => Some(track.copy()?),
+            None => None,
+        };
+        Ok(Decider {
+            slashes: self.slashes,
+            track,
+            last: self.last,
+            left: self.left,
+            numbers: self.numbers,
+        })
     }
 
     /// Takes the last token into account.

@@ -95,6 +95,16 @@ const TYPESCRIPT: &[Row] = &[
     ("type F = (a: A, b: B) => C\n/r/", "r"),
     ("let x: `a${B}c` = 1 / 2", "d"),
     ("a as any / 2", "d"),
+    ("class A { async?: string; m() { return await / 2 } }", "d"),
+    ("class A { async!: string\nm() { return await / 2 } }", "d"),
+    (
+        "abstract class A { async?(): void; m() { return await / 2 } }",
+        "d",
+    ),
+    (
+        "class A { private async async(): Promise<void> { await /re/ } }",
+        "r",
+    ),
 ];
 
 const SCRIPTS: &[Row] = &[
@@ -197,6 +207,21 @@ const SCRIPTS: &[Row] = &[
     ("for (var a in /r/) ;", "r"),
     ("x = { get a() { return 1 / 2 }, b: /r/ }", "dr"),
     ("a = b\n/c/d", "dd"),
+    ("function* f() { c ? (yield) : /re/ }", "r"),
+    ("function* f() { c ? (a, yield) : /re/ }", "r"),
+    ("function* f() { c ? g(yield) / 2 : /re/ }", "dr"),
+    ("class A { async async() { await /re/ } }", "r"),
+    ("class A { async #async() { await /re/ } }", "r"),
+    ("class A { async *async() { await /re/ } }", "r"),
+    ("class A { static async async() { await /re/ } }", "r"),
+    ("({ async async() { await /re/ } })", "r"),
+    ("({ async *async() { await /re/ } })", "r"),
+    ("class A { async\nasync() { await / 2 } }", "d"),
+    ("class A { #async() { await / 2 } }", "d"),
+    ("class A { *async() { await / 2 } }", "d"),
+    ("class A { get async() { return await / 2 } }", "d"),
+    ("for (const a = b instanceof c, d = /re/; ;) a / d", "rd"),
+    ("for (let a = b instanceof c / 2; a; ) /re/.test(a)", "dr"),
 ];
 
 /// Texts that ECMA-262 refuses for what stands in brackets; what is expected is what it would be with other tokens in them.

@@ -1,4 +1,3 @@
-use Rattle.std.proofs.Common.{◌≡◌}
 use Rattle.ecma_roles.proofs.SettledLemmas.{dot_settles, operator_settles}
 use Rattle.ecma_roles.proofs.settled.behind_operand.Goals as goal
 

@@ -1,4 +1,3 @@
-use Rattle.std.proofs.Common.{◌≡◌}
 use Rattle.ecma_roles.proofs.SettledLemmas.{name_begins, name_is_bound, name_is_key, operand_settles, prefix_settles, word_settles}
 use Rattle.ecma_roles.proofs.settled.settled.Goals as goal
 

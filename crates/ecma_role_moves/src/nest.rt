@@ -1,6 +1,6 @@
 //! A stack of frames, and what they keep.
 ghost use Rattle.std.specs.Prelude.{◌≡◌, ◌+◌, ◌≤◌, [], IfOk, IsOk, OnOk, length, slice_get};
-ghost use Rattle.ecma_roles.specs.Nest as nests;
+ghost use Rattle.ecma_role_moves.specs.Nest as nests;
 
 use ecma_role_table::frame::{Around, Frame, FrameKind, Kinds};
 use smallvec::SmallVec;
@@ -9,7 +9,7 @@ use std::marker::Model;
 
 /// What encloses the place that is read.
 #[derive(Drop)]
-pub(crate) struct Nest {
+pub struct Nest {
     /// The innermost last. As many as real code has stand in the value itself.
     frames: SmallVec<Frame, 80>,
     /// What the function around is.
@@ -21,7 +21,7 @@ pub(crate) struct Nest {
 impl Model for Nest {
     ghost use Rattle.std.specs.Prelude.{◌-◌, reverse};
     ghost use Rattle.smallvec.specs.SmallVec.{small_vec_len};
-    ghost use Rattle.ecma_roles.specs.Nest.{Roomy, nested};
+    ghost use Rattle.ecma_role_moves.specs.Nest.{Roomy, nested};
 
     ghost Value = { Roomy };
 
@@ -30,7 +30,7 @@ impl Model for Nest {
 
 impl Nest {
     /// Nothing encloses the place, which does not allocate.
-    pub(crate) fn new(alloc: Global, around: Around) -> Nest
+    pub fn new(alloc: Global, around: Around) -> Nest
         ensures { result.nest ≡ nests.nested [] around nests.no_function }
     {
         Nest {
@@ -48,7 +48,8 @@ impl Nest {
     /// # Errors
     ///
     /// `AllocError` where there is no memory for them. Nothing is then changed.
-    pub(crate) fn reserve(&mut self, count: usize) -> Result<(), AllocError>
+    #[inline]
+    pub fn reserve(&mut self, count: usize) -> Result<(), AllocError>
         ensures nest { self.new.nest ≡ self.old.nest }
         ensures room { OnOk result (count ≤ self.new.room) }
         ensures free { length self.old.nest.frames + count ≤ 80 → IsOk result }
@@ -60,14 +61,16 @@ impl Nest {
     }
 
     /// What the function around is.
-    pub(crate) fn around(&self) -> Around
+    #[inline]
+    pub fn around(&self) -> Around
         ensures { result ≡ self.now.nest.around }
     {
         self.around
     }
 
     /// What the method is whose name is read.
-    pub(crate) fn pending(&self) -> Around
+    #[inline]
+    pub fn pending(&self) -> Around
         ensures { result ≡ self.now.nest.pending }
     {
         self.pending
@@ -82,6 +85,7 @@ impl Nest {
     }
 
     /// The kind of the frame that so many are inside of, where there is one.
+    #[inline]
     pub(crate) fn kind_at(&self, index: usize) -> Option<FrameKind>
         ensures { result ≡ nests.kind_at index self.now.nest }
     {
@@ -94,20 +98,23 @@ impl Nest {
     }
 
     /// The kind of the innermost frame, where there is one.
-    pub(crate) fn top(&self) -> Option<FrameKind>
+    #[inline]
+    pub fn top(&self) -> Option<FrameKind>
         ensures { result ≡ nests.top self.now.nest }
     {
         self.kind_at(0)
     }
 
     /// The kind of the frame right around the innermost, where there is one.
-    pub(crate) fn under(&self) -> Option<FrameKind>
+    #[inline]
+    pub fn under(&self) -> Option<FrameKind>
         ensures { result ≡ nests.under self.now.nest }
     {
         self.kind_at(1)
     }
 
     /// Whether the innermost frame is of these kinds.
+    #[inline]
     pub(crate) fn is_over(&self, kinds: Kinds) -> bool
         ensures { result ≡ nests.over_kinds kinds (nests.top self.now.nest) }
     {
@@ -119,7 +126,7 @@ impl Nest {
 
     /// The kinds of the two innermost frames around those of these kinds on top, where there are such.
     #[tactic(auto, using(crate::proofs::NestLemmas::outside_further, crate::proofs::NestLemmas::outside_at, crate::proofs::NestLemmas::outside_none))]
-    pub(crate) fn outside(&self, kinds: Kinds) -> (Option<FrameKind>, Option<FrameKind>)
+    pub fn outside(&self, kinds: Kinds) -> (Option<FrameKind>, Option<FrameKind>)
         ensures top { result.0 ≡ nests.kind_in (slice_get (nests.outside kinds self.now.nest.frames) 0) }
         ensures under { result.1 ≡ nests.kind_in (slice_get (nests.outside kinds self.now.nest.frames) 1) }
     {
@@ -177,7 +184,7 @@ impl Nest {
     }
 
     /// The innermost frame, where there is one, becomes one of this kind.
-    pub(crate) fn turn(&mut self, kind: FrameKind)
+    pub fn turn(&mut self, kind: FrameKind)
         ensures nest { self.new.nest ≡ nests.turned kind self.old.nest }
         ensures room { self.new.room ≡ self.old.room }
     {
@@ -189,7 +196,7 @@ impl Nest {
 
     /// The innermost frames go as long as they are of these kinds.
     #[tactic(auto, using(crate::proofs::NestLemmas::dropped_popped, crate::proofs::NestLemmas::dropped_none, crate::proofs::NestLemmas::popped_shorter))]
-    pub(crate) fn drop_all(&mut self, kinds: Kinds)
+    pub fn drop_all(&mut self, kinds: Kinds)
         ensures nest { self.new.nest ≡ nests.dropped kinds self.old.nest }
         ensures room { self.old.room ≤ self.new.room }
     {
@@ -229,7 +236,7 @@ impl Nest {
     /// # Errors
     ///
     /// `AllocError` where there is no memory for the frames.
-    pub(crate) fn copy(&self) -> Result<Nest, AllocError>
+    pub fn copy(&self) -> Result<Nest, AllocError>
         ensures copy { IfOk result (λ copy. copy.nest ≡ self.now.nest) }
         ensures free { length self.now.nest.frames ≤ 80 → IsOk result }
     {

@@ -1,6 +1,6 @@
 //! States by the frame that is right around.
 ghost use Rattle.std.specs.Prelude.{◌≡◌};
-ghost use Rattle.ecma_roles.specs.Moves as moves;
+ghost use Rattle.ecma_role_moves.specs.Moves as moves;
 
 use ecma_role_table::frame::FrameKind;
 use ecma_role_table::state::State;

@@ -1,9 +1,9 @@
 //! Brackets that close, and what else ends by what encloses the place.
 ghost use Rattle.std.specs.Prelude.{◌≡◌, ◌+◌, ◌<◌, ◌≤◌, IfSome};
 ghost use Rattle.ecma_role_table.specs.declared.frame.FrameKind.TheVariants as frame;
-ghost use Rattle.ecma_roles.specs.Nest as nests;
-ghost use Rattle.ecma_roles.specs.Moves as moves;
-ghost use Rattle.ecma_roles.specs.Moves.{landed};
+ghost use Rattle.ecma_role_moves.specs.Nest as nests;
+ghost use Rattle.ecma_role_moves.specs.Moves as moves;
+ghost use Rattle.ecma_role_moves.specs.Moves.{landed};
 
 use crate::inside::{
     back_of, behind_brace, behind_candidate, behind_comma, behind_ended_type, behind_no_body,

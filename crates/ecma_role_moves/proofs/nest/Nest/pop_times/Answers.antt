@@ -1,6 +1,6 @@
 use Rattle.std.proofs.Common.{◌≡◌, ◌+◌, ◌∙◌, suc, sym, arith}
-use Rattle.ecma_roles.proofs.NestLemmas.{popped_more, popped_none}
-use Rattle.ecma_roles.proofs.nest.Nest.pop_times.Goals as goal
+use Rattle.ecma_role_moves.proofs.NestLemmas.{popped_more, popped_none}
+use Rattle.ecma_role_moves.proofs.nest.Nest.pop_times.Goals as goal
 
 pub levels-preserved : goal.levels-preserved
 levels-preserved c = (

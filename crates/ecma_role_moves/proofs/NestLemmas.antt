@@ -6,7 +6,7 @@ use Rattle.ecma_role_table.specs.declared.frame.Frame.{Frame}
 use Rattle.ecma_role_table.specs.declared.frame.FrameKind.{FrameKind}
 use Rattle.ecma_role_table.specs.declared.frame.Kinds.{Kinds}
 use Rattle.ecma_role_table.specs.Frames.{is_of}
-use Rattle.ecma_roles.specs.Nest.{Nested, nested, dropped, dropped_from, kind_in, outside, over_kinds, popped, popped_from, popped_times, top}
+use Rattle.ecma_role_moves.specs.Nest.{Nested, nested, dropped, dropped_from, kind_in, outside, over_kinds, popped, popped_from, popped_times, top}
 
 -- one frame of these kinds less is dropped
 drop-popped : (kinds : Kinds) (frames : List Frame) (around pending : Around) → over_kinds kinds (kind_in (slice_get frames 0)) ≡ true → dropped kinds (popped_from frames around pending) ≡ dropped_from kinds frames around pending

@@ -1,10 +1,10 @@
 use Rattle.std.proofs.Common.{add-one, ap, ◌≡◌, ◌≤◌, false, length, Some, ◌∙◌, refl, sym, arith}
 use Rattle.std.specs.List.{slice_get}
 use Rattle.std.proofs.lemmas.Option.{slice_get_past}
-use Rattle.ecma_roles.specs.Frames.{is_of}
-use Rattle.ecma_roles.specs.Nest.{kind_in}
-use Rattle.ecma_roles.proofs.NestLemmas.{outside_at, outside_none}
-use Rattle.ecma_roles.proofs.nest.Nest.outside.Goals as goal
+use Rattle.ecma_role_moves.specs.Frames.{is_of}
+use Rattle.ecma_role_moves.specs.Nest.{kind_in}
+use Rattle.ecma_role_moves.proofs.NestLemmas.{outside_at, outside_none}
+use Rattle.ecma_role_moves.proofs.nest.Nest.outside.Goals as goal
 
 pub returns-then-not-is_of-clause-top : goal.returns-then-not-is_of-clause-top
 returns-then-not-is_of-clause-top c =

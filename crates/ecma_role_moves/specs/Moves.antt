@@ -19,7 +19,7 @@ use Rattle.ecma_role_table.specs.declared.moves.Move.TheVariants as move
 use Rattle.ecma_role_table.specs.declared.moves.Turn.{Turn}
 use Rattle.ecma_role_table.specs.declared.moves.Turn.TheVariants.{Again, Done}
 use Rattle.ecma_role_table.specs.Frames.{is_template, over_candidate}
-use Rattle.ecma_roles.specs.Nest.{Nested, dropped, function, gains_async, gains_generator, async_function, kind_at, loses_async, module_code, no_function, pending, popped, popped_times, pushed, top, turned, under, within}
+use Rattle.ecma_role_moves.specs.Nest.{Nested, dropped, function, gains_async, gains_generator, async_function, kind_at, loses_async, module_code, no_function, pending, popped, popped_times, pushed, top, turned, under, within}
 
 -- what a move leaves
 pub record Turned : Type 0 where

@@ -1,7 +1,8 @@
 //! Changes of what encloses the place that is read.
 ghost use Rattle.std.specs.Prelude.{◌≡◌, ◌+◌, ◌≤◌};
-ghost use Rattle.ecma_roles.specs.Moves as moves;
-ghost use Rattle.ecma_roles.specs.Nest as nests;
+ghost use Rattle.ecma_role_table.specs.declared.frame.Kinds.TheVariants as kinds;
+ghost use Rattle.ecma_role_moves.specs.Moves as moves;
+ghost use Rattle.ecma_role_moves.specs.Nest as nests;
 
 use crate::nest::Nest;
 use ecma_role_table::frame::{Around, FrameKind, Kinds};
@@ -86,6 +87,15 @@ fn turn_parameters(nest: &mut Nest)
     }
 }
 
+/// Parentheses end that can only be parameters: the marks in them go.
+fn end_parameters(nest: &mut Nest)
+    ensures nest { nest.new.nest ≡ moves.parameters (nests.dropped kinds.Marks nest.old.nest) }
+    ensures room { nest.old.room ≤ nest.new.room }
+{
+    nest.drop_all(Kinds::Marks);
+    turn_parameters(nest);
+}
+
 /// The function around is a generator.
 fn gain_generator(nest: &mut Nest)
     ensures nest { nest.new.nest ≡ nests.within (nests.gains_generator nest.old.nest.around) nest.old.nest }
@@ -143,10 +153,7 @@ pub(crate) fn apply(nest: &mut Nest, change: Change)
         Change::Static => begin_static(nest),
         Change::Object => begin_object(nest),
         Change::Arrow(is_async) => begin_arrow(nest, is_async),
-        Change::Parameters => {
-            nest.drop_all(Kinds::Marks);
-            turn_parameters(nest);
-        }
+        Change::Parameters => end_parameters(nest),
         Change::DropCandidates => nest.drop_all(Kinds::Candidates),
         Change::DropCandidatesClear => {
             nest.set_pending(function(false));

@@ -1,8 +1,8 @@
 //! What a row says to do, done.
 ghost use Rattle.std.specs.Prelude.{◌≡◌, ◌+◌, ◌≤◌};
-ghost use Rattle.ecma_roles.specs.Moves as moves;
-ghost use Rattle.ecma_roles.specs.Moves.{turned_to};
-ghost use Rattle.ecma_roles.specs.Nest as nests;
+ghost use Rattle.ecma_role_moves.specs.Moves as moves;
+ghost use Rattle.ecma_role_moves.specs.Moves.{turned_to};
+ghost use Rattle.ecma_role_moves.specs.Nest as nests;
 
 use crate::change::apply;
 use crate::closing::{
@@ -73,7 +73,7 @@ fn end_brace(nest: &mut Nest) -> State
 
 /// Does what a row says with a token of this kind, by two frames more at most.
 #[tactic(auto, unfolding(crate::specs::Moves::moved))]
-pub(crate) fn perform(nest: &mut Nest, next: Move, kind: PartKind) -> Turn
+pub fn perform(nest: &mut Nest, next: Move, kind: PartKind) -> Turn
     requires { 2 ≤ nest.old.room }
     ensures nest { turned_to result nest.new.nest ≡ moves.moved next kind nest.old.nest }
     ensures room { nest.old.room ≤ nest.new.room + 2 }
