@@ -1,13 +1,14 @@
 -- Where a lexer is between two reads, as plain data, and where going back to it leads: our own choice.
-use Rattle.std.specs.Prelude.{◌≡◌, ◌≤◌, Bool, true, Option, Some, length, take}
+use Rattle.std.specs.Prelude.{◌≡◌, ◌≤◌, Bool, true, Option, Some, [], length, take}
 use Rattle.ecma_place.specs.Cursor.{Cursor, HasPlace, place, rest}
 use Rattle.ecma_place.specs.declared.place.BytePos.{BytePos}
 use Rattle.ecma_syntax.specs.declared.context.Context.{Context}
 use Rattle.ecma_grammar.specs.Expressions.{opens_expression}
-use Rattle.ecma_state.specs.Disposition.{Errors}
+use Rattle.ecma_state.specs.Disposition.{Errors, no_errors}
 use Rattle.ecma_state.specs.Run.{at_place}
 use Rattle.ecma_state.specs.Session.{LexerState}
 use Rattle.ecma_state.specs.State.{StateValue, last_slash}
+use Rattle.ecma_state.specs.declared.settings.Settings.{Settings}
 use Rattle.ecma_checkpoint.specs.declared.checkpoint.Counts.{Counts}
 
 pub record CheckpointValue : Type 0 where
@@ -85,5 +86,20 @@ rewound c l =
       reread = c.reread;
       errors = cut_errors c.counts l.errors;
       comments = take c.counts.comments l.comments;
+      refused = c.refused;
+    }
+
+-- a lexer that goes on from a checkpoint in a text, by these settings: with all that the checkpoint keeps, and with no errors and
+-- no comments
+abbrev pub resumed : Settings → CheckpointValue → Cursor → LexerState
+resumed settings c input =
+    record {
+      settings = settings;
+      input = at_place c.at input;
+      context = c.context;
+      state = c.state;
+      reread = c.reread;
+      errors = no_errors;
+      comments = [];
       refused = c.refused;
     }

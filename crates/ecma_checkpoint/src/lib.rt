@@ -1,4 +1,7 @@
 //! Where a lexer is between two reads, as plain data, to which it goes back.
+//!
+//! `checkpoint.rt` has the checkpoint, which names no text: [`Checkpoint::fits`] says whether it may be one of a
+//! text, both ways. `specs/Checkpoints.antt` says where going back leads, and what a lexer is that goes on from one.
 #![tactic(auto)]
 
 pub mod checkpoint;

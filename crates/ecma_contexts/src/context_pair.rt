@@ -14,7 +14,7 @@ pub(crate) struct ContextPair {
 
 /// The number of a context, in the order in which they are declared.
 #[inline(always)]
-fn number_of(context: TokenContext) -> u8
+pub fn number_of(context: TokenContext) -> u8
     ensures number { result ≡ number_of context }
     ensures small { result < 12 }
 {
@@ -36,7 +36,7 @@ fn number_of(context: TokenContext) -> u8
 
 /// The context of a number.
 #[inline(always)]
-fn context_at(number: u8) -> TokenContext
+pub fn context_at(number: u8) -> TokenContext
     ensures { result ≡ context_at number }
 {
     match number {

@@ -1,7 +1,10 @@
 //! What encloses the place that is read: a stack of contexts, and how a token changes it.
+//!
+//! `token_contexts.rt` has the stack (two contexts in a byte by `context_pair.rt`, of which copies share the outer
+//! ones: `pair_stack.rt`), and `transition.rt` how a token changes it.
 #![tactic(auto)]
 
-mod context_pair;
+pub mod context_pair;
 mod near_pairs;
 mod pair_stack;
 mod shared_pairs;

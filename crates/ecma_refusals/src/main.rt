@@ -6,6 +6,7 @@
 
 mod faces;
 mod numbers;
+mod stored;
 
 use refused_calls::{cover, kept, shared, whole};
 use refused_reads::{going_back, many, reading, told};
@@ -22,5 +23,6 @@ fn main(rt: HostRuntime) -> io::Result<()> {
     cover::play(&rt, alloc)?;
     faces::play(&rt, alloc)?;
     numbers::play(&rt, alloc)?;
+    stored::play(&rt, alloc)?;
     told::play(&rt, alloc)
 }

@@ -2,4 +2,3 @@ pub mod GoingOnLemmas
 pub mod OverLemmas
 pub mod RestLemmas
 pub mod ResumingLemmas
-pub mod StartLemmas

@@ -88,17 +88,6 @@ alike-back c = record { left = left; stands = place-there c (record { 0 = place 
 pub alike-further : (a b c : Cursor) → Alike a b → Alike b c → Alike a c
 alike-further a b c one two = record { left = one.left ∙ two.left; stands = one.stands ∙ two.stands }
 
--- the place where a text ends
-pub end_place : (c : Cursor) → HasPlace c (place c + byte_len (rest c))
-end_place c =
-    let whole : byte_len c.text ≡ byte_len (take c.at c.text) + byte_len (rest c) =
-    ap byte_len (sym (take-append-drop c.at c.text)) ∙ byte_len-append (take c.at c.text) (rest c) in
-    let all : byte_len (take (length c.text) c.text) ≡ byte_len c.text = ap byte_len (take-length c.text) in
-    (length c.text, (let same : place c + byte_len (rest c) ≡ place_at c (length c.text) = omega (arith, whole, all) in same))
-
-pub end_count : (text : Text) → count_within (byte_len text) text ≡ length text
-end_count text = ap (λ t. count_within (byte_len t) text) (sym (take-length text)) ∙ count_within-byte_len text (length text) (omega arith)
-
 -- Where the rest begins
 
 -- a place of the whole text that is not before the rest is one of the rest

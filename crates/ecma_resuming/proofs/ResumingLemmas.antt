@@ -62,39 +62,37 @@ context-joined context first all none = go context.«module» first.recorded fir
 
 -- Sessions with what was before
 
--- a session over the whole text has the errors of before, and behind them those of one over the rest; so it is of comments
--- where both have the same start place
+-- a session over the whole text has the errors and comments of before, and behind them those of one over the rest
 record Joined (first : Errors) (behind : List BufferedComment) (part whole : Session) : Type 0 where
   over : Over part whole
+  start : part.start ≡ whole.start
   errors : whole.errors ≡ errors_joined first part.errors
-  comments : part.start ≡ whole.start → whole.comments ≡ behind ++ part.comments
+  comments : whole.comments ≡ behind ++ part.comments
 
 joined-same : (first : Errors) (part whole : Session) → Over part whole → whole.errors ≡ errors_joined first part.errors
     → moved part whole.start whole.input (errors_joined first part.errors) whole.comments ≡ whole
 joined-same first part whole over errors = ap (λ e. moved part whole.start whole.input e whole.comments) (sym errors) ∙ over.same
 
 -- the lists that a step leaves, and the start place
-record Lists (first : Errors) (behind : List BufferedComment) (part whole : Session) (old : BytePos) (next : BytePos) : Type 0 where
-  part_start : part.start ≡ old
-  whole_start : whole.start ≡ next
+record Lists (first : Errors) (behind : List BufferedComment) (part whole : Session) : Type 0 where
+  start : part.start ≡ whole.start
   errors : whole.errors ≡ errors_joined first part.errors
-  comments : old ≡ next → whole.comments ≡ behind ++ part.comments
+  comments : whole.comments ≡ behind ++ part.comments
 
 read-lists : (first : Errors) (behind : List BufferedComment) (s : Session) (start : BytePos) (input : Cursor) (comments : List BufferedComment) → Rests s input
-    → (s.start ≡ start → comments ≡ behind ++ s.comments)
-    → Lists first behind (act_on s Read) (act_on (moved s start input (errors_joined first s.errors) comments) Read) s.start start
-read-lists first behind s start input comments h told =
+    → s.start ≡ start → comments ≡ behind ++ s.comments
+    → Lists first behind (act_on s Read) (act_on (moved s start input (errors_joined first s.errors) comments) Read)
+read-lists first behind s start input comments h same told =
     let m = moved s start input (errors_joined first s.errors) comments in
     let r = reading_of (state_of s) in
     let q = reading_of (state_of m) in
     let both = same-reading s start input (errors_joined first s.errors) comments h in
     let around : BytePos → Option Kept → Around = λ p. around_of (record (state_value s) { start = p }) in
     record {
-      part_start = refl;
-      whole_start = refl;
+      start = same;
       errors = ap (with_faults s.context (errors_joined first s.errors)) (sym both.faults) ∙ faults-joined s.context first s.errors r.faults;
-      comments = λ same.
-          ap (λ c. c ++ attachment (around start (kept_in q.found)) q.comments) (told same)
+      comments =
+          ap (λ c. c ++ attachment (around start (kept_in q.found)) q.comments) told
           ∙ ap (λ p. (behind ++ s.comments) ++ attachment (around p (kept_in q.found)) q.comments) (sym same)
           ∙ ap (λ f. (behind ++ s.comments) ++ attachment (around s.start (kept_in f)) q.comments) (sym both.found)
           ∙ ap (λ c. (behind ++ s.comments) ++ attachment (around s.start (kept_in r.found)) c) (sym both.comments)
@@ -102,52 +100,53 @@ read-lists first behind s start input comments h told =
     }
 
 kept-lists : (first : Errors) (behind : List BufferedComment) (s part whole : Session) (start : BytePos) (comments : List BufferedComment)
-    → (s.start ≡ start → comments ≡ behind ++ s.comments) → part.start ≡ s.start → whole.start ≡ start
-    → whole.errors ≡ errors_joined first part.errors → whole.comments ≡ comments → part.comments ≡ s.comments → Lists first behind part whole s.start start
-kept-lists first behind s part whole start comments told one two errors mine its =
-    record { part_start = one; whole_start = two; errors = errors; comments = λ same. mine ∙ told same ∙ ap (λ c. behind ++ c) (sym its) }
+    → s.start ≡ start → comments ≡ behind ++ s.comments → part.start ≡ s.start → whole.start ≡ start
+    → whole.errors ≡ errors_joined first part.errors → whole.comments ≡ comments → part.comments ≡ s.comments → Lists first behind part whole
+kept-lists first behind s part whole start comments same told one two errors mine its =
+    record { start = one ∙ same ∙ sym two; errors = errors; comments = mine ∙ told ∙ ap (λ c. behind ++ c) (sym its) }
 
 popped-lists : (first : Errors) (behind : List BufferedComment) (s : Session) (start : BytePos) (input : Cursor) (comments : List BufferedComment) (contexts : Contexts)
-    → (s.start ≡ start → comments ≡ behind ++ s.comments)
-    → Lists first behind (popped_from s contexts).after (popped_from (moved s start input (errors_joined first s.errors) comments) contexts).after s.start start
-popped-lists first behind s start input comments [] told = kept-lists first behind s _ _ start comments told refl refl refl refl refl
-popped-lists first behind s start input comments (top ∷ below) told = kept-lists first behind s _ _ start comments told refl refl refl refl refl
+    → s.start ≡ start → comments ≡ behind ++ s.comments
+    → Lists first behind (popped_from s contexts).after (popped_from (moved s start input (errors_joined first s.errors) comments) contexts).after
+popped-lists first behind s start input comments [] same told = kept-lists first behind s _ _ start comments same told refl refl refl refl refl
+popped-lists first behind s start input comments (top ∷ below) same told = kept-lists first behind s _ _ start comments same told refl refl refl refl refl
 
 reread-lists : (first : Errors) (behind : List BufferedComment) (s : Session) (start : BytePos) (input : Cursor) (comments : List BufferedComment) (slash : Option BytePos)
-    → (s.start ≡ start → comments ≡ behind ++ s.comments)
-    → Lists first behind (reread_from s slash).after (reread_from (moved s start input (errors_joined first s.errors) comments) slash).after s.start start
-reread-lists first behind s start input comments None told = kept-lists first behind s _ _ start comments told refl refl refl refl refl
-reread-lists first behind s start input comments (Some p) told = kept-lists first behind s _ _ start comments told refl refl refl refl refl
+    → s.start ≡ start → comments ≡ behind ++ s.comments
+    → Lists first behind (reread_from s slash).after (reread_from (moved s start input (errors_joined first s.errors) comments) slash).after
+reread-lists first behind s start input comments None same told = kept-lists first behind s _ _ start comments same told refl refl refl refl refl
+reread-lists first behind s start input comments (Some p) same told = kept-lists first behind s _ _ start comments same told refl refl refl refl refl
 
 step-lists : (first : Errors) (behind : List BufferedComment) (s : Session) (start : BytePos) (input : Cursor) (comments : List BufferedComment) → Rests s input
-    → (s.start ≡ start → comments ≡ behind ++ s.comments) → (step : Step)
+    → s.start ≡ start → comments ≡ behind ++ s.comments → (step : Step)
     → takes_none (moved s start input (errors_joined first s.errors) comments) step ≡ true
-    → Lists first behind (act_on s step) (act_on (moved s start input (errors_joined first s.errors) comments) step) s.start start
-step-lists first behind s start input comments h told Read none = read-lists first behind s start input comments h told
-step-lists first behind s start input comments h told (SetCtx context) none =
-    kept-lists first behind s _ _ start comments told refl refl (context-joined context first s.errors none) refl refl
-step-lists first behind s start input comments h told (SetExprAllowed allowed) none = kept-lists first behind s _ _ start comments told refl refl refl refl refl
-step-lists first behind s start input comments h told (SetContexts contexts) none = kept-lists first behind s _ _ start comments told refl refl refl refl refl
-step-lists first behind s start input comments h told PopContext none = popped-lists first behind s start input comments s.contexts told
-step-lists first behind s start input comments h told Reread none = reread-lists first behind s start input comments (last_slash (seen_of s.past)) told
-step-lists first behind s start input comments h told Withdraw none = kept-lists first behind s _ _ start comments told refl refl refl refl refl
-step-lists first behind s start input comments h told TakeErrors none = cc
-step-lists first behind s start input comments h told Save none = kept-lists first behind s _ _ start comments told refl refl refl refl refl
-step-lists first behind s start input comments h told (Back n) none = kept-lists first behind s _ _ start comments told refl refl refl refl refl
+    → Lists first behind (act_on s step) (act_on (moved s start input (errors_joined first s.errors) comments) step)
+step-lists first behind s start input comments h same told Read none = read-lists first behind s start input comments h same told
+step-lists first behind s start input comments h same told (SetCtx context) none =
+    kept-lists first behind s _ _ start comments same told refl refl (context-joined context first s.errors none) refl refl
+step-lists first behind s start input comments h same told (SetExprAllowed allowed) none = kept-lists first behind s _ _ start comments same told refl refl refl refl refl
+step-lists first behind s start input comments h same told (SetContexts contexts) none = kept-lists first behind s _ _ start comments same told refl refl refl refl refl
+step-lists first behind s start input comments h same told PopContext none = popped-lists first behind s start input comments s.contexts same told
+step-lists first behind s start input comments h same told Reread none = reread-lists first behind s start input comments (last_slash (seen_of s.past)) same told
+step-lists first behind s start input comments h same told Withdraw none = kept-lists first behind s _ _ start comments same told refl refl refl refl refl
+step-lists first behind s start input comments h same told TakeErrors none = cc
+step-lists first behind s start input comments h same told Save none = kept-lists first behind s _ _ start comments same told refl refl refl refl refl
+step-lists first behind s start input comments h same told (Back n) none = kept-lists first behind s _ _ start comments same told refl refl refl refl refl
 
 joined-step : (first : Errors) (behind : List BufferedComment) (part whole : Session) (step : Step) → takes_none whole step ≡ true
     → Joined first behind part whole → Joined first behind (act_on part step) (act_on whole step)
 joined-step first behind part whole step none j =
     let same = joined-same first part whole j.over j.errors in
-    let lists : Lists first behind (act_on part step) (act_on whole step) part.start whole.start =
+    let lists : Lists first behind (act_on part step) (act_on whole step) =
     subst
-    (λ s. Lists first behind (act_on part step) (act_on s step) part.start whole.start)
+    (λ s. Lists first behind (act_on part step) (act_on s step))
     same
-    (step-lists first behind part whole.start whole.input whole.comments j.over.rests j.comments step (subst (λ s. takes_none s step ≡ true) (sym same) none)) in
+    (step-lists first behind part whole.start whole.input whole.comments j.over.rests j.start j.comments step (subst (λ s. takes_none s step ≡ true) (sym same) none)) in
     record {
       over = over-step part whole step j.over;
+      start = lists.start;
       errors = lists.errors;
-      comments = λ e. lists.comments (sym lists.part_start ∙ e ∙ lists.whole_start);
+      comments = lists.comments;
     }
 
 joined-steps : (first : Errors) (behind : List BufferedComment) (part whole : Session) (steps : List Step) → take_none whole steps ≡ true
@@ -159,8 +158,8 @@ joined-steps first behind part whole (step ∷ steps) none j =
 
 -- Where a lexer is resumed
 
-pub over-resumed : (s : Session) (start : BytePos) (part : Cursor) → IsRestOf part s.input → Fits (checkpoint_of (state_of s)) part → Over (resumed_in start part s) s
-over-resumed s start part is fits =
+pub over-resumed : (s : Session) (part : Cursor) → IsRestOf part s.input → Fits (checkpoint_of (state_of s)) part → Over (resumed_in part s) s
+over-resumed s part is fits =
     record {
       same = refl;
       rests = record {
@@ -171,13 +170,14 @@ over-resumed s start part is fits =
       };
     }
 
-joined-resumed : (s : Session) (start : BytePos) (part : Cursor) → IsRestOf part s.input → Fits (checkpoint_of (state_of s)) part
-    → Joined s.errors s.comments (resumed_in start part s) s
-joined-resumed s start part is fits =
+joined-resumed : (s : Session) (part : Cursor) → IsRestOf part s.input → Fits (checkpoint_of (state_of s)) part
+    → Joined s.errors s.comments (resumed_in part s) s
+joined-resumed s part is fits =
     record {
-      over = over-resumed s start part is fits;
+      over = over-resumed s part is fits;
+      start = refl;
       errors = ap (λ l. errors_of l s.errors.waiting) (sym (append-nil s.errors.recorded)) ∙ ap (errors_of (s.errors.recorded ++ [])) (sym (append-nil s.errors.waiting));
-      comments = λ same. sym (append-nil s.comments);
+      comments = sym (append-nil s.comments);
     }
   where
     errors_of : List ErrorView → List ErrorView → Errors
@@ -186,18 +186,24 @@ joined-resumed s start part is fits =
 -- Laws
 
 pub resuming_begins : ResumingBegins
-resuming_begins s start part = refl
+resuming_begins s part = refl
 
 pub steps_answer_over_the_rest : StepsAnswerOverTheRest
-steps_answer_over_the_rest s start part steps is fits asks =
-    answers-same (resumed_in start part s) s none_yet steps (over-resumed s start part is fits) asks
+steps_answer_over_the_rest s part steps is fits asks =
+    answers-same (resumed_in part s) s none_yet steps (over-resumed s part is fits) asks
 
 pub steps_go_on_over_the_rest : StepsGoOnOverTheRest
-steps_go_on_over_the_rest s start part steps is fits none =
-    let j = joined-steps s.errors s.comments (resumed_in start part s) s (counting steps) none (joined-resumed s start part is fits) in
+steps_go_on_over_the_rest s part steps is fits none =
+    let j = joined-steps s.errors s.comments (resumed_in part s) s (counting steps) none (joined-resumed s part is fits) in
     record {
       left = j.over.rests.alike.left;
       stands = j.over.rests.alike.stands;
-      same = joined-same s.errors _ _ j.over j.errors;
-      comments = j.comments;
+      same = same _ _ j;
     }
+  where
+    same : (part whole : Session) → Joined s.errors s.comments part whole
+        → record part { input = whole.input; errors = errors_joined s.errors part.errors; comments = s.comments ++ part.comments } ≡ whole
+    same part whole j =
+        ap (λ p. moved part p whole.input (errors_joined s.errors part.errors) (s.comments ++ part.comments)) j.start
+        ∙ ap (λ c. moved part whole.start whole.input (errors_joined s.errors part.errors) c) (sym j.comments)
+        ∙ joined-same s.errors part whole j.over j.errors

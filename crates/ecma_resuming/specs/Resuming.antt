@@ -2,18 +2,17 @@
 use Rattle.std.specs.Prelude.{ℕ, ◌≡◌, ◌+◌, ◌<◌, ◌^◌, Bool, true, false, List, [], ◌++◌, Option, Some, None, drop, length, nat_lt, if◌then◌else◌}
 use Rattle.std.specs.List.{list_all}
 use Rattle.std.specs.Str.{chars}
-use Rattle.ecma_place.specs.Cursor.{Cursor, HasPlace, index_of, place, rest}
-use Rattle.ecma_place.specs.Text.{Text, byte_len, place_of}
+use Rattle.ecma_place.specs.Cursor.{Cursor, index_of, place, rest}
+use Rattle.ecma_place.specs.Text.{Text, place_of}
 use Rattle.ecma_place.specs.declared.place.BytePos.{BytePos}
 use Rattle.ecma_state.specs.Counting.{counting, none_yet}
 use Rattle.ecma_state.specs.Disposition.{Errors, no_errors}
-use Rattle.ecma_state.specs.Run.{act_all, answers_behind, at_place, session}
-use Rattle.ecma_state.specs.Session.{LexerState, Session, state_of}
+use Rattle.ecma_state.specs.Run.{act_all, answers_behind, at_place}
+use Rattle.ecma_state.specs.Session.{Session, state_of}
 use Rattle.ecma_state.specs.State.{last_slash}
-use Rattle.ecma_state.specs.declared.settings.Settings.{Settings}
 use Rattle.ecma_state.specs.declared.step.Step.{Step}
 use Rattle.ecma_state.specs.declared.step.Step.TheVariants.{TakeErrors}
-use Rattle.ecma_checkpoint.specs.Checkpoints.{CheckpointValue, Fits, checkpoint_of}
+use Rattle.ecma_checkpoint.specs.Checkpoints.{CheckpointValue, Fits, checkpoint_of, resumed}
 use Rattle.ecma_rewinding.specs.Rewinding.{take_none}
 
 -- Where the rest begins
@@ -35,16 +34,9 @@ text_from p text = record { start = p.0; text = text; at = 0 }
 abbrev pub rest_of : CheckpointValue → Cursor → Cursor
 rest_of c whole = text_from (begin_of c) (drop (index_of whole (begin_of c).0) whole.text)
 
--- the place where a text ends
-abbrev pub end_of : Cursor → BytePos
-end_of part = record { 0 = part.start + byte_len part.text }
-
--- the bytes of a text, as what a lexer goes on over from a checkpoint, and the place where they end
+-- the bytes of a text, as what a lexer goes on over from a checkpoint
 abbrev pub text_over : CheckpointValue → List ℕ → Cursor
 text_over c bytes = text_from (begin_of c) (chars bytes)
-
-abbrev pub end_over : CheckpointValue → List ℕ → BytePos
-end_over c bytes = end_of (text_over c bytes)
 
 -- a checkpoint fits them, and their places are numbers of 32 bits
 pub record IsResumed (c : CheckpointValue) (bytes : List ℕ) : Type 0 where
@@ -59,42 +51,22 @@ pub record IsRestOf (part whole : Cursor) : Type 0 where
 
 -- Going on
 
--- what a lexer goes on with over the rest of a text: with all that a checkpoint keeps, and with no errors and no comments
-abbrev pub resumed : Settings → CheckpointValue → Cursor → LexerState
-resumed settings c part =
-    record {
-      settings = settings;
-      input = at_place c.at part;
-      context = c.context;
-      state = c.state;
-      reread = c.reread;
-      errors = no_errors;
-      comments = [];
-      refused = c.refused;
-    }
-
--- the same with another start place
-abbrev pub started_at : BytePos → LexerState → LexerState
-started_at start l = record l { state = record l.state { start = start } }
-
--- the session that such a lexer has come to
-abbrev pub resumed_in : BytePos → Cursor → Session → Session
-resumed_in start part s =
-    record s { start = start; input = at_place (record { 0 = place s.input }) part; errors = no_errors; comments = [] }
+-- the session that a lexer has come to that goes on over the rest of a text from where one is over the whole
+abbrev pub resumed_in : Cursor → Session → Session
+resumed_in part s = record s { input = at_place (record { 0 = place s.input }) part; errors = no_errors; comments = [] }
 
 -- the errors of before, and behind them those that came since
 abbrev pub errors_joined : Errors → Errors → Errors
 errors_joined first more = record { recorded = first.recorded ++ more.recorded; waiting = first.waiting ++ more.waiting }
 
 -- Behind `before` a session over the rest of a text has come to what one over the whole text has. The same is left at the same
--- place; besides the start place they differ in nothing but that the whole text has the errors and comments of before too, in
--- front of those that came since. Where a comment is attached may ask for the start place.
+-- place, and they differ in nothing but that the whole text has the errors and comments of before too, in front of those that
+-- came since.
 pub record ComesToTheSame (before part whole : Session) : Type 0 where
   pub left : rest part.input ≡ rest whole.input
   pub stands : place part.input ≡ place whole.input
   pub same :
-      record part { start = whole.start; input = whole.input; errors = errors_joined before.errors part.errors; comments = whole.comments } ≡ whole
-  pub comments : part.start ≡ whole.start → whole.comments ≡ before.comments ++ part.comments
+      record part { input = whole.input; errors = errors_joined before.errors part.errors; comments = before.comments ++ part.comments } ≡ whole
 
 -- a step does not ask for the errors
 abbrev pub asks_no_errors : Step → Bool
@@ -115,30 +87,18 @@ RestsAreThere = (c : CheckpointValue) (whole : Cursor) → Fits c whole → HasR
 -- A lexer that is resumed has come to a session, from which it goes on.
 abbrev pub ResumingBegins : Type 0
 ResumingBegins =
-    (s : Session) (start : BytePos) (part : Cursor)
-    → state_of (resumed_in start part s) ≡ started_at start (resumed s.settings (checkpoint_of (state_of s)) part)
+    (s : Session) (part : Cursor) → state_of (resumed_in part s) ≡ resumed s.settings (checkpoint_of (state_of s)) part
 
 -- Wherever a session is in a text, and whatever steps follow: over the rest of the text they answer what they answer over the
 -- whole text.
 abbrev pub StepsAnswerOverTheRest : Type 0
 StepsAnswerOverTheRest =
-    (s : Session) (start : BytePos) (part : Cursor) (steps : List Step) → IsRestOf part s.input → Fits (checkpoint_of (state_of s)) part
-    → list_all asks_no_errors steps ≡ true → answers_behind (resumed_in start part s) none_yet steps ≡ answers_behind s none_yet steps
+    (s : Session) (part : Cursor) (steps : List Step) → IsRestOf part s.input → Fits (checkpoint_of (state_of s)) part
+    → list_all asks_no_errors steps ≡ true → answers_behind (resumed_in part s) none_yet steps ≡ answers_behind s none_yet steps
 
 -- And they come to the same, where they take no errors away.
 abbrev pub StepsGoOnOverTheRest : Type 0
 StepsGoOnOverTheRest =
-    (s : Session) (start : BytePos) (part : Cursor) (steps : List Step) → IsRestOf part s.input → Fits (checkpoint_of (state_of s)) part
+    (s : Session) (part : Cursor) (steps : List Step) → IsRestOf part s.input → Fits (checkpoint_of (state_of s)) part
     → take_none s (counting steps) ≡ true
-    → ComesToTheSame s (act_all (resumed_in start part s) (counting steps)) (act_all s (counting steps))
-
--- Comments too are attached as over the whole text, whatever steps follow, where the rest does not have the place where the run
--- began and its end is the start place: no token ends there behind which a comment stands.
-abbrev pub CommentsGoOnOverTheRest : Type 0
-CommentsGoOnOverTheRest =
-    (settings : Settings) (input part : Cursor) (before steps : List Step)
-    → (let s : Session = session settings input before in
-    IsRestOf part s.input
-    → Fits (checkpoint_of (state_of s)) part
-    → (HasPlace part s.start.0 → ⊥)
-    → (act_all s (counting steps)).comments ≡ s.comments ++ (act_all (resumed_in (end_of part) part s) (counting steps)).comments)
+    → ComesToTheSame s (act_all (resumed_in part s) (counting steps)) (act_all s (counting steps))

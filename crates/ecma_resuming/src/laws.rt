@@ -1,5 +1,5 @@
 //! Laws of going on from a checkpoint over the rest of a text, over the definitions alone.
-ghost use Rattle.ecma_resuming.specs.Resuming.{CommentsGoOnOverTheRest, RestsAreThere, ResumingBegins, StepsAnswerOverTheRest, StepsGoOnOverTheRest};
+ghost use Rattle.ecma_resuming.specs.Resuming.{RestsAreThere, ResumingBegins, StepsAnswerOverTheRest, StepsGoOnOverTheRest};
 
 /// A checkpoint that fits a text fits the rest of it from where it wants that: a lexer's own is never refused.
 pub fn rests_are_there()
@@ -20,10 +20,4 @@ pub fn steps_answer_over_the_rest()
 /// those that wait and the comments are those of before and behind them those that came since, where no step takes errors away.
 pub fn steps_go_on_over_the_rest()
     ensures { StepsGoOnOverTheRest }
-{}
-
-/// Comments are attached as over the whole text also where the rest does not have the place where the run began, and its end is
-/// the start place.
-pub fn comments_go_on_over_the_rest()
-    ensures { CommentsGoOnOverTheRest }
 {}

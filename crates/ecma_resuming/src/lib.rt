@@ -1,7 +1,10 @@
 //! Going on from a checkpoint over the rest of a text.
+//!
+//! `going_on.rt` has the calls; `specs/Resuming.antt` says what the rest of a text is, and `laws.rt` that reading it
+//! comes to what reading the whole text comes to.
 #![tactic(auto)]
 
 pub mod going_on;
 pub mod laws;
 
-pub use going_on::{begin_of, resume, resume_in};
+pub use going_on::{begin_of, resume};

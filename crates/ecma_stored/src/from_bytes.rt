@@ -9,31 +9,12 @@ use crate::kinds::kind_at;
 use crate::parts::{count_at, flag_at, number_at};
 use crate::to_bytes::encode;
 use ecma_checkpoint::{Checkpoint, Counts};
-use ecma_contexts::{TokenContext, TokenContexts};
+use ecma_contexts::TokenContexts;
+use ecma_contexts::context_pair::context_at;
 use ecma_place::{BytePos, Span};
 use ecma_state::kept::{Kept, Seen};
 use ecma_state::state::State;
 use std::alloc::{AllocError, Global};
-
-/// The context of a number; the last one for numbers of none.
-fn context_at(number: u8) -> TokenContext
-    ensures { result ≡ context_at number }
-{
-    match number {
-        0 => TokenContext::BraceStmt,
-        1 => TokenContext::BraceExpr,
-        2 => TokenContext::TplQuasi,
-        3 => TokenContext::ParenStmt { is_for_loop: false },
-        4 => TokenContext::ParenStmt { is_for_loop: true },
-        5 => TokenContext::ParenExpr,
-        6 => TokenContext::Tpl,
-        7 => TokenContext::FnExpr,
-        8 => TokenContext::ClassExpr,
-        9 => TokenContext::JSXOpeningTag,
-        10 => TokenContext::JSXClosingTag,
-        _ => TokenContext::JSXExpr,
-    }
-}
 
 /// The contexts of these numbers, the innermost first.
 fn contexts_in(alloc: Global, inner: &[u8]) -> Result<TokenContexts, AllocError>

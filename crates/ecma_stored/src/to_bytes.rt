@@ -6,7 +6,8 @@ ghost use Rattle.ecma_stored.specs.Stored as stored;
 
 use crate::code::code_flags;
 use ecma_checkpoint::Checkpoint;
-use ecma_contexts::{TokenContext, TokenContexts};
+use ecma_contexts::TokenContexts;
+use ecma_contexts::context_pair::number_of;
 use ecma_kinds::kind_number;
 use ecma_place::BytePos;
 use ecma_state::kept::Kept;
@@ -140,26 +141,6 @@ fn push_flags(out: &mut Vec<u8>, flags: &[bool]) -> Result<(), AllocError>
         out.push(u8::from(*flag))?;
     }
     Ok(())
-}
-
-/// The number of a context, in the order in which they are declared.
-fn number_of(context: TokenContext) -> u8
-    ensures { result ≡ number_of context }
-{
-    match context {
-        TokenContext::BraceStmt => 0,
-        TokenContext::BraceExpr => 1,
-        TokenContext::TplQuasi => 2,
-        TokenContext::ParenStmt { is_for_loop: false } => 3,
-        TokenContext::ParenStmt { is_for_loop: true } => 4,
-        TokenContext::ParenExpr => 5,
-        TokenContext::Tpl => 6,
-        TokenContext::FnExpr => 7,
-        TokenContext::ClassExpr => 8,
-        TokenContext::JSXOpeningTag => 9,
-        TokenContext::JSXClosingTag => 10,
-        TokenContext::JSXExpr => 11,
-    }
 }
 
 /// One byte for each context, the innermost first.

@@ -3,7 +3,7 @@ use Rattle.std.specs.Prelude.{OnErr, is_err}
 use Rattle.std.proofs.Common.{ℕ, Bool, false, Result, Ok, Err, List, ◌++◌, length, map, take, ◌≡◌, ◌∙◌, arith, [], refl, subst, sym, ap}
 use Rattle.std.proofs.Math.Seq.{take-append_seam}
 use Rattle.std.proofs.lemmas.List.{length-map, take-map}
-use Rattle.ecma_place.specs.Cursor.{place}
+use Rattle.ecma_place.specs.Cursor.{Cursor, place}
 use Rattle.ecma_token.specs.View.{error_view}
 use Rattle.ecma_token.specs.declared.error.Error.{Error}
 use Rattle.ecma_state.specs.Run.{at_place}
@@ -32,17 +32,17 @@ goes-back a l shows is = subst (λ k. GoesBack (checkpoint_of (lexer_state k)) (
       fits = record { has_place = (a.input.at, refl); opened_before = is.opened; slash_reread = is.reread; slash_answered = is.answered };
     }
 
--- what always holds of a lexer still does where it went back
-pub rewound-lexer : (a b : Inside) (c : CheckpointValue) → Fits c a.input → b.input ≡ at_place c.at a.input → b.state ≡ c.state → b.reread ≡ c.reread
+-- what always holds of a lexer holds of one that is at a checkpoint of this text
+pub rewound-lexer : (text : Cursor) (b : Inside) (c : CheckpointValue) → Fits c text → b.input ≡ at_place c.at text → b.state ≡ c.state → b.reread ≡ c.reread
     → b.comments.pending_leading ≡ [] → IsLexer b
-rewound-lexer a b c fits input state reread pending =
-    let there : place b.input ≡ c.at.0 = ap place input ∙ place-there a.input c.at fits.has_place in
+rewound-lexer text b c fits input state reread pending =
+    let there : place b.input ≡ c.at.0 = ap place input ∙ place-there text c.at fits.has_place in
     let before = fits.opened_before in
     record {
       opened = rw state (omega (arith, before, there));
       none_pending = pending;
-      answered = rw state (λ p h. stands-moved a.input b.input c.state.opened p (ap (λ i. i.start) input) (ap (λ i. i.text) input) (fits.slash_answered p h));
-      reread = rw (state, reread) (λ p h. stands-moved a.input b.input c.state.opened p (ap (λ i. i.start) input) (ap (λ i. i.text) input) (fits.slash_reread p h));
+      answered = rw state (λ p h. stands-moved text b.input c.state.opened p (ap (λ i. i.start) input) (ap (λ i. i.text) input) (fits.slash_answered p h));
+      reread = rw (state, reread) (λ p h. stands-moved text b.input c.state.opened p (ap (λ i. i.start) input) (ap (λ i. i.text) input) (fits.slash_reread p h));
     }
 
 -- Errors and comments that were added, and are cut off

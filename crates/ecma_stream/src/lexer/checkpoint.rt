@@ -1,14 +1,18 @@
 //! Where a lexer is, and going back to where it was. Our own.
-ghost use Rattle.std.specs.Prelude.{◌≡◌, ◌≤◌, ◌↔◌, true, false, length, IfOk, IsOk, IsTrue, OnErr};
+ghost use Rattle.std.specs.Prelude.{◌≡◌, ◌≤◌, ◌↔◌, true, false, is_some, length, IfOk, IfSome, IsOk, IsTrue, OnErr};
 ghost use Rattle.ecma_place.specs.Cursor.{IsWithin};
 ghost use Rattle.ecma_state.specs.Session.{lexer_state};
-ghost use Rattle.ecma_checkpoint.specs.Checkpoints.{GoesBack, checkpoint_of, counts_of, rewound};
+ghost use Rattle.ecma_checkpoint.specs.Checkpoints.{Fits, GoesBack, checkpoint_of, counts_of, resumed, rewound};
 ghost use Rattle.ecma_stream.specs.View.{cut_to};
 
 use super::Lexer;
 use ecma_checkpoint::{Checkpoint, Counts};
+use ecma_place::StringInput;
+use ecma_state::comments_buffer::CommentsBuffer;
+use ecma_state::errors::ErrorLists;
+use ecma_state::settings::Settings;
 use ecma_state::state::State;
-use std::alloc::AllocError;
+use std::alloc::{AllocError, Global};
 
 impl<'a> Lexer<'a> {
     /// How many errors and comments there are.
@@ -99,5 +103,59 @@ impl<'a> Lexer<'a> {
         let state = to.state.copy()?;
         self.put_back(to, state);
         Ok(true)
+    }
+    /// A lexer that goes on from a checkpoint in the text of `input`, by these settings: with the checkpoint's place, flags,
+    /// contexts and start place, and with no errors and no comments.
+    ///
+    /// Only the text of `input` matters, not the place in it: it may be the rest of the text that the checkpoint was made in,
+    /// from the slash on that may be read again, where there is one, else from the checkpoint's place on. The answer is `None` where
+    /// the checkpoint does not fit the text ([`Checkpoint::fits`]). It does not allocate where at most 128 contexts are open. Our
+    /// own.
+    ///
+    /// # Errors
+    ///
+    /// `AllocError` as of [`State::copy`].
+    pub fn resume(
+        alloc: Global,
+        settings: &Settings,
+        from: &Checkpoint,
+        input: StringInput<'a>,
+    ) -> Result<Option<Lexer<'a>>, AllocError>
+        ensures goes { IfOk result (λ l. IsTrue (is_some l) ↔ Fits from.now input.entry) }
+        ensures goes_on { IfOk result (λ l. IfSome l (λ l. lexer_state l ≡ resumed settings.now from.now input.entry)) }
+        ensures free { length from.now.state.contexts ≤ 128 → IsOk result }
+    {
+        if !from.fits(&input) {
+            return Ok(None);
+        }
+        let state = from.state.copy()?;
+        Ok(Some(Lexer::going_on(alloc, settings, from, state, input)))
+    }
+
+    /// The same where the checkpoint fits the text, and this is its state.
+    fn going_on(
+        alloc: Global,
+        settings: &Settings,
+        from: &Checkpoint,
+        state: State,
+        input: StringInput<'a>,
+    ) -> Lexer<'a>
+        requires fits { Fits from.now input }
+        requires state { state ≡ from.now.state }
+        ensures { lexer_state result ≡ resumed settings.now from.now input.entry }
+    {
+        let mut there = input;
+        there.reset_to(from.at);
+        Lexer {
+            alloc,
+            settings: *settings,
+            input: there,
+            context: from.context,
+            state,
+            reread: from.reread,
+            errors: ErrorLists::new(alloc),
+            comments: CommentsBuffer::new(alloc),
+            refused: from.refused,
+        }
     }
 }

@@ -1,0 +1,168 @@
+//! Checkpoints as bytes.
+use super::going::behind;
+use ecma_stored::{decode, encode};
+use listing::listing::{FROM_SEVEN, PLAIN, Settings};
+use std::alloc::{AllocError, Global};
+use std::process::Abort;
+use std::test::Fail;
+
+/// What a text is read by, the text, how many tokens are read, a byte of the checkpoint, and what it is.
+type Row = (Settings, &'static str, usize, usize, u8);
+
+/// A checkpoint has the form 1; seven numbers of four bytes, the lowest first: the place, the start place, where a template was
+/// opened, the slash that is read again, and the kind and the places of the last token; three counts of eight; 37 flags; and a byte
+/// for each context.
+const ROWS: &[Row] = &[
+    (PLAIN, "ab c", 0, 0, 1),
+    (PLAIN, "ab c", 1, 1, 2),
+    (FROM_SEVEN, "ab c", 1, 1, 9),
+    (FROM_SEVEN, "ab c", 1, 5, 7),
+    (FROM_SEVEN, "ab`", 2, 9, 9),
+    (PLAIN, "ab c", 2, 21, 3),
+    (PLAIN, "ab c", 2, 25, 4),
+    // A token was given last.
+    (PLAIN, "ab c", 0, 55, 0),
+    (PLAIN, "ab c", 1, 55, 1),
+    // Behind the end.
+    (PLAIN, "ab c", 3, 58, 1),
+    // A statement's brace is the first context.
+    (PLAIN, "ab c", 0, 90, 0),
+    // A parenthesis of an expression is in it.
+    (PLAIN, "(a", 1, 90, 5),
+    (PLAIN, "(a", 1, 91, 0),
+];
+
+fn stored(
+    alloc: Global,
+    settings: Settings,
+    text: &str,
+    reads: usize,
+) -> Result<Vec<u8>, AllocError> {
+    let from = behind(alloc, settings, text, reads)?.checkpoint()?;
+    encode(alloc, &from)
+}
+
+fn assert_byte(rt: &impl Abort, alloc: Global, row: &Row) -> Result<(), Fail> {
+    let (settings, text, reads, index, expected) = row;
+    let bytes = stored(alloc, *settings, text, *reads)?;
+    assert_eq!(rt; bytes.get(*index).copied(), Some(*expected));
+    Ok(())
+}
+
+#[test]
+fn bytes_are_of_this_form(rt: HostRuntime) -> Result<(), Fail> {
+    for row in ROWS {
+        assert_byte(&rt, rt.alloc(), row)?;
+    }
+    Ok(())
+}
+
+/// Texts, and how many bytes a checkpoint has behind so many tokens.
+const LENGTHS: &[(&str, usize, usize)] = &[
+    ("a", 0, 91),
+    ("a", 2, 91),
+    ("((((a", 4, 95),
+    ("`${`${", 4, 94),
+    ("/re", 1, 91),
+];
+
+/// The bytes of the checkpoint of bytes.
+fn again(alloc: Global, bytes: &[u8]) -> Result<Vec<u8>, AllocError> {
+    match decode(alloc, bytes)? {
+        Some(from) => encode(alloc, &from),
+        None => Ok(Vec::new(alloc)),
+    }
+}
+
+/// The checkpoint behind so many tokens has so many bytes, which are read back to one that has the same.
+fn assert_back(
+    rt: &impl Abort,
+    alloc: Global,
+    text: &str,
+    reads: usize,
+    length: usize,
+) -> Result<(), Fail> {
+    let bytes = stored(alloc, PLAIN, text, reads)?;
+    assert_eq!(rt; bytes.len(), length);
+    let again = again(alloc, bytes.as_slice())?;
+    assert!(rt; again.as_slice() == bytes.as_slice());
+    Ok(())
+}
+
+#[test]
+fn bytes_are_read_back(rt: HostRuntime) -> Result<(), Fail> {
+    for (text, reads, length) in LENGTHS {
+        assert_back(&rt, rt.alloc(), text, *reads, *length)?;
+    }
+    Ok(())
+}
+
+/// A byte of the checkpoint behind `a` that is another: whether it is a checkpoint still.
+const CHANGED: &[(usize, u8, bool)] = &[
+    // Another form.
+    (0, 0, false),
+    (0, 2, false),
+    // Any place may be that of some text.
+    (1, 200, true),
+    (4, 255, true),
+    // A flag is 0 or 1.
+    (53, 2, false),
+    (60, 1, true),
+    (61, 1, true),
+    (89, 2, false),
+    // There are twelve contexts.
+    (90, 11, true),
+    (90, 12, false),
+    // No slash is read again, so it has no place.
+    (13, 1, false),
+    // No kind has this number.
+    (20, 255, false),
+];
+
+fn changed(mut bytes: Vec<u8>, index: usize, byte: u8) -> Vec<u8> {
+    if let Some(place) = bytes.get_mut(index) {
+        *place = byte;
+    }
+    bytes
+}
+
+/// Whether bytes are those of a checkpoint.
+fn is_checkpoint(alloc: Global, bytes: &[u8]) -> Result<bool, AllocError> {
+    Ok(decode(alloc, bytes)?.is_some())
+}
+
+fn assert_changed(
+    rt: &impl Abort,
+    alloc: Global,
+    index: usize,
+    byte: u8,
+    expected: bool,
+) -> Result<(), Fail> {
+    let bytes = changed(stored(alloc, PLAIN, "a", 1)?, index, byte);
+    assert_eq!(rt; is_checkpoint(alloc, bytes.as_slice())?, expected);
+    Ok(())
+}
+
+#[test]
+fn other_bytes_are_no_checkpoint(rt: HostRuntime) -> Result<(), Fail> {
+    for (index, byte, expected) in CHANGED {
+        assert_changed(&rt, rt.alloc(), *index, *byte, *expected)?;
+    }
+    Ok(())
+}
+
+/// The first bytes, as many as this, are those of a checkpoint or not.
+fn assert_first(rt: &impl Abort, alloc: Global, count: usize, expected: bool) -> Result<(), Fail> {
+    let bytes = stored(alloc, PLAIN, "a", 1)?;
+    let first = bytes.get(..count).unwrap_or(&[]);
+    assert_eq!(rt; is_checkpoint(alloc, first)?, expected);
+    Ok(())
+}
+
+#[test]
+fn too_few_bytes_are_no_checkpoint(rt: HostRuntime) -> Result<(), Fail> {
+    assert_first(&rt, rt.alloc(), 0, false)?;
+    assert_first(&rt, rt.alloc(), 89, false)?;
+    assert_first(&rt, rt.alloc(), 90, true)?;
+    assert_first(&rt, rt.alloc(), 91, true)
+}
