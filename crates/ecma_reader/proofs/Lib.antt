@@ -1,4 +1,5 @@
 pub mod FoldLemmas
+pub mod ItemLemmas
 pub mod ReaderLemmas
 pub mod TextLemmas
 pub mod TokenLemmas

@@ -1,3 +1,4 @@
+pub mod Items
 pub mod Outputs
 pub mod Readers
 pub use Rattle.ecma_state.specs.Run

@@ -1,5 +1,5 @@
 //! A reader of a text, and what it leaves.
-ghost use Rattle.std.specs.Prelude.{◌≡◌, ◌+◌, ◌<◌, ◌^◌, Err, List, None, [], alloc_error, is_some, length, option_map, true, IfOk, OnOk, OnErr};
+ghost use Rattle.std.specs.Prelude.{◌≡◌, ◌+◌, ◌<◌, ◌^◌, Err, List, None, Ok, [], alloc_error, is_some, length, option_map, true, IfOk, OnOk, OnErr};
 ghost use Rattle.std.specs.Str.{chars};
 ghost use Rattle.ecma_token.specs.View.{SpannedView, spanned_view};
 ghost use Rattle.ecma_state.specs.Session.{Session, lexer_state, state_of};
@@ -180,5 +180,40 @@ impl<'a> Reader<'a> {
             ended,
             rereads,
         }
+    }
+}
+
+impl<'a> Iterator for Reader<'a> {
+    ghost use Rattle.ecma_reader.specs.Items.{CanRead, GivesItem, items_left};
+
+    type Item = Result<TokenAndSpan<'a>, AllocError>;
+
+    ghost can_next = { CanRead };
+
+    ghost next_gives = { GivesItem };
+
+    ghost remaining = { items_left };
+
+    /// The next token. A refusal of memory comes once, and nothing behind it. There are at most twice as many items as bytes that
+    /// are left, and two.
+    fn next(&mut self) -> Option<Result<TokenAndSpan<'a>, AllocError>> {
+        if self.refused {
+            return None;
+        }
+        let mut slot = None;
+        match self.read_into(&mut slot) {
+            Ok(_) => as_item(slot),
+            Err(refusal) => Some(Err(refusal)),
+        }
+    }
+}
+
+/// A token that was read, as an item.
+fn as_item<'a>(slot: Option<TokenAndSpan<'a>>) -> Option<Result<TokenAndSpan<'a>, AllocError>>
+    ensures { result ≡ option_map Ok slot.entry }
+{
+    match slot {
+        Some(token) => Some(Ok(token)),
+        None => None,
     }
 }
