@@ -1,6 +1,7 @@
 //! Lines on standard error.
 
-use ecma_stdio::{Fault, Halt, send};
+use crate::source::refusal;
+use ecma_stdio::{Halt, send};
 use std::alloc::Global;
 use std::io;
 use std::io::{ErrorKind, Write};
@@ -45,17 +46,13 @@ pub fn refuse_for(rt: &HostRuntime, name: &str, message: &str, failure: Option<i
 }
 
 /// Writes why a file has no text, and answers the status.
-pub fn refuse_text(rt: &HostRuntime, name: &str, refusal: Refusal) -> u8 {
-    match refusal.halt {
-        Halt::ReadFailed => match refusal.failure {
-            Some(error) if error.kind() == ErrorKind::IsADirectory => {
-                refuse(rt, name, "is a directory; -r reads the files in it")
-            }
-            failure => refuse_for(rt, name, "cannot be read", failure),
-        },
-        Halt::Fault(Fault::NotUtf8) => refuse(rt, name, "is not UTF-8"),
-        Halt::Fault(Fault::TooLong) => refuse(rt, name, "is longer than 4,294,967,295 bytes"),
-        Halt::Fault(_) => refuse(rt, name, "out of memory"),
+pub fn refuse_text(rt: &HostRuntime, name: &str, refused: Refusal) -> u8 {
+    match (refused.halt, refused.failure) {
+        (Halt::ReadFailed, Some(error)) if error.kind() == ErrorKind::IsADirectory => {
+            refuse(rt, name, "is a directory; -r reads the files in it")
+        }
+        (Halt::ReadFailed, failure) => refuse_for(rt, name, refusal(Halt::ReadFailed), failure),
+        (halt, _) => refuse(rt, name, refusal(halt)),
     }
 }
 

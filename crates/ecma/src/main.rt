@@ -1,15 +1,21 @@
 //! What a lexer finds in files: tokens, comments, errors, canonical texts, classes, HTML and imports.
+//!
+//! `arguments.rt` reads its words, `files.rt` finds the files that they name, in directories and lists too,
+//! `source.rt` reads one, `watched.rt` remembers why a read or a write failed, `faults.rt` has the lines on standard
+//! error, and `main.rt` reports on each file (docs/COMMAND.md).
 #![tactic(auto)]
 
 ghost use Rattle.std.specs.Prelude.{◌<◌, ◌^◌, length};
 
 mod arguments;
+mod colours;
 mod faults;
 mod files;
 mod source;
 mod watched;
 
 use crate::arguments::arguments;
+use crate::colours::takes_colours;
 use crate::faults::{FAULTY, Refusal, refuse, refuse_output, refuse_text};
 use crate::files::Files;
 use crate::source::{STANDARD_INPUT, read};
@@ -129,7 +135,7 @@ fn run_subcommand(
     let places: Vec<BytePos> = slash_places(rt.alloc(), matches)?;
     let files = files_of(rt, matches)?;
     let job = Job {
-        asked: Asked::of(subcommand, matches),
+        asked: Asked::of(subcommand, matches, takes_colours(rt)),
         among: Among::of(matches, are_several(matches, &files)),
         named: Named {
             places: &places,

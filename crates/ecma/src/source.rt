@@ -2,12 +2,22 @@
 
 use crate::faults::Refusal;
 use crate::watched::Watched;
-use ecma_stdio::{Halt, MOST_TURNS, read_all};
+use ecma_stdio::{Fault, Halt, MOST_TURNS, read_all};
 use std::fs;
 use std::io::Read;
 
 /// The name of standard input.
 pub const STANDARD_INPUT: &str = "-";
+
+/// What is said of a file that has no text.
+pub fn refusal(halt: Halt) -> &'static str {
+    match halt {
+        Halt::ReadFailed => "cannot be read",
+        Halt::Fault(Fault::NotUtf8) => "is not UTF-8",
+        Halt::Fault(Fault::TooLong) => "is longer than 4,294,967,295 bytes",
+        Halt::Fault(_) => "out of memory",
+    }
+}
 
 /// All that a reader has.
 fn read_watched<R: Read + Drop>(rt: &HostRuntime, reader: R) -> Result<Vec<u8>, Refusal> {

@@ -7,10 +7,10 @@ use Rattle.ecma_classes.specs.Classes.{Tile, joined}
 use Rattle.ecma_classes.specs.declared.piece.Class as piece
 use Rattle.ecma_classes.specs.declared.piece.Class.TheVariants as pieces
 use Rattle.ecma_classes.specs.declared.piece.Piece.{Piece}
-use Rattle.ecma_html.specs.declared.«class».Class.{Class}
-use Rattle.ecma_html.specs.declared.«class».Class.TheVariants.{Keyword, Literal, Name, Property, Text, Template, Number, Expression, Comment, Wrong}
+use Rattle.ecma_styles.specs.declared.«class».Class.{Class}
+use Rattle.ecma_styles.specs.declared.«class».Class.TheVariants.{Keyword, Literal, Name, Property, Text, Template, Number, Expression, Comment, Wrong}
 use Rattle.ecma_html.specs.Markup.{close_tag, escaped, escaped_byte, html_of, open_tag, piece_html, pieces_html, styled_html}
-use Rattle.ecma_html.specs.Styles.{Styled, class_name, left_classes, piece_class, styled}
+use Rattle.ecma_styles.specs.Styles.{Styled, class_name, left_classes, piece_class, styled}
 use Rattle.ecma_html.specs.Unmark.{Inside, Outside, Reference, Tag, Unmarked, at, in_text, read_byte, shown, shown_byte, unmark}
 
 -- Places
@@ -34,16 +34,6 @@ first-within p ps high (low, t) =
 -- what a loop over pieces reads out of range
 abbrev pub no_piece : Piece
 no_piece = record { span = record { lo = record { 0 = 0 }; hi = record { 0 = 0 } }; class = pieces.Token }
-
--- one class more is taken, while there is one
-
-pub one-taken : (cs : List (Option Class)) (n : ℕ) → drop (n + 1) cs ≡ drop 1 (drop n cs)
-one-taken cs n = sym (drop-drop 1 n cs)
-
-pub none-taken : (kind : piece.Class) (cs : List (Option Class)) (n : ℕ) → length cs ≤ n → drop n cs ≡ left_classes kind (drop n cs)
-none-taken pieces.Token cs n h = let none = drop_of_length-le cs h in none ∙ ap (drop 1) (sym none)
-none-taken pieces.Comment cs n h = refl
-none-taken pieces.Trivia cs n h = refl
 
 -- a piece of those that are left
 

@@ -1,4 +1,3 @@
 pub mod Markup
-pub mod Styles
 pub mod Text
 pub mod Unmark

@@ -1,7 +1,7 @@
 -- A text with its markup. The form is our own choice.
 use Rattle.std.specs.Prelude.{ℕ, ◌==◌, List, [], ◌∷◌, ◌++◌, Option, Some, None, codes, flat_map, slice_range, if◌then◌else◌}
-use Rattle.ecma_html.specs.declared.«class».Class.{Class}
-use Rattle.ecma_html.specs.Styles.{Styled, class_name}
+use Rattle.ecma_styles.specs.declared.«class».Class.{Class}
+use Rattle.ecma_styles.specs.Styles.{Styled, class_name}
 
 -- references for `&`, `<`, `>` and CR, and U+FFFD for NUL
 abbrev pub escaped_byte : ℕ → List ℕ

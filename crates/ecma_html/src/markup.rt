@@ -2,11 +2,11 @@
 ghost use Rattle.std.specs.Prelude.{◌≡◌, [], ◌∷◌, ◌++◌, codes, drop, length, IfOk, OnOk, MatchOption};
 ghost use Rattle.ecma_classes.specs.Classes.{Tile, joined};
 ghost use Rattle.ecma_html.specs.Markup as markup;
-ghost use Rattle.ecma_html.specs.Styles.{class_name, left_classes, piece_class, styled};
+ghost use Rattle.ecma_styles.specs.Styles.{class_name, left_classes, piece_class, styled};
 ghost use Rattle.ecma_html.specs.Unmark.{shown, unmark};
 
-use crate::class::Class;
-use ecma_classes::{Class as PieceClass, Piece};
+use ecma_classes::Piece;
+use ecma_styles::{Class, class_of_piece, taken_behind};
 use std::alloc::{AllocError, Global};
 
 /// What is shown in the place of a byte: a reference where it would begin or end markup, or where a reader of HTML would
@@ -73,30 +73,6 @@ fn push_styled(out: &mut Vec<u8>, class: Option<Class>, bytes: &[u8]) -> Result<
         out.extend_from_slice(b"</span>")?;
     }
     Ok(())
-}
-
-/// The class of a piece, where so many classes of tokens were taken before.
-fn class_of_piece(class: PieceClass, classes: &[Option<Class>], taken: usize) -> Option<Class>
-    ensures { result ≡ piece_class class (drop taken classes.now) }
-{
-    match class {
-        PieceClass::Token => match classes.get(taken) {
-            Some(class) => *class,
-            None => None,
-        },
-        PieceClass::Comment => Some(Class::Comment),
-        PieceClass::Trivia => None,
-    }
-}
-
-/// How many classes of tokens are taken behind a piece.
-fn taken_behind(class: PieceClass, classes: &[Option<Class>], taken: usize) -> usize
-    ensures { drop result classes.now ≡ left_classes class (drop taken classes.now) }
-{
-    match class {
-        PieceClass::Token if taken < classes.len() => taken + 1,
-        _ => taken,
-    }
 }
 
 /// Adds the pieces of a text that starts at the place 0.

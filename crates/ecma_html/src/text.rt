@@ -6,7 +6,6 @@ ghost use Rattle.ecma_pieces.specs.Covered.{MayBeCovered};
 ghost use Rattle.ecma_html.specs.Text.{html_kept, html_of_steps, html_text_of};
 ghost use Rattle.ecma_html.specs.Unmark.{shown, unmark};
 
-use crate::class::token_classes;
 use crate::markup::html;
 use ecma_classes::classes;
 use ecma_place::BytePos;
@@ -14,6 +13,7 @@ use ecma_reader::tokenize;
 use ecma_replay::{Gathered, gather};
 use ecma_slashes::Slashes;
 use ecma_state::{Settings, Step};
+use ecma_styles::token_classes;
 use ecma_syntax::Context;
 use std::alloc::{AllocError, Global};
 

@@ -1,1 +1,3 @@
+pub mod Columns
 pub mod Positions
+pub mod Units

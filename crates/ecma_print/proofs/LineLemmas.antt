@@ -1,14 +1,15 @@
 -- Lines that are counted from one place of a text to another.
-use Rattle.std.proofs.Common.{◌≡◌, ◌∙◌, ◌+◌, ◌-◌, ◌<◌, ◌≤◌, ℕ, List, [], ◌++◌, Bool, true, false, Option, Some, None, not, length, take, drop, get_or, min, refl, ap, sym, subst, arith, slice_index, count_by, ⊎_elim}
+use Rattle.std.proofs.Common.{◌≡◌, ◌∙◌, ◌+◌, ◌-◌, ◌<◌, ◌≤◌, ◌*◌, ℕ, List, [], ◌++◌, Bool, true, false, cond, nat_lt, Option, Some, None, not, length, take, drop, drop-drop, get_or, min, refl, ap, sym, subst, arith, slice_index, count_by, ⊎_elim}
 use Rattle.std.specs.Prelude.{slice_range}
 use Rattle.std.specs.List.{suffix_len}
 use Rattle.std.proofs.lemmas.Bool.{cases_Bool, cases_lt, false≢true}
 use Rattle.std.proofs.lemmas.List.{drop-take, get_or-drop, get_or-take, length-take, length-drop, take-append-drop, take-take, take_min}
-use Rattle.std.proofs.lemmas.List.Sums.{suffix_len_is, sum_by-append, count_by-le-length}
+use Rattle.std.proofs.lemmas.List.Sums.{suffix_len_is, sum_by-append, sum_by-le, count_by-le-length}
 use Rattle.std.proofs.lemmas.Grind.{common_steps}
 use Rattle.memchr.specs.Find.{IsLastByte, is_byte, places}
 use Rattle.memchr.proofs.lemmas.CallerLemmas.{length-places}
 use Rattle.memchr.proofs.lemmas.PlaceLemmas.{places_between-none}
+use Rattle.ecma_positions.specs.Units.{utf16_byte, utf16_length}
 use Rattle.ecma_positions.specs.Positions.{is_line_feed, last_line, position_in}
 use Rattle.ecma_positions.specs.declared.position.Position.{Position}
 use Rattle.ecma_print.specs.Lines.{IsInLine}
@@ -113,9 +114,9 @@ lines-on bytes place behind line on le within counted passed =
 abbrev at_column : ℕ → ℕ → ℕ → Position
 at_column at line start = record { line = line; column = at - start + 1 }
 
-pub position-is : (bytes : List ℕ) (start place at line : ℕ) → place ≡ min (length bytes) at → line ≡ count_by is_line_feed (take place bytes) + 1 → IsInLine bytes start place
-    → record { line = line; column = at - start + 1 } ≡ position_in bytes (record { 0 = at })
-position-is bytes start place at line is counted here =
+-- where the line of a place begins
+pub line-start : (bytes : List ℕ) (start place at : ℕ) → place ≡ min (length bytes) at → IsInLine bytes start place → start ≡ last_line (take at bytes)
+line-start bytes start place at is here =
     let order = here.order in
     let turned : place ≡ min at (length bytes) = omega (arith, is) in
     let within : place ≤ length bytes = omega (arith, is) in
@@ -125,5 +126,50 @@ position-is bytes start place at line is counted here =
     suffix_len_is (λ b. not (is_line_feed b)) (take place bytes) start 0 (omega (arith, size, order)) (λ k from to. ap (λ b. not (is_line_feed b)) (get_or-take place bytes k 0 (omega (arith, size))) ∙ ap not (here.unbroken k from (omega (arith, size))))
     (λ some. ap (λ b. not (is_line_feed b)) (get_or-take place bytes (start - 1) 0 (omega (arith, order))) ∙ ap not (here.begins some)) in
     let last : start ≡ last_line (take place bytes) = omega (arith, suffix, size, order) in
-    ap (λ l. at_column at l start) counted ∙ ap (at_column at (count_by is_line_feed (take place bytes) + 1)) last
-    ∙ ap (λ l. at_column at (count_by is_line_feed l + 1) (last_line l)) same
+    last ∙ ap last_line same
+
+pub position-is : (bytes : List ℕ) (start place at line : ℕ) → place ≡ min (length bytes) at → line ≡ count_by is_line_feed (take place bytes) + 1 → IsInLine bytes start place
+    → record { line = line; column = at - start + 1 } ≡ position_in bytes (record { 0 = at })
+position-is bytes start place at line is counted here =
+    let turned : place ≡ min at (length bytes) = omega (arith, is) in
+    let same : take place bytes ≡ take at bytes = ap (λ n. take n bytes) turned ∙ take_min at bytes in
+    ap (λ l. at_column at l start) (counted ∙ ap (λ l. count_by is_line_feed l + 1) same)
+    ∙ ap (at_column at (count_by is_line_feed (take at bytes) + 1)) (line-start bytes start place at is here)
+
+-- the bytes of the line before a place
+pub line-front : (bytes : List ℕ) (start place at : ℕ) → place ≡ min (length bytes) at → IsInLine bytes start place → slice_range bytes start place ≡ drop (last_line (take at bytes)) (take at bytes)
+line-front bytes start place at is here =
+    let order = here.order in
+    let turned : place ≡ min at (length bytes) = omega (arith, is) in
+    let same : take place bytes ≡ take at bytes = ap (λ n. take n bytes) turned ∙ take_min at bytes in
+    let on : start + (place - start) ≡ place = omega (arith, order) in
+    sym (drop-take start (place - start) bytes) ∙ ap (λ n. drop start (take n bytes)) on ∙ ap (drop start) same ∙ ap (λ n. drop n (take at bytes)) (line-start bytes start place at is here)
+
+-- units so far, and those behind
+pub more-units : (bytes : List ℕ) (start place behind : ℕ) → start ≤ place → place ≤ behind → behind ≤ length bytes
+    → utf16_length (slice_range bytes start behind) ≡ utf16_length (slice_range bytes start place) + utf16_length (slice_range bytes place behind)
+more-units bytes start place behind order le within =
+    let rest : List ℕ = drop start bytes in
+    let fits : behind - start ≤ length rest = omega (arith, length-drop start bytes) in
+    let count : behind - start - (place - start) ≡ behind - place = omega arith in
+    let from : start + (place - start) ≡ place = omega arith in
+    let seam : slice_range rest (place - start) (behind - start) ≡ slice_range bytes place behind =
+    ap (λ n. take n (drop (place - start) rest)) count ∙ ap (take (behind - place)) (drop-drop (place - start) start bytes ∙ ap (λ n. drop n bytes) from) in
+    let parts : slice_range bytes start behind ≡ slice_range bytes start place ++ slice_range bytes place behind =
+    joined rest (place - start) (behind - start) (omega arith) fits ∙ ap (λ l. slice_range bytes start place ++ l) seam in
+    ap utf16_length parts ∙ sum_by-append utf16_byte (slice_range bytes start place) (slice_range bytes place behind)
+
+pub slice-long : (bytes : List ℕ) (p q : ℕ) → p ≤ q → q ≤ length bytes → length (slice_range bytes p q) ≡ q - p
+slice-long bytes p q le within = long bytes p q le within
+
+few-byte : (b : ℕ) → utf16_byte b ≤ 2
+few-byte b = go (nat_lt b 128) (nat_lt b 192) (nat_lt b 240)
+  where
+    go : (x y z : Bool) → cond x 1 (cond y 0 (cond z 1 2)) ≤ 2
+    go true y z = omega arith
+    go false true z = omega arith
+    go false false true = omega arith
+    go false false false = omega arith
+
+pub few-units : (bytes : List ℕ) → utf16_length bytes ≤ length bytes * 2
+few-units bytes = sum_by-le utf16_byte 2 bytes (λ k d lt. few-byte (get_or bytes k d))

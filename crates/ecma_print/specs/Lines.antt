@@ -1,6 +1,7 @@
 -- Where a count of lines stands.
 use Rattle.std.specs.Prelude.{◌≡◌, ◌≤◌, ◌<◌, ◌+◌, ◌-◌, ℕ, List, true, false, count_by, length, slice_index, take}
 use Rattle.ecma_positions.specs.Positions.{is_line_feed}
+use Rattle.ecma_print.specs.Units.{CountsUnits}
 use Rattle.ecma_print.specs.declared.lines.Lines.{Lines}
 
 -- a line of a text with these bytes begins there, and a place lies in it, or at its end
@@ -14,3 +15,4 @@ pub record Counts (bytes : List ℕ) (lines : Lines) : Type 0 where
   pub within : lines.place ≤ length bytes
   pub line : lines.line ≡ count_by is_line_feed (take lines.place bytes) + 1
   pub in_line : IsInLine bytes lines.start lines.place
+  pub units : CountsUnits bytes lines.units

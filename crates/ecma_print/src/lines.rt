@@ -1,10 +1,12 @@
 //! The lines and columns of places of a text, counted from the last place that was asked for.
-ghost use Rattle.std.specs.Prelude.{◌≡◌, ◌≤◌, ◌<◌, ◌^◌, ℕ, List, length};
+ghost use Rattle.std.specs.Prelude.{◌≡◌, ◌≤◌, ◌<◌, ◌^◌, ℕ, List, length, min};
+ghost use Rattle.ecma_positions.specs.Columns.{position_by};
 ghost use Rattle.ecma_positions.specs.Positions.{position_in};
 ghost use Rattle.ecma_print.specs.Lines.{Counts};
 
+use crate::units::Units;
 use ecma_place::BytePos;
-use ecma_positions::Position;
+use ecma_positions::{Columns, Position};
 use memchr::{memchr_iter, memrchr};
 
 /// Where the last place that was asked for lies. Rows mostly go forward, so that each byte is passed once, and no table of
@@ -17,6 +19,8 @@ pub struct Lines {
     line: usize,
     /// The place where that line begins.
     start: usize,
+    /// The units of UTF-16 before a place of a line, for columns that count these.
+    units: Units,
 }
 
 impl Lines {
@@ -28,6 +32,7 @@ impl Lines {
             place: 0,
             line: 1,
             start: 0,
+            units: Units::new(),
         }
     }
 
@@ -66,11 +71,12 @@ impl Lines {
         self.place = place;
     }
 
-    /// The line and the column of a place of the text with these bytes, of which all places before were asked for; a place
-    /// behind its end counts as one of its last line.
-    pub fn position(&mut self, bytes: &[u8], place: BytePos) -> Position
+    /// The line and the column, in bytes, of a place of the text with these bytes, of which all places before were asked for; a
+    /// place behind its end counts as one of its last line.
+    fn byte_position(&mut self, bytes: &[u8], place: BytePos) -> Position
         ensures position { Counts bytes.now self.old → result ≡ position_in bytes.now place }
         ensures counts { Counts bytes.now self.old → Counts bytes.now self.new }
+        ensures at { self.new.place ≡ min (length bytes.now) place.0 }
     {
         let to = bytes.len().min(place.0 as usize);
         let from = bytes.len().min(self.place);
@@ -83,6 +89,25 @@ impl Lines {
         Position {
             line: self.line,
             column: (place.0 as usize).saturating_sub(self.start) + 1,
+        }
+    }
+
+    /// The line and the column of a place of the text with these bytes, of which all places before were asked for. A place behind
+    /// its end counts as one of its last line; where columns count units of UTF-16, as the end.
+    pub fn position(&mut self, bytes: &[u8], columns: Columns, place: BytePos) -> Position
+        ensures position { Counts bytes.now self.old → result ≡ position_by columns bytes.now place }
+        ensures counts { Counts bytes.now self.old → Counts bytes.now self.new }
+    {
+        let position = self.byte_position(bytes, place);
+        match columns {
+            Columns::Bytes => position,
+            Columns::Utf16 => {
+                let before = self.units.count(bytes, self.start, self.place);
+                Position {
+                    line: position.line,
+                    column: before.saturating_add(1),
+                }
+            }
         }
     }
 }

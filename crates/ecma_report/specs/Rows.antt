@@ -5,7 +5,7 @@ use Rattle.serde_json.specs.Written.{compact_text}
 use Rattle.ecma_place.specs.declared.place.BytePos.{BytePos}
 use Rattle.ecma_place.specs.declared.place.Span.{Span}
 use Rattle.ecma_stdio.specs.Escaped.{escaped}
-use Rattle.ecma_positions.specs.Positions.{position_in}
+use Rattle.ecma_positions.specs.Columns.{position_by}
 use Rattle.ecma_positions.specs.declared.position.Position.{Position}
 use Rattle.ecma_print.specs.Rows.{head_of, members, own_text}
 use Rattle.ecma_print.specs.declared.row.More.{More}
@@ -26,7 +26,7 @@ name_asked l file = if l.names then escaped file ++ 58 ∷ [] else []
 
 -- its line and column, where they are asked for
 abbrev pub place_asked : Asked → List ℕ → BytePos → Option Position
-place_asked asked text place = if asked.lines then Some (position_in text place) else None
+place_asked asked text place = if asked.lines then Some (position_by asked.columns text place) else None
 
 -- a line: the name of the file, of what kind it is, where it lies, what else is told, and its text
 abbrev pub line_text : Look → List ℕ → List ℕ → List ℕ → Span → More → List ℕ → List ℕ
@@ -35,7 +35,7 @@ line_text l file text kind span more own = name_asked l file ++ (head_of (place_
 -- an object, or a line
 abbrev pub parts_of : Look → List ℕ → List ℕ → List ℕ → Span → More → List ℕ → List ℕ
 parts_of l file text kind span more own =
-    if l.asked.json then compact_text (object (members file (position_in text span.lo) span kind own more)) else line_text l file text kind span more own
+    if l.asked.json then compact_text (object (members file (position_by l.asked.columns text span.lo) span kind own more)) else line_text l file text kind span more own
 
 -- with the end of its line
 abbrev pub row_of : Look → List ℕ → List ℕ → List ℕ → Span → More → List ℕ → List ℕ

@@ -5,8 +5,8 @@ use Rattle.ecma_token.specs.declared.kind.TokenKind.{TokenKind}
 use Rattle.ecma_state.specs.Session.{Session, kept_of}
 use Rattle.ecma_state.specs.declared.kept.Kept.{Kept}
 use Rattle.ecma_options.specs.Begin.{begin}
-use Rattle.ecma_html.specs.Styles.{class_name, class_of}
-use Rattle.ecma_html.specs.declared.«class».Class.{Class}
+use Rattle.ecma_styles.specs.Styles.{class_name, class_of}
+use Rattle.ecma_styles.specs.declared.«class».Class.{Class}
 use Rattle.ecma_report.specs.Rows.{Look, part_at, row_of}
 use Rattle.ecma_print.specs.declared.row.More.TheVariants.{LineBreak}
 use Rattle.ecma_report.specs.declared.words.Asked.{Asked}

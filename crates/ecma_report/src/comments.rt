@@ -1,11 +1,13 @@
 //! Rows of comments.
 ghost use Rattle.std.specs.Prelude.{◌<◌, ◌^◌, length};
 
-use crate::faults::{pass_tokens, tell_recorded};
+use crate::faults::{pass_tokens, tell_found};
 use crate::report::{More, Report, Row, Stop};
 use crate::slashes::{open, tell_unmet};
 use crate::words::Named;
+use ecma_faults::in_order;
 use ecma_place::CommentKind;
+use ecma_reader::Outcome;
 use ecma_state::{BufferedComment, BufferedCommentKind};
 use std::alloc::AllocError;
 use std::io::Write;
@@ -50,9 +52,18 @@ pub(crate) fn write_comments<'a, W: Write>(
     requires { length report.old.text.now < 2 ^ 32 }
 {
     let mut reader = open(report, named, true)?;
-    pass_tokens(report, &mut reader, out)?;
-    let outcome = reader.finish();
-    tell_unmet(report, named, outcome.rereads)?;
-    tell_recorded(report, outcome.errors.as_slice(), out)?;
-    push_comments(report, &outcome.comments, out)
+    let mut errors = Vec::new(report.alloc);
+    pass_tokens(&mut reader, &mut errors)?;
+    let Outcome {
+        errors: recorded,
+        waiting: _,
+        comments,
+        ended: _,
+        rereads,
+    } = reader.finish();
+    let waiting = Vec::new(report.alloc);
+    let found = in_order(report.alloc, errors, recorded.into_vec(), waiting)?;
+    tell_unmet(report, named, rereads)?;
+    tell_found(report, &found, out)?;
+    push_comments(report, &comments, out)
 }

@@ -1,125 +1,103 @@
 //! Errors: rows of their own, or faults of the file.
-ghost use Rattle.std.specs.Prelude.{◌≡◌, ◌<◌, ◌^◌, [], false, length, OnOk};
-ghost use Rattle.ecma_reader.specs.Readers.{IsReady};
+ghost use Rattle.std.specs.Prelude.{◌≡◌, ◌++◌, ◌<◌, ◌^◌, [], false, length, map, option_map, OnOk};
+ghost use Rattle.ecma_token.specs.View.{error_view, spanned_view};
+ghost use Rattle.ecma_reader.specs.Outputs.{errors_among};
+ghost use Rattle.ecma_reader.specs.Readers.{IsReady, tokens_found};
 ghost use Rattle.ecma_report.specs.Reports.{Adds, Stays, writes_errors};
 
 use crate::report::{More, Report, Row, Stop};
 use crate::slashes::{open, tell_unmet};
 use crate::words::{Face, Named};
+use ecma_faults::{Found, Origin, in_order};
 use ecma_place::Spanned;
-use ecma_reader::Reader;
-use ecma_token::{Error, Token, TokenAndSpan};
+use ecma_reader::{Reader, take_error};
+use ecma_token::{Error, TokenAndSpan};
 use std::alloc::AllocError;
 use std::io::Write;
 
 /// Adds the row of an error.
-fn push_error(report: &mut Report, kind: &str, error: &Error) -> Result<(), AllocError>
+fn push_error(report: &mut Report, found: &Found) -> Result<(), AllocError>
     ensures { Stays report.old report.new }
 {
-    let message = error.kind().msg(report.alloc)?;
+    let message = found.error.kind().msg(report.alloc)?;
     report.push_row(Row {
-        kind,
-        span: error.span(),
+        kind: found.origin.name(),
+        span: found.error.span(),
         more: More::Message,
         text: message.as_str(),
     })
 }
 
-/// Tells of an error in a row of its own, or as a fault of the file.
-fn tell_error(report: &mut Report, kind: &str, error: &Error) -> Result<(), AllocError>
+/// Adds an error to the faults of the file, but for one that counts in module code alone.
+fn push_fault(report: &mut Report, found: &Found) -> Result<(), AllocError>
+    ensures out { report.new.out ≡ report.old.out }
+    ensures stays { Stays report.old report.new }
+{
+    if found.origin == Origin::Waiting {
+        return Ok(());
+    }
+    report.push_fault(found.error.span(), found.error.kind())
+}
+
+/// Tells of an error in a row of its own, or as a fault of the file; one that is shown in the text is told of there.
+fn tell_error(report: &mut Report, found: &Found) -> Result<(), AllocError>
     ensures out { writes_errors report.old.asked.face ≡ false → report.new.out ≡ report.old.out }
     ensures stays { Stays report.old report.new }
 {
+    report.is_faulty = report.is_faulty || found.origin != Origin::Waiting;
     match report.asked.face {
-        Face::Errors => push_error(report, kind, error),
-        _ => report.push_fault(error.span(), error.kind()),
+        Face::Errors => push_error(report, found),
+        Face::Show => Ok(()),
+        _ => push_fault(report, found),
     }
 }
 
 /// Tells of errors, in order.
-fn tell_errors<W: Write>(
+pub(crate) fn tell_found<W: Write>(
     report: &mut Report,
-    kind: &str,
-    errors: &[Error],
+    found: &[Found],
     out: &mut W,
 ) -> Result<(), Stop>
     ensures adds { writes_errors report.old.asked.face ≡ false
         → OnOk result (Adds (W.contents out.old) (W.contents out.new) report.old.out.items report.new.out.items []) }
     ensures stays { OnOk result (Stays report.old report.new) }
 {
-    for error in errors {
-        tell_error(report, kind, error)?;
+    for one in found {
+        tell_error(report, one)?;
         report.pass_on(out)?;
     }
     Ok(())
 }
 
-/// Tells of the error of a token, where it is one.
-pub(crate) fn tell_token(report: &mut Report, token: &TokenAndSpan) -> Result<(), AllocError>
-    ensures out { writes_errors report.old.asked.face ≡ false → report.new.out ≡ report.old.out }
-    ensures stays { Stays report.old report.new }
+/// Takes the error of the token that was read, where it is one, and adds it to the errors. What the slot then holds is not said.
+pub(crate) fn keep_error<'a>(
+    errors: &mut Vec<Error<'a>>,
+    slot: &mut Option<TokenAndSpan<'a>>,
+) -> Result<(), AllocError>
+    ensures { OnOk result (map error_view errors.new.items ≡ map error_view errors.old.items ++ errors_among (tokens_found (option_map spanned_view slot.old))) }
 {
-    if let Token::Error(error) = &token.token {
-        report.is_faulty = true;
-        tell_error(report, "token", error)?;
+    if let Some(error) = take_error(slot) {
+        errors.push(error)?;
     }
     Ok(())
 }
 
-/// Tells of the error of the token that was read, where it is one.
-pub(crate) fn tell_slot(report: &mut Report, slot: &Option<TokenAndSpan>) -> Result<(), AllocError>
-    ensures { Stays report.old report.new }
-{
-    match slot {
-        Some(token) => tell_token(report, token),
-        None => Ok(()),
-    }
-}
-
-/// Tells of the errors of tokens.
-pub(crate) fn tell_refused<W: Write>(
-    report: &mut Report,
-    errors: &[Error],
-    out: &mut W,
-) -> Result<(), Stop>
-    ensures { OnOk result (Stays report.old report.new) }
-{
-    report.is_faulty = report.is_faulty || !errors.is_empty();
-    tell_errors(report, "token", errors, out)
-}
-
-/// Tells of the errors that were recorded.
-pub(crate) fn tell_recorded<W: Write>(
-    report: &mut Report,
-    errors: &[Error],
-    out: &mut W,
-) -> Result<(), Stop>
-    ensures adds { writes_errors report.old.asked.face ≡ false
-        → OnOk result (Adds (W.contents out.old) (W.contents out.new) report.old.out.items report.new.out.items []) }
-    ensures stays { OnOk result (Stays report.old report.new) }
-{
-    report.is_faulty = report.is_faulty || !errors.is_empty();
-    tell_errors(report, "recorded", errors, out)
-}
-
-/// Reads to the end, and tells of the errors of tokens.
-pub(crate) fn pass_tokens<W: Write>(
-    report: &mut Report,
-    reader: &mut Reader,
-    out: &mut W,
-) -> Result<(), Stop>
+/// Reads to the end, and keeps the errors of tokens.
+pub(crate) fn pass_tokens<'a>(
+    reader: &mut Reader<'a>,
+    errors: &mut Vec<Error<'a>>,
+) -> Result<(), AllocError>
     requires { IsReady reader.old }
-    ensures { OnOk result (Stays report.old report.new) }
 {
     let mut slot = None;
     'tokens: while reader.read_into(&mut slot)? {
-        tell_slot(report, &slot)?;
-        report.pass_on(out)?;
+        keep_error(errors, &mut slot)?;
     }
     Ok(())
 }
 
-/// Writes a row for each error: those of tokens, then those that were recorded, then those that count in a module alone.
+/// Writes a row for each error, in order of place: those of tokens, those that were recorded, and those that count in a module
+/// alone.
 pub(crate) fn write_errors<'a, W: Write>(
     report: &mut Report<'a>,
     named: Named<'a>,
@@ -128,9 +106,16 @@ pub(crate) fn write_errors<'a, W: Write>(
     requires { length report.old.text.now < 2 ^ 32 }
 {
     let mut reader = open(report, named, false)?;
-    pass_tokens(report, &mut reader, out)?;
+    let mut errors = Vec::new(report.alloc);
+    pass_tokens(&mut reader, &mut errors)?;
     let outcome = reader.finish();
-    tell_unmet(report, named, outcome.rereads)?;
-    tell_recorded(report, outcome.errors.as_slice(), out)?;
-    tell_errors(report, "waiting", outcome.waiting.as_slice(), out)
+    let rereads = outcome.rereads;
+    let found = in_order(
+        report.alloc,
+        errors,
+        outcome.errors.into_vec(),
+        outcome.waiting.into_vec(),
+    )?;
+    tell_unmet(report, named, rereads)?;
+    tell_found(report, &found, out)
 }

@@ -1,16 +1,16 @@
 //! Rows of what is imported.
-ghost use Rattle.std.specs.Prelude.{◌<◌, ◌^◌, length, OnOk};
+ghost use Rattle.std.specs.Prelude.{◌<◌, ◌^◌, length};
 ghost use Rattle.ecma_reader.specs.Readers.{IsReady};
-ghost use Rattle.ecma_report.specs.Reports.{Stays};
 
-use crate::faults::{tell_recorded, tell_slot};
+use crate::faults::{keep_error, tell_found};
 use crate::report::{More, Report, Row, Stop};
 use crate::slashes::{open, tell_unmet};
 use crate::words::Named;
+use ecma_faults::in_order;
 use ecma_imports::{Form, Specifier, specifiers};
 use ecma_reader::Reader;
 use ecma_state::Kept;
-use ecma_token::TokenAndSpan;
+use ecma_token::{Error, TokenAndSpan};
 use std::alloc::AllocError;
 use std::io::Write;
 
@@ -48,18 +48,20 @@ fn keep_slot(kept: &mut Vec<Kept>, slot: &Option<TokenAndSpan>) -> Result<(), Al
     Ok(())
 }
 
-/// Reads to the end, tells of the errors of tokens, and gives what is kept of each.
-fn keep_tokens(report: &mut Report, reader: &mut Reader) -> Result<Vec<Kept>, AllocError>
+/// Reads to the end, adds what is kept of each token, and keeps the errors of tokens.
+fn keep_tokens<'a>(
+    reader: &mut Reader<'a>,
+    kept: &mut Vec<Kept>,
+    errors: &mut Vec<Error<'a>>,
+) -> Result<(), AllocError>
     requires { IsReady reader.old }
-    ensures { OnOk result (Stays report.old report.new) }
 {
-    let mut kept = Vec::new(report.alloc);
     let mut slot = None;
     'tokens: while reader.read_into(&mut slot)? {
-        tell_slot(report, &slot)?;
-        keep_slot(&mut kept, &slot)?;
+        keep_slot(kept, &slot)?;
+        keep_error(errors, &mut slot)?;
     }
-    Ok(kept)
+    Ok(())
 }
 
 /// Writes a row for each string that names a module which is imported, and tells of errors.
@@ -71,10 +73,15 @@ pub(crate) fn write_imports<'a, W: Write>(
     requires { length report.old.text.now < 2 ^ 32 }
 {
     let mut reader = open(report, named, false)?;
-    let kept = keep_tokens(report, &mut reader)?;
+    let mut kept = Vec::new(report.alloc);
+    let mut errors = Vec::new(report.alloc);
+    keep_tokens(&mut reader, &mut kept, &mut errors)?;
     let outcome = reader.finish();
-    tell_unmet(report, named, outcome.rereads)?;
-    tell_recorded(report, outcome.errors.as_slice(), out)?;
-    let found = specifiers(report.alloc, &kept)?;
-    push_specifiers(report, &found, out)
+    let rereads = outcome.rereads;
+    let waiting = Vec::new(report.alloc);
+    let found = in_order(report.alloc, errors, outcome.errors.into_vec(), waiting)?;
+    tell_unmet(report, named, rereads)?;
+    tell_found(report, &found, out)?;
+    let names = specifiers(report.alloc, &kept)?;
+    push_specifiers(report, &names, out)
 }

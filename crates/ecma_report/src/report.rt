@@ -1,7 +1,7 @@
 //! What is written of a text: lines, or JSON objects, in blocks.
 ghost use Rattle.std.specs.Prelude.{◌≡◌, ◌++◌, [], false, IfOk, OnOk, OnErr};
 ghost use Rattle.std.specs.Io.KnownBytes.{Appends};
-ghost use Rattle.ecma_positions.specs.Positions.{position_in};
+ghost use Rattle.ecma_positions.specs.Columns.{position_by};
 ghost use Rattle.ecma_print.specs.Lines.{Counts};
 ghost use Rattle.ecma_report.specs.Reports.{Adds, IsOf, Stays, look_of};
 ghost use Rattle.ecma_print.specs.Rows.{head, own_text};
@@ -145,11 +145,12 @@ impl<'a> Report<'a> {
 
     /// The line and the column of a place, most often one behind that of the last row.
     fn position(&mut self, place: BytePos) -> Position
-        ensures position { Counts self.old.text.now self.old.lines → result ≡ position_in self.old.text.now place }
+        ensures position { Counts self.old.text.now self.old.lines → result ≡ position_by self.old.asked.columns self.old.text.now place }
         ensures stays { Stays self.old self.new }
         ensures out { self.new.out ≡ self.old.out }
     {
-        self.lines.position(self.text.as_bytes(), place)
+        self.lines
+            .position(self.text.as_bytes(), self.asked.columns, place)
     }
 
     /// The line and the column of a place, where these are asked for.

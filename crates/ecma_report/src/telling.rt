@@ -32,19 +32,21 @@ fn write_face<'a, W: Write>(
         Face::Comments => write_comments(report, named, out),
         Face::Errors => write_errors(report, named, out),
         Face::Imports => write_imports(report, named, out),
-        Face::Canonical | Face::Classes | Face::Html => tell_gathered(report, named, out),
+        Face::Canonical | Face::Classes | Face::Html | Face::Show => {
+            tell_gathered(report, named, out)
+        }
     }
 }
 
 /// Writes what a report is asked for of its text, while the text is read, and gathers the lines that tell of faults. Which slashes
 /// begin regular expressions is said by `named`, whose places ascend.
 ///
-/// Rows of tokens are written in blocks as they are read, and so are those of errors that are tokens. Errors that were recorded and
-/// comments are known at the end, and are written in blocks then. The caller knows that the text has fewer than 2^32 bytes.
+/// Rows of tokens are written in blocks as they are read. Errors and comments are known at the end, and are written in blocks
+/// then, errors in order of place. The caller knows that the text has fewer than 2^32 bytes.
 ///
 /// # Errors
 ///
-/// `Closed` where a write fails: nothing is read then any more, and the faults are those of the tokens so far. `OutOfMemory` where
+/// `Closed` where a write fails: nothing is read then any more. `OutOfMemory` where
 /// there is no memory; what was written before stays written.
 pub fn tell<'a, W: Write>(
     report: &mut Report<'a>,

@@ -10,14 +10,15 @@ ghost use Rattle.ecma_report.specs.Tokens as rows;
 ghost use Rattle.ecma_report.specs.Tokens.{begun, kind_behind, token_rows};
 ghost use Rattle.ecma_report.specs.Rows.{Look};
 
-use crate::faults::{tell_recorded, tell_token};
+use crate::faults::{keep_error, tell_found};
 use crate::report::{More, Report, Row, Stop};
 use crate::slashes::{open, tell_unmet};
 use crate::words::Named;
-use ecma_html::Class;
+use ecma_faults::in_order;
 use ecma_reader::Reader;
 use ecma_state::Kept;
-use ecma_token::{TokenAndSpan, TokenKind};
+use ecma_styles::Class;
+use ecma_token::{Error, TokenAndSpan, TokenKind};
 use std::alloc::AllocError;
 use std::io::Write;
 
@@ -50,14 +51,13 @@ fn push_token(
     })
 }
 
-/// Adds the row of the token that was read, behind one of that kind or none, tells of its error where it is one, and gives its
-/// kind.
+/// Adds the row of the token that was read, behind one of that kind or none, and gives its kind.
 fn push_slot(
     report: &mut Report,
     previous: Option<TokenKind>,
     slot: &Option<TokenAndSpan>,
 ) -> Result<Option<TokenKind>, AllocError>
-    ensures added { (look : Look) (name text : List ℕ) → IsOf look name text report.old → writes_errors look.asked.face ≡ false
+    ensures added { (look : Look) (name text : List ℕ) → IsOf look name text report.old
         → OnOk result (report.new.out.items ≡ report.old.out.items ++ token_rows look name text previous (tokens_found (option_map spanned_view slot.now))) }
     ensures kind { IfOk result (λ kind. kind ≡ kind_behind previous (tokens_found (option_map spanned_view slot.now))) }
     ensures stays { OnOk result (Stays report.old report.new) }
@@ -66,15 +66,19 @@ fn push_slot(
         return Ok(previous);
     };
     let own = Kept::of(token);
-    tell_token(report, token)?;
     push_token(report, previous, own)?;
     Ok(Some(own.kind))
 }
 
-/// Reads to the end, and writes a row for each token.
-fn read_tokens<W: Write>(report: &mut Report, reader: &mut Reader, out: &mut W) -> Result<(), Stop>
+/// Reads to the end, writes a row for each token, and keeps the errors of tokens.
+fn read_tokens<'a, W: Write>(
+    report: &mut Report,
+    reader: &mut Reader<'a>,
+    errors: &mut Vec<Error<'a>>,
+    out: &mut W,
+) -> Result<(), Stop>
     requires ready { IsReady reader.old }
-    ensures rows { (rule : SlashRule) (begin : Session) (look : Look) (name text : List ℕ) → Shows rule begin [] reader.old → IsOf look name text report.old → writes_errors look.asked.face ≡ false
+    ensures rows { (rule : SlashRule) (begin : Session) (look : Look) (name text : List ℕ) → Shows rule begin [] reader.old → IsOf look name text report.old
         → OnOk result (Adds (W.contents out.old) (W.contents out.new) report.old.out.items report.new.out.items (token_rows look name text None (tokens_by rule begin))) }
     ensures stays { OnOk result (Stays report.old report.new) }
 {
@@ -82,6 +86,7 @@ fn read_tokens<W: Write>(report: &mut Report, reader: &mut Reader, out: &mut W) 
     let mut slot = None;
     'tokens: while reader.read_into(&mut slot)? {
         previous = push_slot(report, previous, &slot)?;
+        keep_error(errors, &mut slot)?;
         report.pass_on(out)?;
     }
     Ok(())
@@ -98,9 +103,13 @@ pub(crate) fn write_tokens<'a, W: Write>(
         → OnOk result (Adds (W.contents out.old) (W.contents out.new) report.old.out.items report.new.out.items (token_rows look name text None (tokens_by (rule_at named.entry) (begun look.asked text)))) }
 {
     let mut reader = open(report, named, false)?;
-    read_tokens(report, &mut reader, out)?;
+    let mut errors = Vec::new(report.alloc);
+    read_tokens(report, &mut reader, &mut errors, out)?;
     let outcome = reader.finish();
-    tell_unmet(report, named, outcome.rereads)?;
-    tell_recorded(report, outcome.errors.as_slice(), out)?;
+    let rereads = outcome.rereads;
+    let waiting = Vec::new(report.alloc);
+    let found = in_order(report.alloc, errors, outcome.errors.into_vec(), waiting)?;
+    tell_unmet(report, named, rereads)?;
+    tell_found(report, &found, out)?;
     Ok(())
 }

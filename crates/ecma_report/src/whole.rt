@@ -12,14 +12,16 @@ ghost use Rattle.ecma_canonical.specs.Canonical.{GathersPlainly, IsCanon};
 ghost use Rattle.ecma_classes.specs.Classes.{begin};
 ghost use Rattle.ecma_pieces.specs.Covered.{MayBeCovered};
 
-use crate::faults::{tell_recorded, tell_refused};
+use crate::faults::tell_found;
 use crate::report::{More, Report, Row, Stop, write_all};
 use crate::slashes::{START, slashes_at, tell_unmet};
 use crate::words::{Face, Named};
 use ecma_canonical::{Canon, canonical_of_gathered};
 use ecma_classes::{Class, Piece, classes};
+use ecma_faults::{Found, in_order};
 use ecma_html::html_of_gathered;
-use ecma_reader::read_out;
+use ecma_looks::show_text;
+use ecma_reader::{ReadOut, read_out};
 use ecma_replay::Gathered;
 use std::alloc::{AllocError, Global};
 use std::io::Write;
@@ -106,10 +108,37 @@ fn write_html<W: Write>(report: &mut Report, gathered: &Gathered, out: &mut W) -
     write_whole(report, &html, out)
 }
 
+/// Writes a text as it is shown in a terminal, with these errors below their lines, and of several files behind a line with its
+/// name.
+fn write_shown<W: Write>(
+    report: &mut Report,
+    gathered: &Gathered,
+    found: &[Found],
+    out: &mut W,
+) -> Result<(), Stop>
+    requires fits { length report.old.text.now < 2 ^ 32 }
+    requires covered { MayBeCovered (begin 0 (chars report.old.text.now)) gathered.now.kept.items gathered.now.comments.items }
+{
+    let lines = show_text(
+        report.alloc,
+        report.text,
+        gathered.kept.as_slice(),
+        gathered.comments.as_slice(),
+        found,
+        report.asked.colours,
+    )?;
+    if report.among.names && !report.asked.json {
+        write_all(out, report.name.as_bytes())?;
+        write_all(out, b":\n")?;
+    }
+    write_whole(report, &lines, out)
+}
+
 /// Writes what is asked for of a text, by what was gathered of it.
 fn write_gathered<W: Write>(
     report: &mut Report,
     gathered: &Gathered,
+    found: &[Found],
     out: &mut W,
 ) -> Result<(), Stop>
     requires fits { length report.old.text.now < 2 ^ 32 }
@@ -119,6 +148,7 @@ fn write_gathered<W: Write>(
     match report.asked.face {
         Face::Classes => write_pieces(report, gathered, out),
         Face::Html => write_html(report, gathered, out),
+        Face::Show => write_shown(report, gathered, found, out),
         _ => write_canonical(report, gathered, out),
     }
 }
@@ -145,8 +175,15 @@ pub(crate) fn tell_gathered<'a, W: Write>(
         START,
         slashes,
     )?;
-    tell_unmet(report, named, read.rereads)?;
-    tell_refused(report, &read.refusals, out)?;
-    tell_recorded(report, read.gathered.errors.as_slice(), out)?;
-    write_gathered(report, &read.gathered, out)
+    let ReadOut {
+        gathered,
+        rereads,
+        refusals,
+    } = read;
+    let recorded = gathered.errors.copy(report.alloc)?;
+    let waiting = Vec::new(report.alloc);
+    let found = in_order(report.alloc, refusals, recorded.into_vec(), waiting)?;
+    tell_unmet(report, named, rereads)?;
+    tell_found(report, &found, out)?;
+    write_gathered(report, &gathered, &found, out)
 }

@@ -3,6 +3,7 @@
 use clap::{Arg, ArgAction, ArgMatches, Command, value_parser};
 use ecma_options::Options;
 use ecma_place::BytePos;
+use ecma_positions::Columns;
 use std::alloc::{AllocError, Global};
 
 /// What is reported of each text.
@@ -14,18 +15,20 @@ pub enum Face {
     Canonical,
     Classes,
     Html,
+    Show,
     Imports,
 }
 
 impl Face {
     /// Each, in the order in which help names them.
-    const ALL: [Face; 7] = [
+    const ALL: [Face; 8] = [
         Face::Tokens,
         Face::Comments,
         Face::Errors,
         Face::Canonical,
         Face::Classes,
         Face::Html,
+        Face::Show,
         Face::Imports,
     ];
 
@@ -38,6 +41,7 @@ impl Face {
             Face::Canonical => "canonical",
             Face::Classes => "classes",
             Face::Html => "html",
+            Face::Show => "show",
             Face::Imports => "imports",
         }
     }
@@ -52,6 +56,7 @@ impl Face {
             Face::Canonical => "The one text of all texts with these tokens",
             Face::Classes => "A line for each piece of the text: token, comment or trivia",
             Face::Html => "The text as HTML, with a span for each class",
+            Face::Show => "The text with line numbers and colours, and errors below their lines",
             Face::Imports => "A line for each string that names a module which is imported",
         }
     }
@@ -64,9 +69,22 @@ impl Face {
             "canonical" => Face::Canonical,
             "classes" => Face::Classes,
             "html" => Face::Html,
+            "show" => Face::Show,
             "imports" => Face::Imports,
             _ => Face::Tokens,
         }
+    }
+}
+
+/// What columns may count, as words name it.
+const COLUMNS: &[&str] = &["bytes", "utf16"];
+
+/// What columns count, as the words say.
+fn columns_of(matches: &ArgMatches) -> Columns {
+    if matches.get_str("columns") == Some("utf16") {
+        Columns::Utf16
+    } else {
+        Columns::Bytes
     }
 }
 
@@ -77,11 +95,16 @@ pub struct Asked {
     pub options: Options,
     pub json: bool,
     pub lines: bool,
+    /// What columns count, in lines, objects and faults.
+    pub columns: Columns,
+    /// Whether a text is shown in colours.
+    pub colours: bool,
 }
 
 impl Asked {
-    /// What a subcommand asks for, with the words behind it.
-    pub fn of(subcommand: &str, matches: &ArgMatches) -> Asked {
+    /// What a subcommand asks for, with the words behind it. `colours` says whether standard output takes colours, where no word
+    /// says so.
+    pub fn of(subcommand: &str, matches: &ArgMatches, colours: bool) -> Asked {
         Asked {
             face: Face::named(subcommand),
             options: Options {
@@ -92,6 +115,12 @@ impl Asked {
             },
             json: matches.get_flag("json"),
             lines: matches.get_flag("lines"),
+            columns: columns_of(matches),
+            colours: match matches.get_str("color") {
+                Some("always") => true,
+                Some("never") => false,
+                _ => colours,
+            },
         }
     }
 
@@ -216,10 +245,31 @@ fn slash_words<'a>(alloc: Global, command: Command<'a>) -> Result<Command<'a>, A
     command.arg(slash)?.arg(slashes)
 }
 
+/// When colours are written, as words name it.
+const COLORS: &[&str] = &["auto", "always", "never"];
+
+/// The words that say what columns count, and when colours are written.
+fn look_words<'a>(alloc: Global, command: Command<'a>) -> Result<Command<'a>, AllocError> {
+    let columns = Arg::new(alloc, "columns")
+        .long("columns")
+        .value_name("UNIT")
+        .value_parser(COLUMNS)
+        .help("Count columns in bytes (bytes, if left out), or in units of UTF-16 (utf16)");
+    let color = Arg::new(alloc, "color")
+        .long("color")
+        .value_name("WHEN")
+        .value_parser(COLORS)
+        .help(
+            "With show, write colours always, never, or into a terminal (auto, if left out) where NO_COLOR is not set",
+        );
+    command.arg(columns)?.arg(color)
+}
+
 /// The subcommand that asks for this, with its help.
 fn subcommand<'a>(alloc: Global, face: Face) -> Result<Command<'a>, AllocError> {
     let command = Command::new(alloc, face.name()).about(face.help());
-    let mut command = slash_words(alloc, file_words(alloc, command)?)?;
+    let command = slash_words(alloc, file_words(alloc, command)?)?;
+    let mut command = look_words(alloc, command)?;
     for (name, help) in FLAGS {
         let flag = Arg::new(alloc, name)
             .long(name)

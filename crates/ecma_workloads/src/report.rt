@@ -1,9 +1,9 @@
 //! The programs on large files: lines of tokens, pieces, comments and errors, and JSON.
 use crate::job::Job;
 use crate::settings::{fits, options};
-use ecma_html::Class;
 use ecma_options::Options;
 use ecma_place::BytePos;
+use ecma_positions::Columns;
 use ecma_program::run as run_program;
 use ecma_replay::replay;
 use ecma_report::report::{More, Report, Row};
@@ -11,6 +11,7 @@ use ecma_report::words::{Asked, Face};
 use ecma_samples::Sample;
 use ecma_slashes::steps_by_flag;
 use ecma_state::Kept;
+use ecma_styles::Class;
 use std::alloc::AllocError;
 
 /// What a program writes of a text, asked for by a word.
@@ -58,6 +59,8 @@ fn report_tokens(
         options,
         json,
         lines: true,
+        columns: Columns::Bytes,
+        colours: false,
     };
     let start = BytePos(0);
     let settings = options.settings(true);

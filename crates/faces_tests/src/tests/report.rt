@@ -1,7 +1,7 @@
 //! Rows of a report, each held to what `serde_json` and `format!` write of it.
 use ecma_options::Options;
 use ecma_place::{BytePos, Span};
-use ecma_positions::{LineStarts, Position};
+use ecma_positions::{Columns, LineStarts, Position};
 use ecma_report::report::{More, Report, Row};
 use ecma_report::words::{Among, Asked, Face};
 use ecma_stdio::push_escaped;
@@ -156,6 +156,8 @@ fn asked(json: bool, lines: bool) -> Asked {
         },
         json,
         lines,
+        columns: Columns::Bytes,
+        colours: false,
     }
 }
 

@@ -1,6 +1,6 @@
 use Rattle.std.proofs.Common.{◌≡◌, ◌∙◌, append_assoc, ap}
 use Rattle.ecma_html.specs.Markup.{html_of}
-use Rattle.ecma_html.specs.Styles.{styled}
+use Rattle.ecma_styles.specs.Styles.{styled}
 use Rattle.ecma_html.specs.Unmark.{unmark}
 use Rattle.ecma_html.proofs.MarkupLemmas.{unmarked-text}
 use Rattle.ecma_html.proofs.markup.html.Goals as goal

@@ -1,7 +1,7 @@
 use Rattle.std.proofs.Common.{◌∙◌, ◌+◌, ◌++◌, append_assoc, drop, length, sym, ap, arith}
 use Rattle.std.specs.Prelude.{get_or, slice_range}
 use Rattle.ecma_html.specs.Markup as markup
-use Rattle.ecma_html.specs.Styles.{styled}
+use Rattle.ecma_styles.specs.Styles.{styled}
 use Rattle.ecma_html.proofs.MarkupLemmas.{item-html, item-within, no_piece}
 use Rattle.ecma_html.proofs.markup.push_pieces.Goals as goal
 

@@ -1,7 +1,7 @@
 -- What was added, and the pieces that are left, are all; they cover what is left of the text.
 use Rattle.std.proofs.Common.{◌≡◌, ◌++◌, drop, length}
 use Rattle.ecma_html.specs.Markup.{pieces_html}
-use Rattle.ecma_html.specs.Styles.{styled}
+use Rattle.ecma_styles.specs.Styles.{styled}
 use Rattle.ecma_html.proofs.MarkupLemmas.{Covers}
 use Rattle.ecma_html.proofs.markup.push_pieces.Given as goal
 

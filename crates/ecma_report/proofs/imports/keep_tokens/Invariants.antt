@@ -1,12 +1,11 @@
--- The reader may read on, and the report is of the same text.
+-- The reader may read on.
 use Rattle.ecma_state.specs.Session.{lexer_state}
 use Rattle.ecma_stream.specs.Ending.{most_tokens}
 use Rattle.ecma_reader.specs.Readers.{IsReady}
-use Rattle.ecma_report.specs.Reports.{Stays}
 use Rattle.ecma_report.proofs.imports.keep_tokens.Given as goal
 
 abbrev pub invariant-tokens : goal.invariant-tokens
-invariant-tokens l = IsReady l.reader × Stays l.initial.report l.report
+invariant-tokens l = IsReady l.reader
 
 abbrev pub decreases-tokens : goal.decreases-tokens
 decreases-tokens l = most_tokens (lexer_state l.reader.lexer)

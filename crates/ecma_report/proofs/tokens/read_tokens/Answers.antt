@@ -14,7 +14,7 @@ tokens-init g c = (
   c.requires.ready,
   (
     stays-same c.args.report.now,
-    λ rule begin ask file bytes shows of face.
+    λ rule begin ask file bytes shows of.
         told-start rule begin (Told ask file bytes (g.W.Write.contents c.args.out.now) (g.W.Write.contents c.args.out.now) c.args.report.now.out.items c.args.report.now.out.items None) c.args.reader.now shows
         (adds-none (g.W.Write.contents c.args.out.now) c.args.report.now.out.items, refl),
   ),
@@ -29,21 +29,21 @@ tokens-preserved g c =
       ok.ready c.if-branch.true,
       (
         stays-on c.args.report.now c.push_slot.new.report c.pass_on.new.self pushed c.in_ok-pass_on.ensures.stays,
-        λ rule begin ask file bytes shows of face.
-            let tells = c.tokens.invariant.1.1 rule begin ask file bytes shows of face in
+        λ rule begin ask file bytes shows of.
+            let tells = c.tokens.invariant.1.1 rule begin ask file bytes shows of in
             let here = stays-of ask file bytes c.args.report.now c.tokens.report stays of in
             told-next rule begin
             (Told ask file bytes (g.W.Write.contents c.args.out.now) (g.W.Write.contents c.tokens.out) c.args.report.now.out.items c.tokens.report.out.items c.tokens.previous)
             (Told ask file bytes (g.W.Write.contents c.args.out.now) (g.W.Write.contents c.pass_on.new.out) c.args.report.now.out.items c.pass_on.new.self.out.items c.in_ok-previous.previous)
             c.tokens.reader c.read_into.new.self found _ tells (ok.reads rule begin tells.tokens tells.shows) c.if-branch.true
             (λ t is told. told-token ask file bytes (g.W.Write.contents c.args.out.now) (g.W.Write.contents c.tokens.out) (g.W.Write.contents c.pass_on.new.out) c.args.report.now.out.items c.tokens.report.out.items c.push_slot.new.report.out.items c.pass_on.new.self.out.items
-            c.tokens.previous c.in_ok-previous.previous found tells.tokens t told is (c.in_ok-previous.ensures.added ask file bytes here face) c.in_ok-previous.ensures.kind c.in_ok-pass_on.ensures.adds),
+            c.tokens.previous c.in_ok-previous.previous found tells.tokens t told is (c.in_ok-previous.ensures.added ask file bytes here) c.in_ok-previous.ensures.kind c.in_ok-pass_on.ensures.adds),
       ),
     )
 
 pub returns-clause-rows : goal.returns-clause-rows
-returns-clause-rows g c = λ rule begin ask file bytes shows of face.
-    let tells = c.tokens.invariant.1.1 rule begin ask file bytes shows of face in
+returns-clause-rows g c = λ rule begin ask file bytes shows of.
+    let tells = c.tokens.invariant.1.1 rule begin ask file bytes shows of in
     let found = option_map spanned_view c.read_into.new.slot in
     (told-end rule begin
     (Told ask file bytes (g.W.Write.contents c.args.out.now) (g.W.Write.contents c.tokens.out) c.args.report.now.out.items c.tokens.report.out.items c.tokens.previous)

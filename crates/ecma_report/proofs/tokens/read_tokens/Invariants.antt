@@ -1,10 +1,10 @@
 -- The rows of the tokens so far were written or are held.
-use Rattle.std.proofs.Common.{◌≡◌, ℕ, List, [], false}
+use Rattle.std.proofs.Common.{◌≡◌, ℕ, List, []}
 use Rattle.ecma_state.specs.Session.{Session, lexer_state}
 use Rattle.ecma_stream.specs.Ending.{most_tokens}
 use Rattle.ecma_slashes.specs.Rereads.{SlashRule}
 use Rattle.ecma_reader.specs.Readers.{IsReady, Shows, Tells}
-use Rattle.ecma_report.specs.Reports.{IsOf, Stays, writes_errors}
+use Rattle.ecma_report.specs.Reports.{IsOf, Stays}
 use Rattle.ecma_report.specs.Rows.{Look}
 use Rattle.ecma_report.proofs.TokenLemmas.{Told}
 use Rattle.ecma_report.proofs.tokens.read_tokens.Given as goal
@@ -13,7 +13,7 @@ abbrev pub invariant-tokens : goal.invariant-tokens
 invariant-tokens g l =
     IsReady l.reader
     × (Stays l.initial.report l.report
-    × ((rule : SlashRule) (begin : Session) (ask : Look) (file bytes : List ℕ) → Shows rule begin [] l.initial.reader → IsOf ask file bytes l.initial.report → writes_errors ask.asked.face ≡ false
+    × ((rule : SlashRule) (begin : Session) (ask : Look) (file bytes : List ℕ) → Shows rule begin [] l.initial.reader → IsOf ask file bytes l.initial.report
     → Tells rule begin (Told ask file bytes (g.W.Write.contents l.initial.out) (g.W.Write.contents l.out) l.initial.report.out.items l.report.out.items l.previous) l.reader))
 
 abbrev pub decreases-tokens : goal.decreases-tokens

@@ -11,11 +11,11 @@ use Rattle.ecma_pieces.proofs.CoveredLemmas.{gathered_may_be_covered}
 use Rattle.ecma_report.proofs.whole.tell_gathered.Goals as goal
 
 pub write_gathered-requires-clause-fits : goal.write_gathered-requires-clause-fits
-write_gathered-requires-clause-fits g c = rw (c.in_ok-tell_recorded.ensures.stays.text ∙ c.in_ok-tell_refused.ensures.text ∙ c.in_ok-tell_unmet.ensures.stays.text) c.requires
+write_gathered-requires-clause-fits g c = rw (c.in_ok-tell_found.ensures.stays.text ∙ c.in_ok-tell_unmet.ensures.stays.text) c.requires
 
 pub write_gathered-requires-clause-plain : goal.write_gathered-requires-clause-plain
 write_gathered-requires-clause-plain g c =
-    let same = c.in_ok-tell_recorded.ensures.stays.text ∙ c.in_ok-tell_refused.ensures.text ∙ c.in_ok-tell_unmet.ensures.stays.text in
+    let same = c.in_ok-tell_found.ensures.stays.text ∙ c.in_ok-tell_unmet.ensures.stays.text in
     let input = begin 0 (chars c.args.report.now.text.now) in
     let rule = rule_of c.slashes_at-slashes.result in
     let settings = c.settings-settings.result in
@@ -26,7 +26,7 @@ write_gathered-requires-clause-plain g c =
 
 pub write_gathered-requires-clause-covered : goal.write_gathered-requires-clause-covered
 write_gathered-requires-clause-covered g c =
-    let same = c.in_ok-tell_recorded.ensures.stays.text ∙ c.in_ok-tell_refused.ensures.text ∙ c.in_ok-tell_unmet.ensures.stays.text in
+    let same = c.in_ok-tell_found.ensures.stays.text ∙ c.in_ok-tell_unmet.ensures.stays.text in
     let gathered = c.in_ok-read.read.gathered in
     subst (λ t. MayBeCovered (begin 0 (chars t)) gathered.kept.items gathered.comments.items) (sym same)
     (gathered_may_be_covered _ (begin 0 (chars c.args.report.now.text.now)) _ gathered gathered.kept.items gathered.comments.items c.in_ok-read.ensures.gathers refl refl)

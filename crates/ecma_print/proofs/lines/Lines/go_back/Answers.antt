@@ -15,10 +15,10 @@ returns-clause-counts c = λ counts.
       | then-place-self w ↦
           let line = w.saturating_sub-self.ensures ∙ lines-back bytes to from c.args.self.now.line w.count-passed.result c.requires.order within counts.line (w.count-passed.ensures ∙ ap length w.memchr_iter.ensures.value) in
           elim w.match-memrchr.branch [
-            | in-Some v ↦ rw (w.self-is, v.self-is) (record { within = inside; line = line; in_line = line-of bytes to (Some v.in-Some.last) inside (subst (IsLastByte (is_byte 10) (take to bytes)) v.in-Some.is w.memrchr.ensures) })
-            | in-None v ↦ rw (w.self-is, v.self-is) (record { within = inside; line = line; in_line = line-of bytes to None inside (subst (IsLastByte (is_byte 10) (take to bytes)) v.in-None.is w.memrchr.ensures) })
+            | in-Some v ↦ rw (w.self-is, v.self-is) (record { units = counts.units; within = inside; line = line; in_line = line-of bytes to (Some v.in-Some.last) inside (subst (IsLastByte (is_byte 10) (take to bytes)) v.in-Some.is w.memrchr.ensures) })
+            | in-None v ↦ rw (w.self-is, v.self-is) (record { units = counts.units; within = inside; line = line; in_line = line-of bytes to None inside (subst (IsLastByte (is_byte 10) (take to bytes)) v.in-None.is w.memrchr.ensures) })
           ]
       | else-place-self w ↦
           let same = same-line bytes c.args.self.now.start from to counts.in_line (omega (arith, w.if-place-self.false)) c.requires.order within in
-          rw w.self-is (record { within = inside; line = counts.line ∙ ap (λ n. n + 1) same.1; in_line = same.0 })
+          rw w.self-is (record { units = counts.units; within = inside; line = counts.line ∙ ap (λ n. n + 1) same.1; in_line = same.0 })
     ]

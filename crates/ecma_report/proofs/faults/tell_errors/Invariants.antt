@@ -1,9 +1,0 @@
--- Where errors are no rows, nothing was added.
-use Rattle.std.proofs.Common.{◌≡◌, [], false}
-use Rattle.ecma_report.specs.Reports.{Adds, Stays, writes_errors}
-use Rattle.ecma_report.proofs.faults.tell_errors.Given as goal
-
-abbrev pub invariant-loop-error : goal.invariant-loop-error
-invariant-loop-error g l =
-    Stays l.initial.report l.report
-    × (writes_errors l.initial.report.asked.face ≡ false → Adds (g.W.Write.contents l.initial.out) (g.W.Write.contents l.out) l.initial.report.out.items l.report.out.items [])

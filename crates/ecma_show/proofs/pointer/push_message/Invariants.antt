@@ -1,0 +1,6 @@
+use Rattle.std.proofs.Common.{◌≡◌, ◌++◌, take}
+use Rattle.ecma_show.specs.Shown.{message_text}
+use Rattle.ecma_show.proofs.pointer.push_message.Given as goal
+
+abbrev pub invariant-loop-byte : goal.invariant-loop-byte
+invariant-loop-byte l = l.out.items ≡ l.fn.out.items ++ message_text (take l.byte-index l.message)

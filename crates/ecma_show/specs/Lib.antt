@@ -1,0 +1,4 @@
+pub mod Colours
+pub mod Painted
+pub mod Shown
+pub mod Unshown

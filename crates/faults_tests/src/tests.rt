@@ -1,0 +1,3 @@
+//! Rows of errors in order of place.
+
+mod order;

@@ -1,0 +1,3 @@
+//! Rows of lines and columns.
+
+mod positions;

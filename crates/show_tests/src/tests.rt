@@ -1,0 +1,3 @@
+//! Rows of texts as a terminal shows them.
+
+mod texts;
