@@ -1,0 +1,3 @@
+pub mod GoOnLemmas
+pub mod PlaceLemmas
+pub mod ScanLemmas

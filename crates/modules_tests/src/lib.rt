@@ -1,0 +1,5 @@
+//! Tests of the imports and exports that tokens tell.
+#![tactic(auto)]
+
+#[cfg(test)]
+mod tests;

@@ -1,0 +1,45 @@
+//! The tokens of a text, and what they import and export.
+use ecma_modules::{Module, ModuleOptions, module_of};
+use ecma_state::Kept;
+use ecma_stream::Tokens;
+use listing::listing::{MODULE, Settings, opened, set_flags};
+use std::alloc::{AllocError, Global};
+
+/// More tokens than any row has.
+const TOKENS: usize = 200;
+
+/// TypeScript, as a module.
+pub const MODULE_TS: Settings = Settings { ts: true, ..MODULE };
+
+fn tokens(alloc: Global, settings: Settings, text: &str) -> Result<Vec<Kept>, AllocError> {
+    let mut lexer = opened(alloc, settings, text)?;
+    set_flags(&mut lexer, settings)?;
+    let mut kept = Vec::new(alloc);
+    'tokens: for number in 0..TOKENS {
+        match lexer.read()? {
+            Some(token) => kept.push(Kept::of(&token))?,
+            None => break,
+        }
+    }
+    Ok(kept)
+}
+
+/// What a text imports and exports.
+pub fn module(alloc: Global, settings: Settings, text: &str) -> Result<Module, AllocError> {
+    let kept = tokens(alloc, settings, text)?;
+    let options = ModuleOptions {
+        typescript: settings.ts,
+        commonjs: false,
+    };
+    module_of(alloc, options, &kept)
+}
+
+/// The same, with rows of `require(..)`.
+pub fn with_require(alloc: Global, text: &str) -> Result<Module, AllocError> {
+    let kept = tokens(alloc, MODULE, text)?;
+    let options = ModuleOptions {
+        typescript: false,
+        commonjs: true,
+    };
+    module_of(alloc, options, &kept)
+}
