@@ -1,4 +1,6 @@
 //! Reads a text from standard input and writes where each of its identifiers is: how a program uses the layer, and no more.
+//!
+//! It is the program of docs/GUIDE.md.
 #![tactic(auto)]
 
 use ecma_lexer::place::{BytePos, StringInput};

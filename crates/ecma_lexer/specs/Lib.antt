@@ -19,6 +19,7 @@ pub use Rattle.ecma_stream.specs.Items
 pub use Rattle.ecma_stream.specs.Plain
 pub use Rattle.ecma_stream.specs.Slashes
 pub use Rattle.ecma_stream.specs.View
+pub use Rattle.ecma_resuming.specs.Resuming
 pub use Rattle.ecma_rewinding.specs.Rewinding
 pub use Rattle.ecma_replay.specs.Replay
 pub use Rattle.ecma_laws.specs.Collecting

@@ -12,6 +12,9 @@ pub use ecma_laws::laws::{
     tokens_are_few, tokens_are_in_order, tokens_run_out, words,
 };
 pub use ecma_pieces::laws::{replays_may_be_covered, runs_may_be_covered};
+pub use ecma_resuming::laws::{
+    rests_are_there, resuming_begins, steps_answer_over_the_rest, steps_go_on_over_the_rest,
+};
 pub use ecma_rewinding::laws::{refusal_is_undone, rewinding_undoes, steps_go_on};
 pub use ecma_slashes::laws::{
     rereads_count_met, runs_by_rule_are_runs, runs_by_rule_end, texts_are_read_out,

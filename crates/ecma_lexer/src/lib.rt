@@ -1,4 +1,8 @@
 //! The lexer layer: the lexer, lists of steps played over a text, and the laws of both.
+//!
+//! Begin with [`tokenize`] for all tokens of a text, [`Reader`] for a loop over them, [`Lexer`] under a parser,
+//! [`replay`] for a list of steps, [`canonical`] for canonical texts, [`classes_of_steps`] for pieces that cover a
+//! text. The calls in `laws` do nothing: their contracts are what holds of every run (docs/GUARANTEES.md).
 #![tactic(auto)]
 
 pub mod laws;
@@ -8,10 +12,11 @@ pub use ecma_classes::{Class, Piece, classes, piece};
 pub use ecma_pieces::classes_of_steps;
 pub use ecma_place as place;
 pub use ecma_positions::{LineStarts, Position};
-pub use ecma_reader::{LexOutput, Outcome, Reader, tokenize};
+pub use ecma_reader::{LexOutput, Outcome, ReadOut, Reader, read_out, tokenize};
 pub use ecma_replay::{
     Answer, Gathered, Replay, answer, gather, gathered, replay, replayed, runner,
 };
+pub use ecma_resuming::{begin_of, resume};
 pub use ecma_scan as scan;
 pub use ecma_slashes::{
     Decider, Slashes, add_steps_by, add_steps_to_end, ascend, count_rereads, read_by, read_by_flag,
@@ -22,6 +27,7 @@ pub use ecma_state::{
     TokenContext, TokenContexts, comments_buffer, error_list, kept, mode, settings, state, step,
     token_context, token_contexts,
 };
+pub use ecma_stored as stored;
 pub use ecma_stream::{
     Checkpoint, CommentList, Counts, Lexer, Tokens, comment_list, hand_comments, lexer, tokens,
 };
