@@ -1,4 +1,7 @@
 //! Comments that a lexer gathers, the tokens that they belong to, and how they are handed over to a store.
+//!
+//! `comments_buffer.rt` has the comments that a lexer gathers, `attachment.rt` the token that each belongs to,
+//! `shared_comments.rt` what copies of a lexer share of them, and `hand_over.rt` how a store is handed them.
 #![tactic(auto)]
 
 pub mod attachment;

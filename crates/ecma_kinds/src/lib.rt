@@ -1,4 +1,7 @@
 //! Kinds of tokens as numbers.
+//!
+//! `number.rt` has the one table of numbers of kinds (`specs/KindNumbers.antt`), and the law that they are told
+//! apart.
 #![tactic(auto)]
 
 pub mod laws;

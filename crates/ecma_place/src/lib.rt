@@ -4,6 +4,12 @@
 //! offset in bytes. [`StringInput`] is a cursor in a text, [`Atom`] a text that is a slice of the
 //! source or owned, [`CharExt`] has the classes of characters of ECMA-262, and [`Comments`] is
 //! what comments are handed to. Only a copy of an owned text allocates.
+//!
+//! Contracts see a text with a start, its characters, and how many of them are before the cursor, never an offset or
+//! UTF-8. The invariant of `StringInput` keeps the offset on a boundary and every place below 2 to the 32nd; the
+//! rules of `proofs/RunLemmas.antt` prove a scanner loop without answers. `Atom` is its bytes and whether it borrows
+//! them. `run_bytes` and the lanes of `chunk` look at 32 and 16 bytes at a time, behind contracts that count one byte
+//! at a time.
 #![tactic(auto)]
 
 pub mod atom;

@@ -1,4 +1,7 @@
 //! Punctuators, and the shebang.
+//!
+//! All punctuators are in one table, in which the first that fits is the longest. `alone.rt` says of a punctuator of
+//! one character, by the byte behind it, that it stands alone; it is proved against that table.
 #![tactic(auto)]
 
 pub mod alone;

@@ -1,4 +1,9 @@
 //! The readers of the lexical grammar: each reads one kind of text from a cursor on, and says what it found.
+//!
+//! It shows the readers of gaps, numbers, escapes, words, strings, templates, regular expressions, punctuators and
+//! shebangs. A reader takes a cursor and the mode of the read, and answers what it found, how far it read, and each
+//! error in order (docs/GRAMMAR.md); `specs/PunctuatorKinds.antt` says which token a kind of punctuator is
+//! (`kind_token`). The laws of several parts are in `proofs/`.
 #![tactic(auto)]
 
 pub use ecma_escape::{eat_plain_kind, eat_plain_word, scan_escape, scan_word, word};

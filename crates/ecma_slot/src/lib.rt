@@ -1,4 +1,6 @@
 //! The slot that a token is read into.
+//!
+//! An arm of the lexer writes its token there at once, so that no token is moved.
 #![tactic(auto)]
 
 pub mod slot;

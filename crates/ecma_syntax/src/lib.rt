@@ -1,4 +1,7 @@
 //! Settings, context flags, words and operators.
+//!
+//! It shows `ecma_settings` and `ecma_word`, with laws. Call [`Syntax`]'s questions to ask what a language has, and
+//! set flags in a [`Context`]; nothing here allocates.
 #![tactic(auto)]
 
 pub mod laws;
