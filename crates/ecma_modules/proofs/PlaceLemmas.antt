@@ -8,13 +8,13 @@ use Rattle.ecma_modules.specs.declared.calls.At.{At}
 use Rattle.ecma_modules.specs.declared.calls.Call.{Call}
 use Rattle.ecma_modules.specs.declared.calls.CallStage.{CallStage}
 use Rattle.ecma_modules.specs.declared.calls.CallStage.TheVariants as stage
-use Rattle.ecma_modules.specs.declared.part.Part.{Part}
-use Rattle.ecma_modules.specs.declared.part.Part.TheVariants as part
-use Rattle.ecma_modules.specs.declared.rows.Export.{Export}
-use Rattle.ecma_modules.specs.declared.rows.Import.{Import}
-use Rattle.ecma_modules.specs.declared.rows.Specifier.{Specifier}
-use Rattle.ecma_modules.specs.declared.stage.Change.{Change}
-use Rattle.ecma_modules.specs.declared.stage.Change.TheVariants as change
+use Rattle.ecma_module_table.specs.declared.part.Part.{Part}
+use Rattle.ecma_module_table.specs.declared.part.Part.TheVariants as part
+use Rattle.ecma_module_table.specs.declared.rows.Export.{Export}
+use Rattle.ecma_module_table.specs.declared.rows.Import.{Import}
+use Rattle.ecma_module_table.specs.declared.rows.Specifier.{Specifier}
+use Rattle.ecma_module_table.specs.declared.stage.Change.{Change}
+use Rattle.ecma_module_table.specs.declared.stage.Change.TheVariants as change
 use Rattle.ecma_modules.specs.declared.statement.Statement.{Statement}
 use Rattle.ecma_modules.specs.Calls.{argument_behind, attributes_behind, behind_comma, behind_part, goes_on, is_among, row, specifier_behind, specifier_of, up_to}
 use Rattle.ecma_modules.specs.Known.{export_told, import_told, statement_behind}

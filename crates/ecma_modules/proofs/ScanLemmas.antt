@@ -6,29 +6,29 @@ use Rattle.ecma_state.specs.declared.kept.Kept.{Kept}
 use Rattle.ecma_modules.specs.declared.calls.At.{At}
 use Rattle.ecma_modules.specs.declared.calls.Call.{Call}
 use Rattle.ecma_modules.specs.declared.known.Known.{Known}
-use Rattle.ecma_modules.specs.declared.rows.Export.{Export}
-use Rattle.ecma_modules.specs.declared.rows.Import.{Import}
-use Rattle.ecma_modules.specs.declared.rows.ImportTold.{ImportTold}
-use Rattle.ecma_modules.specs.declared.rows.ImportTold.TheVariants.{Begun, Row}
-use Rattle.ecma_modules.specs.declared.stage.Change.{Change}
-use Rattle.ecma_modules.specs.declared.stage.Change.TheVariants as change
-use Rattle.ecma_modules.specs.declared.stage.Move.{Move}
-use Rattle.ecma_modules.specs.declared.stage.Move.TheVariants.{To, Again}
-use Rattle.ecma_modules.specs.declared.stage.Seen.{Seen}
-use Rattle.ecma_modules.specs.declared.stage.Stage.{Stage}
-use Rattle.ecma_modules.specs.declared.stage.Stage.TheVariants as stage
-use Rattle.ecma_modules.specs.declared.variables.VariableChange.{VariableChange}
-use Rattle.ecma_modules.specs.declared.variables.VariableChange.TheVariants as variable
-use Rattle.ecma_modules.specs.declared.variables.VariableSeen.{VariableSeen}
-use Rattle.ecma_modules.specs.declared.variables.Variables.{Variables}
+use Rattle.ecma_module_table.specs.declared.rows.Export.{Export}
+use Rattle.ecma_module_table.specs.declared.rows.Import.{Import}
+use Rattle.ecma_module_table.specs.declared.rows.ImportTold.{ImportTold}
+use Rattle.ecma_module_table.specs.declared.rows.ImportTold.TheVariants.{Begun, Row}
+use Rattle.ecma_module_table.specs.declared.stage.Change.{Change}
+use Rattle.ecma_module_table.specs.declared.stage.Change.TheVariants as change
+use Rattle.ecma_module_table.specs.declared.stage.Move.{Move}
+use Rattle.ecma_module_table.specs.declared.stage.Move.TheVariants.{To, Again}
+use Rattle.ecma_module_table.specs.declared.stage.Seen.{Seen}
+use Rattle.ecma_module_table.specs.declared.stage.Stage.{Stage}
+use Rattle.ecma_module_table.specs.declared.stage.Stage.TheVariants as stage
+use Rattle.ecma_module_table.specs.declared.variables.VariableChange.{VariableChange}
+use Rattle.ecma_module_table.specs.declared.variables.VariableChange.TheVariants as variable
+use Rattle.ecma_module_table.specs.declared.variables.VariableSeen.{VariableSeen}
+use Rattle.ecma_module_table.specs.declared.variables.Variables.{Variables}
 use Rattle.ecma_modules.specs.Calls as a_call
 use Rattle.ecma_modules.specs.Calls.{calls_behind, calls_told, ends_with, passed}
 use Rattle.ecma_modules.specs.Known.{at_of, behind, behind_told, call_of, changed, counted, export_told, first_of, import_told, moved, moved_by, opens, seen_by, stepped, stepped_behind, told_by, variable_seen, variables_behind}
 use Rattle.ecma_modules.specs.Modules.{scan_of, scan_over}
 use Rattle.ecma_modules.specs.Places.{ExportLies, ImportToldLies, IsPlaced, Lies, RowsLieInTokens, SpanLies, ToldLies}
 use Rattle.ecma_modules.specs.Scans.{ScanView, calls_after, either, first_scan, scanned, told, told_of_calls}
-use Rattle.ecma_modules.specs.Table.{begun, row}
-use Rattle.ecma_modules.specs.Variables as variables
+use Rattle.ecma_module_table.specs.Table.{begun, row}
+use Rattle.ecma_module_table.specs.Variables as variables
 use Rattle.ecma_modules.proofs.PlaceLemmas.{CallLies, CallsLie, ImportOptionLies, StatementLies, call-further, call-goes-on, call-row, export-lies, import-lies, lies-further, statement-changes, statement-further}
 
 -- what is known of a text behind tokens up to a place, where a statement began up to another

@@ -6,15 +6,15 @@ use Rattle.ecma_modules.specs.declared.calls.At.{At}
 use Rattle.ecma_modules.specs.declared.calls.Call.{Call}
 use Rattle.ecma_modules.specs.declared.calls.CallStage.{CallStage}
 use Rattle.ecma_modules.specs.declared.calls.CallStage.TheVariants as stage
-use Rattle.ecma_modules.specs.declared.part.Part.{Part}
-use Rattle.ecma_modules.specs.declared.part.Part.TheVariants as part
-use Rattle.ecma_modules.specs.declared.rows.Form.TheVariants as form
-use Rattle.ecma_modules.specs.declared.rows.Import.{Import}
-use Rattle.ecma_modules.specs.declared.rows.ImportTold.{ImportTold}
-use Rattle.ecma_modules.specs.declared.rows.ImportTold.TheVariants.{Ended}
-use Rattle.ecma_modules.specs.declared.rows.Phase.{Phase}
-use Rattle.ecma_modules.specs.declared.rows.Specifier.{Specifier}
-use Rattle.ecma_modules.specs.Parts.{closes, more}
+use Rattle.ecma_module_table.specs.declared.part.Part.{Part}
+use Rattle.ecma_module_table.specs.declared.part.Part.TheVariants as part
+use Rattle.ecma_module_table.specs.declared.rows.Form.TheVariants as form
+use Rattle.ecma_module_table.specs.declared.rows.Import.{Import}
+use Rattle.ecma_module_table.specs.declared.rows.ImportTold.{ImportTold}
+use Rattle.ecma_module_table.specs.declared.rows.ImportTold.TheVariants.{Ended}
+use Rattle.ecma_module_table.specs.declared.rows.Phase.{Phase}
+use Rattle.ecma_module_table.specs.declared.rows.Specifier.{Specifier}
+use Rattle.ecma_module_table.specs.Parts.{closes, more}
 
 -- from one place to another
 abbrev pub between : BytePos → BytePos → Span

@@ -6,35 +6,35 @@ use Rattle.ecma_state.specs.declared.kept.Kept.{Kept}
 use Rattle.ecma_modules.specs.declared.calls.At.{At}
 use Rattle.ecma_modules.specs.declared.calls.Call.{Call}
 use Rattle.ecma_modules.specs.declared.known.Known.{Known}
-use Rattle.ecma_modules.specs.declared.part.Part.{Part}
-use Rattle.ecma_modules.specs.declared.part.Part.TheVariants as part
-use Rattle.ecma_modules.specs.declared.part.Word.TheVariants as word
-use Rattle.ecma_modules.specs.declared.rows.Export.{Export}
-use Rattle.ecma_modules.specs.declared.rows.Form.{Form}
-use Rattle.ecma_modules.specs.declared.rows.Form.TheVariants as form
-use Rattle.ecma_modules.specs.declared.rows.Import.{Import}
-use Rattle.ecma_modules.specs.declared.rows.ImportTold.TheVariants.{Row}
-use Rattle.ecma_modules.specs.declared.rows.ModuleOptions.{ModuleOptions}
-use Rattle.ecma_modules.specs.declared.rows.Phase.{Phase}
-use Rattle.ecma_modules.specs.declared.rows.Phase.TheVariants as phase
-use Rattle.ecma_modules.specs.declared.rows.Specifier.{Specifier}
-use Rattle.ecma_modules.specs.declared.rows.Told.{Told}
-use Rattle.ecma_modules.specs.declared.stage.Change.{Change}
-use Rattle.ecma_modules.specs.declared.stage.Change.TheVariants as change
-use Rattle.ecma_modules.specs.declared.stage.Move.{Move}
-use Rattle.ecma_modules.specs.declared.stage.Move.TheVariants.{To, Again}
-use Rattle.ecma_modules.specs.declared.stage.Seen.{Seen}
-use Rattle.ecma_modules.specs.declared.stage.Stage.{Stage}
-use Rattle.ecma_modules.specs.declared.stage.Stage.TheVariants as stage
+use Rattle.ecma_module_table.specs.declared.part.Part.{Part}
+use Rattle.ecma_module_table.specs.declared.part.Part.TheVariants as part
+use Rattle.ecma_module_table.specs.declared.part.Word.TheVariants as word
+use Rattle.ecma_module_table.specs.declared.rows.Export.{Export}
+use Rattle.ecma_module_table.specs.declared.rows.Form.{Form}
+use Rattle.ecma_module_table.specs.declared.rows.Form.TheVariants as form
+use Rattle.ecma_module_table.specs.declared.rows.Import.{Import}
+use Rattle.ecma_module_table.specs.declared.rows.ImportTold.TheVariants.{Row}
+use Rattle.ecma_module_table.specs.declared.rows.ModuleOptions.{ModuleOptions}
+use Rattle.ecma_module_table.specs.declared.rows.Phase.{Phase}
+use Rattle.ecma_module_table.specs.declared.rows.Phase.TheVariants as phase
+use Rattle.ecma_module_table.specs.declared.rows.Specifier.{Specifier}
+use Rattle.ecma_module_table.specs.declared.rows.Told.{Told}
+use Rattle.ecma_module_table.specs.declared.stage.Change.{Change}
+use Rattle.ecma_module_table.specs.declared.stage.Change.TheVariants as change
+use Rattle.ecma_module_table.specs.declared.stage.Move.{Move}
+use Rattle.ecma_module_table.specs.declared.stage.Move.TheVariants.{To, Again}
+use Rattle.ecma_module_table.specs.declared.stage.Seen.{Seen}
+use Rattle.ecma_module_table.specs.declared.stage.Stage.{Stage}
+use Rattle.ecma_module_table.specs.declared.stage.Stage.TheVariants as stage
 use Rattle.ecma_modules.specs.declared.statement.Statement.{Statement}
-use Rattle.ecma_modules.specs.declared.variables.VariableSeen.{VariableSeen}
-use Rattle.ecma_modules.specs.declared.variables.Variables.{Variables}
+use Rattle.ecma_module_table.specs.declared.variables.VariableSeen.{VariableSeen}
+use Rattle.ecma_module_table.specs.declared.variables.Variables.{Variables}
 use Rattle.ecma_modules.specs.Calls as calls
 use Rattle.ecma_modules.specs.Calls.{between}
-use Rattle.ecma_modules.specs.Parts.{ends_operand, more, next_depth, part_of}
+use Rattle.ecma_module_table.specs.Parts.{ends_operand, more, next_depth, part_of}
 use Rattle.ecma_modules.specs.Statements.{export_of, export_type_of, import_of, import_with, meta_of, specified, statement_begun, string_end}
-use Rattle.ecma_modules.specs.Table.{begun, row}
-use Rattle.ecma_modules.specs.Variables as variables
+use Rattle.ecma_module_table.specs.Table.{begun, row}
+use Rattle.ecma_module_table.specs.Variables as variables
 
 -- before the first token of a text
 abbrev pub nowhere : Span

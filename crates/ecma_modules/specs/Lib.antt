@@ -1,11 +1,6 @@
 pub mod Calls
-pub mod Exports
-pub mod Imports
 pub mod Known
 pub mod Modules
-pub mod Parts
 pub mod Places
 pub mod Scans
 pub mod Statements
-pub mod Table
-pub mod Variables

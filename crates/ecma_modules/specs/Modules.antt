@@ -1,11 +1,11 @@
 -- What the tokens of a text import and export
 use Rattle.std.specs.Prelude.{ℕ, zero, suc, ◌++◌, ◌∷◌, Bool, List, [], Option, Some, None, fold, length, nat_lt, slice_set, if◌then◌else◌}
 use Rattle.ecma_state.specs.declared.kept.Kept.{Kept}
-use Rattle.ecma_modules.specs.declared.rows.Export.{Export}
-use Rattle.ecma_modules.specs.declared.rows.Import.{Import}
-use Rattle.ecma_modules.specs.declared.rows.ImportTold.{ImportTold}
-use Rattle.ecma_modules.specs.declared.rows.ImportTold.TheVariants.{Begun, Ended, Row}
-use Rattle.ecma_modules.specs.declared.rows.ModuleOptions.{ModuleOptions}
+use Rattle.ecma_module_table.specs.declared.rows.Export.{Export}
+use Rattle.ecma_module_table.specs.declared.rows.Import.{Import}
+use Rattle.ecma_module_table.specs.declared.rows.ImportTold.{ImportTold}
+use Rattle.ecma_module_table.specs.declared.rows.ImportTold.TheVariants.{Begun, Ended, Row}
+use Rattle.ecma_module_table.specs.declared.rows.ModuleOptions.{ModuleOptions}
 use Rattle.ecma_modules.specs.Scans.{ScanView, call_ended, ended_scan, first_scan, scanned, told, told_at_end, told_of_last}
 
 -- rows behind what is told: one more, or the one in its place

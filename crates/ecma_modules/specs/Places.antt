@@ -2,14 +2,14 @@
 use Rattle.std.specs.Prelude.{ℕ, ◌≤◌, ◌≡◌, ◌++◌, ◌∷◌, List, [], Option, Some, None, ⊤}
 use Rattle.ecma_place.specs.declared.place.Span.{Span}
 use Rattle.ecma_state.specs.declared.kept.Kept.{Kept}
-use Rattle.ecma_modules.specs.declared.rows.Argument.{Argument}
-use Rattle.ecma_modules.specs.declared.rows.Export.{Export}
-use Rattle.ecma_modules.specs.declared.rows.Import.{Import}
-use Rattle.ecma_modules.specs.declared.rows.ImportTold.{ImportTold}
-use Rattle.ecma_modules.specs.declared.rows.ImportTold.TheVariants.{Begun, Ended, Row}
-use Rattle.ecma_modules.specs.declared.rows.ModuleOptions.{ModuleOptions}
-use Rattle.ecma_modules.specs.declared.rows.Specifier.{Specifier}
-use Rattle.ecma_modules.specs.declared.rows.Told.{Told}
+use Rattle.ecma_module_table.specs.declared.rows.Argument.{Argument}
+use Rattle.ecma_module_table.specs.declared.rows.Export.{Export}
+use Rattle.ecma_module_table.specs.declared.rows.Import.{Import}
+use Rattle.ecma_module_table.specs.declared.rows.ImportTold.{ImportTold}
+use Rattle.ecma_module_table.specs.declared.rows.ImportTold.TheVariants.{Begun, Ended, Row}
+use Rattle.ecma_module_table.specs.declared.rows.ModuleOptions.{ModuleOptions}
+use Rattle.ecma_module_table.specs.declared.rows.Specifier.{Specifier}
+use Rattle.ecma_module_table.specs.declared.rows.Told.{Told}
 use Rattle.ecma_modules.specs.Modules.{exports_over, imports_over, scan_of, scan_over}
 use Rattle.ecma_modules.specs.Scans.{ScanView, told}
 

@@ -4,12 +4,12 @@ use Rattle.ecma_state.specs.declared.kept.Kept.{Kept}
 use Rattle.ecma_modules.specs.declared.calls.At.{At}
 use Rattle.ecma_modules.specs.declared.calls.Call.{Call}
 use Rattle.ecma_modules.specs.declared.known.Known.{Known}
-use Rattle.ecma_modules.specs.declared.rows.Export.{Export}
-use Rattle.ecma_modules.specs.declared.rows.Import.{Import}
-use Rattle.ecma_modules.specs.declared.rows.ImportTold.{ImportTold}
-use Rattle.ecma_modules.specs.declared.rows.ImportTold.TheVariants.{Begun, Ended, Row}
-use Rattle.ecma_modules.specs.declared.rows.ModuleOptions.{ModuleOptions}
-use Rattle.ecma_modules.specs.declared.rows.Told.{Told}
+use Rattle.ecma_module_table.specs.declared.rows.Export.{Export}
+use Rattle.ecma_module_table.specs.declared.rows.Import.{Import}
+use Rattle.ecma_module_table.specs.declared.rows.ImportTold.{ImportTold}
+use Rattle.ecma_module_table.specs.declared.rows.ImportTold.TheVariants.{Begun, Ended, Row}
+use Rattle.ecma_module_table.specs.declared.rows.ModuleOptions.{ModuleOptions}
+use Rattle.ecma_module_table.specs.declared.rows.Told.{Told}
 use Rattle.ecma_modules.specs.Calls as calls
 use Rattle.ecma_modules.specs.Calls.{calls_behind, calls_ended, calls_told, row}
 use Rattle.ecma_modules.specs.Known.{at_of, behind, call_of, end_of, last_of, nothing_known, opens, stepped}

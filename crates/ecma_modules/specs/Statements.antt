@@ -3,12 +3,12 @@ use Rattle.std.specs.Prelude.{ℕ, ◌-◌, ◌||◌, Bool, true, false, Option,
 use Rattle.ecma_place.specs.declared.place.BytePos.{BytePos}
 use Rattle.ecma_place.specs.declared.place.Span.{Span}
 use Rattle.ecma_modules.specs.declared.calls.At.{At}
-use Rattle.ecma_modules.specs.declared.rows.Export.{Export}
-use Rattle.ecma_modules.specs.declared.rows.Form.{Form}
-use Rattle.ecma_modules.specs.declared.rows.Form.TheVariants as form
-use Rattle.ecma_modules.specs.declared.rows.Import.{Import}
-use Rattle.ecma_modules.specs.declared.rows.Phase.TheVariants as phase
-use Rattle.ecma_modules.specs.declared.rows.Specifier.{Specifier}
+use Rattle.ecma_module_table.specs.declared.rows.Export.{Export}
+use Rattle.ecma_module_table.specs.declared.rows.Form.{Form}
+use Rattle.ecma_module_table.specs.declared.rows.Form.TheVariants as form
+use Rattle.ecma_module_table.specs.declared.rows.Import.{Import}
+use Rattle.ecma_module_table.specs.declared.rows.Phase.TheVariants as phase
+use Rattle.ecma_module_table.specs.declared.rows.Specifier.{Specifier}
 use Rattle.ecma_modules.specs.declared.statement.Statement.{Statement}
 use Rattle.ecma_modules.specs.Calls.{between}
 

@@ -2,8 +2,8 @@
 ghost use Rattle.std.specs.Prelude.{◌≡◌, ◌∷◌, [], drop, length, IsOk, OnErr, OnOk};
 ghost use Rattle.ecma_modules.specs.Calls as specs;
 
-use crate::part::{Part, more};
-use crate::rows::{Argument, Form, Import, ImportTold, Phase, Specifier};
+use ecma_module_table::part::{Part, more};
+use ecma_module_table::rows::{Argument, Form, Import, ImportTold, Phase, Specifier};
 use ecma_place::{BytePos, Span};
 use std::alloc::{AllocError, Global};
 use std::marker::Model;

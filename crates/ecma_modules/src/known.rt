@@ -1,15 +1,15 @@
 //! What is known of a text behind some of its tokens.
 ghost use Rattle.std.specs.Prelude.{◌≡◌};
 ghost use Rattle.ecma_modules.specs.Known as specs;
-ghost use Rattle.ecma_modules.specs.Parts as parts;
+ghost use Rattle.ecma_module_table.specs.Parts as parts;
 
 use crate::calls::{At, Call};
-use crate::part::{Part, more};
-use crate::rows::{Export, Form, Import, ImportTold, ModuleOptions, Told};
-use crate::stage::{Change, Move, Seen, Stage};
 use crate::statement::Statement;
-use crate::table::{begun, row};
-use crate::variables::{VariableSeen, Variables};
+use ecma_module_table::part::{Part, more};
+use ecma_module_table::rows::{Export, Form, Import, ImportTold, ModuleOptions, Told};
+use ecma_module_table::stage::{Change, Move, Seen, Stage};
+use ecma_module_table::table::{begun, row};
+use ecma_module_table::variables::{VariableSeen, Variables};
 use ecma_place::{BytePos, Span};
 use ecma_state::Kept;
 use ecma_token::TokenKind;

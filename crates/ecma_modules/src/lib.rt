@@ -8,11 +8,10 @@
 //! es-module-lexer tells, and those of TypeScript's forms, of deferred and source phase imports and, where they are asked for,
 //! of `require("x")` besides; destructuring (`export const { a, b: [c] } = d`) tells each name that it binds.
 //!
-//! `specs/` has what is told as a table: for each stage what a token says and changes (`Imports`, `Exports`, `Table`), the same
-//! of exported variables (`Variables`) and of calls that are open (`Calls`), and above them the machine (`Known`, `Scans`) and all
-//! rows of a text (`Modules`). It is proved that code and table agree, that the rows of a text's beginning don't change with
-//! what follows, and that each row lies within the tokens up to the one that tells it, its parts within its statement
-//! (`laws.rt`, `Places`).
+//! `ecma_module_table` has what each token says and changes. `specs/` has the calls that are open (`Calls`), and above them the
+//! machine (`Known`, `Scans`) and all rows of a text (`Modules`). It is proved that code and definitions agree, that the rows of
+//! a text's beginning don't change with what follows, and that each row lies within the tokens up to the one that tells it, its
+//! parts within its statement (`laws.rt`, `Places`).
 //!
 //! Our own choice, as tokens alone are seen: brackets are counted and not told apart; declarations inside a namespace or module
 //! of TypeScript are not told; a method that is named `import` is told as a call, as es-module-lexer does; `defer` and `source`
@@ -21,19 +20,14 @@
 #![tactic(auto)]
 
 mod calls;
-mod exports;
-mod imports;
 mod known;
 pub mod laws;
 mod module;
-mod part;
-mod rows;
 mod scan;
-mod stage;
 mod statement;
-mod table;
-mod variables;
 
+pub use ecma_module_table::rows::{
+    Argument, Export, Form, Import, ImportTold, ModuleOptions, Phase, Specifier, Told,
+};
 pub use module::{Module, module_of};
-pub use rows::{Argument, Export, Form, Import, ImportTold, ModuleOptions, Phase, Specifier, Told};
 pub use scan::Scan;

@@ -3,8 +3,8 @@ ghost use Rattle.std.specs.Prelude.{◌≡◌, [], length, IfOk, OnOk};
 ghost use Rattle.ecma_modules.specs.Modules as modules;
 ghost use Rattle.ecma_modules.specs.Scans as scans;
 
-use crate::rows::{Export, Import, ImportTold, ModuleOptions, Told};
 use crate::scan::Scan;
+use ecma_module_table::rows::{Export, Import, ImportTold, ModuleOptions, Told};
 use ecma_state::Kept;
 use std::alloc::{AllocError, Global};
 

@@ -4,7 +4,7 @@ ghost use Rattle.ecma_modules.specs.Scans as scans;
 
 use crate::calls::{At, Calls};
 use crate::known::Known;
-use crate::rows::{ImportTold, ModuleOptions, Told};
+use ecma_module_table::rows::{ImportTold, ModuleOptions, Told};
 use ecma_state::Kept;
 use std::alloc::{AllocError, Global};
 use std::marker::Model;

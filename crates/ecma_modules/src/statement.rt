@@ -3,7 +3,7 @@ ghost use Rattle.std.specs.Prelude.{◌≡◌, None};
 ghost use Rattle.ecma_modules.specs.Statements as statements;
 
 use crate::calls::At;
-use crate::rows::{Export, Form, Import, Phase, Specifier};
+use ecma_module_table::rows::{Export, Form, Import, Phase, Specifier};
 use ecma_place::{BytePos, Span};
 
 /// What is known of the import or export that is read.

@@ -1,6 +1,6 @@
 //! The table: for each stage its row.
 ghost use Rattle.std.specs.Prelude.{◌≡◌};
-ghost use Rattle.ecma_modules.specs.Table as table;
+ghost use Rattle.ecma_module_table.specs.Table as table;
 
 use crate::part::{Part, Word};
 use crate::rows::Form;
@@ -81,7 +81,7 @@ fn behind_member(part: Part) -> Move
 
 /// What is to be done with a token at a stage.
 #[tactic(auto, unfolding(crate::specs::Table::row))]
-pub(crate) fn row(stage: Stage, seen: Seen, part: Part) -> Move
+pub fn row(stage: Stage, seen: Seen, part: Part) -> Move
     ensures { result ≡ table.row stage seen part }
 {
     match stage {
@@ -162,7 +162,7 @@ fn import_begun(top: bool) -> Stage
 }
 
 /// The stage behind a token that may begin something, and what it changes.
-pub(crate) fn begun(seen: Seen, part: Part) -> (Stage, Change)
+pub fn begun(seen: Seen, part: Part) -> (Stage, Change)
     ensures { result ≡ table.begun seen part }
 {
     let top = seen.depth == 0;

@@ -14,10 +14,10 @@ use Rattle.ecma_word.specs.declared.operator.AssignOp.TheVariants as assigning
 use Rattle.ecma_token.specs.declared.kind.TokenKind.{TokenKind}
 use Rattle.ecma_token.specs.declared.kind.TokenKind.TheVariants as kind
 use Rattle.ecma_token.specs.Questions.{before_expr}
-use Rattle.ecma_modules.specs.declared.part.Part.{Part}
-use Rattle.ecma_modules.specs.declared.part.Part.TheVariants as part
-use Rattle.ecma_modules.specs.declared.part.Word.{Word}
-use Rattle.ecma_modules.specs.declared.part.Word.TheVariants as word
+use Rattle.ecma_module_table.specs.declared.part.Part.{Part}
+use Rattle.ecma_module_table.specs.declared.part.Part.TheVariants as part
+use Rattle.ecma_module_table.specs.declared.part.Word.{Word}
+use Rattle.ecma_module_table.specs.declared.part.Word.TheVariants as word
 
 abbrev pub keyword_of : Keyword → Word
 keyword_of keyword.Import = word.Import

@@ -1,6 +1,6 @@
 //! Rows of exports.
 ghost use Rattle.std.specs.Prelude.{◌≡◌};
-ghost use Rattle.ecma_modules.specs.Exports as rows;
+ghost use Rattle.ecma_module_table.specs.Exports as rows;
 
 use crate::part::{Part, Word};
 use crate::stage::{Change, Move, Stage};

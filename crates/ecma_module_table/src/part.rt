@@ -1,6 +1,6 @@
 //! What a token is to imports and exports.
 ghost use Rattle.std.specs.Prelude.{◌≡◌, ◌-◌};
-ghost use Rattle.ecma_modules.specs.Parts as parts;
+ghost use Rattle.ecma_module_table.specs.Parts as parts;
 
 use ecma_place::Span;
 use ecma_token::TokenKind;
@@ -8,7 +8,7 @@ use ecma_word::{AssignOp, BinOpToken, IdentKind, Keyword, KnownIdent, WordKind};
 
 /// A word; words between which no row tells are one.
 #[derive(Clone, Copy, Debug, PartialEq, Eq)]
-pub(crate) enum Word {
+pub enum Word {
     Import,
     Export,
     Default,
@@ -43,7 +43,7 @@ pub(crate) enum Word {
 
 /// A token, as far as a row asks.
 #[derive(Clone, Copy, Debug, PartialEq, Eq)]
-pub(crate) enum Part {
+pub enum Part {
     Word(Word),
     /// A string.
     Text,
@@ -153,7 +153,7 @@ fn operator_of(operator: BinOpToken) -> Part
 
 impl Part {
     /// What a token of this kind is that lies there.
-    pub(crate) fn of(kind: TokenKind, span: Span) -> Part
+    pub fn of(kind: TokenKind, span: Span) -> Part
         ensures { result ≡ parts.part_of kind span }
     {
         match kind {
@@ -182,14 +182,14 @@ impl Part {
     }
 
     /// Whether it closes brackets.
-    pub(crate) fn closes(self) -> bool
+    pub fn closes(self) -> bool
         ensures { result ≡ parts.closes self }
     {
         matches!(self, Part::EndParen | Part::EndBrace | Part::EndBracket)
     }
 
     /// How many brackets are open behind this, where so many are before it.
-    pub(crate) fn depth_behind(self, depth: usize) -> usize
+    pub fn depth_behind(self, depth: usize) -> usize
         ensures { result ≡ parts.next_depth self depth }
     {
         match self {
@@ -201,7 +201,7 @@ impl Part {
 }
 
 /// One more, up to the greatest number.
-pub(crate) fn more(count: usize) -> usize
+pub fn more(count: usize) -> usize
     ensures { result ≡ parts.more count }
 {
     if count < usize::MAX { count + 1 } else { count }

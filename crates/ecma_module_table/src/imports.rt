@@ -1,6 +1,6 @@
 //! Rows of imports.
 ghost use Rattle.std.specs.Prelude.{◌≡◌};
-ghost use Rattle.ecma_modules.specs.Imports as rows;
+ghost use Rattle.ecma_module_table.specs.Imports as rows;
 
 use crate::part::{Part, Word};
 use crate::rows::{Form, Phase};

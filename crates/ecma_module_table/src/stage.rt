@@ -3,7 +3,7 @@ use crate::rows::{Form, Phase};
 
 /// What the tokens before say of an import or an export.
 #[derive(Clone, Copy, Debug, PartialEq, Eq)]
-pub(crate) enum Stage {
+pub enum Stage {
     Nothing,
     /// Behind `.` or `#`.
     Member,
@@ -117,7 +117,7 @@ pub(crate) enum Stage {
 
 /// What a token changes.
 #[derive(Clone, Copy, Debug, PartialEq, Eq)]
-pub(crate) enum Change {
+pub enum Change {
     Nothing,
     /// The text has other things than imports and exports.
     Other,
@@ -180,7 +180,7 @@ pub(crate) enum Change {
 
 /// What a row says to do.
 #[derive(Clone, Copy, Debug, PartialEq, Eq)]
-pub(crate) enum Move {
+pub enum Move {
     /// A change, and the stage that follows.
     To(Stage, Change),
     /// A change, and then something new may begin with the token.
@@ -189,7 +189,7 @@ pub(crate) enum Move {
 
 /// What is seen beside a token.
 #[derive(Clone, Copy, Debug, PartialEq, Eq)]
-pub(crate) struct Seen {
+pub struct Seen {
     /// How many brackets are open before the token.
     pub depth: usize,
     /// Whether a line terminator comes before the token.

@@ -1,17 +1,17 @@
 -- Names that an exported declaration of variables declares
 use Rattle.std.specs.Prelude.{ℕ, ◌+◌, ◌*◌, ◌%◌, ◌/◌, ◌-◌, Option, Some, None, ◌==◌, ◌&&◌, ◌||◌, Bool, true, false, not, nat_lt, if◌then◌else◌}
-use Rattle.ecma_modules.specs.declared.part.Part.{Part}
-use Rattle.ecma_modules.specs.declared.part.Part.TheVariants as part
-use Rattle.ecma_modules.specs.declared.part.Word.{Word}
-use Rattle.ecma_modules.specs.declared.part.Word.TheVariants as word
+use Rattle.ecma_module_table.specs.declared.part.Part.{Part}
+use Rattle.ecma_module_table.specs.declared.part.Part.TheVariants as part
+use Rattle.ecma_module_table.specs.declared.part.Word.{Word}
+use Rattle.ecma_module_table.specs.declared.part.Word.TheVariants as word
 use Rattle.ecma_place.specs.declared.place.Span.{Span}
-use Rattle.ecma_modules.specs.declared.variables.VariableStage.{VariableStage}
-use Rattle.ecma_modules.specs.declared.variables.VariableStage.TheVariants as stage
-use Rattle.ecma_modules.specs.declared.variables.VariableChange.{VariableChange}
-use Rattle.ecma_modules.specs.declared.variables.VariableChange.TheVariants as change
-use Rattle.ecma_modules.specs.declared.variables.VariableSeen.{VariableSeen}
-use Rattle.ecma_modules.specs.declared.variables.Variables.{Variables}
-use Rattle.ecma_modules.specs.Parts.{closes, more}
+use Rattle.ecma_module_table.specs.declared.variables.VariableStage.{VariableStage}
+use Rattle.ecma_module_table.specs.declared.variables.VariableStage.TheVariants as stage
+use Rattle.ecma_module_table.specs.declared.variables.VariableChange.{VariableChange}
+use Rattle.ecma_module_table.specs.declared.variables.VariableChange.TheVariants as change
+use Rattle.ecma_module_table.specs.declared.variables.VariableSeen.{VariableSeen}
+use Rattle.ecma_module_table.specs.declared.variables.Variables.{Variables}
+use Rattle.ecma_module_table.specs.Parts.{closes, more}
 
 -- the stage behind a token, and what the token changes
 abbrev pub Row : Type 0

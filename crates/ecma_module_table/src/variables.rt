@@ -1,13 +1,13 @@
 //! The names that an exported declaration of variables declares.
 ghost use Rattle.std.specs.Prelude.{◌≡◌};
-ghost use Rattle.ecma_modules.specs.Variables as specs;
+ghost use Rattle.ecma_module_table.specs.Variables as specs;
 
 use crate::part::{Part, Word, more};
 use ecma_place::{BytePos, Span};
 
 /// What the tokens before say of a declaration of variables.
 #[derive(Clone, Copy, Debug, PartialEq, Eq)]
-pub(crate) enum VariableStage {
+pub enum VariableStage {
     /// There is none.
     Off,
     /// A name or a pattern comes.
@@ -71,7 +71,7 @@ use VariableStage as Stage;
 
 /// What is seen beside a token.
 #[derive(Clone, Copy, Debug, PartialEq, Eq)]
-pub(crate) struct VariableSeen {
+pub struct VariableSeen {
     /// How many brackets are open before the token.
     pub depth: usize,
     /// Whether a line terminator comes before the token.
@@ -84,7 +84,7 @@ pub(crate) struct VariableSeen {
 
 /// A declaration of variables.
 #[derive(Clone, Copy, Debug, PartialEq, Eq)]
-pub(crate) struct Variables {
+pub struct Variables {
     stage: Stage,
     /// The last name.
     name: Span,
@@ -401,7 +401,7 @@ fn behind_pattern(depth: usize, braces: u64, part: Part) -> Row
 
 impl Variables {
     /// There is no declaration.
-    pub(crate) fn off() -> Variables
+    pub fn off() -> Variables
         ensures { result ≡ specs.off }
     {
         let nowhere = Span {
@@ -418,7 +418,7 @@ impl Variables {
     }
 
     /// Behind `export var`, `export let` or `export const`.
-    pub(crate) fn begun() -> Variables
+    pub fn begun() -> Variables
         ensures { result ≡ specs.begun }
     {
         Variables {
@@ -493,12 +493,7 @@ impl Variables {
     }
 
     /// Behind one token more, which lies there, and the name that it tells.
-    pub(crate) fn step(
-        self,
-        seen: VariableSeen,
-        part: Part,
-        span: Span,
-    ) -> (Variables, Option<Span>)
+    pub fn step(self, seen: VariableSeen, part: Part, span: Span) -> (Variables, Option<Span>)
         ensures { result ≡ specs.stepped seen part span self }
     {
         let (stage, change) = self.row(seen, part);

@@ -1,0 +1,5 @@
+pub mod Exports
+pub mod Imports
+pub mod Parts
+pub mod Table
+pub mod Variables
