@@ -42,7 +42,7 @@ pub enum VariableStage {
 
 /// What a token changes.
 #[derive(Clone, Copy, Debug, PartialEq, Eq)]
-enum VariableChange {
+pub enum VariableChange {
     Nothing,
     /// The name that stands here may be declared.
     Name,

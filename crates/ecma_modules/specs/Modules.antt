@@ -53,6 +53,21 @@ exports_at_end s rows = exports_behind (told_at_end s).export rows
 abbrev pub scan_of : ModuleOptions → List Kept → ScanView
 scan_of options kept = scan_over (first_scan options) kept
 
+-- what is gathered of tokens
+pub record GatheringView : Type 0 where
+  pub scan : ScanView
+  pub imports : List Import
+  pub exports : List Export
+
+abbrev pub gathering : ScanView → List Import → List Export → GatheringView
+gathering s imports exports = record { scan = s; imports = imports; exports = exports }
+
+abbrev pub gathered_with : GatheringView → Kept → GatheringView
+gathered_with g k = gathering (scanned g.scan k) (imports_behind (told g.scan k).import g.imports) (exports_behind (told g.scan k).export g.exports)
+
+abbrev pub gathered : ModuleOptions → List Kept → GatheringView
+gathered options kept = gathering (scan_of options kept) (imports_over (first_scan options) [] kept) (exports_over (first_scan options) [] kept)
+
 abbrev pub imports_of : ModuleOptions → List Kept → List Import
 imports_of options kept = imports_at_end (scan_of options kept) (imports_over (first_scan options) [] kept)
 

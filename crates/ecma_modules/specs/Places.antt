@@ -10,7 +10,7 @@ use Rattle.ecma_module_table.specs.declared.rows.ImportTold.TheVariants.{Begun, 
 use Rattle.ecma_module_table.specs.declared.rows.ModuleOptions.{ModuleOptions}
 use Rattle.ecma_module_table.specs.declared.rows.Specifier.{Specifier}
 use Rattle.ecma_module_table.specs.declared.rows.Told.{Told}
-use Rattle.ecma_modules.specs.Modules.{exports_over, imports_over, scan_of, scan_over}
+use Rattle.ecma_modules.specs.Modules.{exports_over, gathered, gathered_with, imports_over, scan_of, scan_over}
 use Rattle.ecma_modules.specs.Scans.{ScanView, told}
 
 -- tokens from a place on, each behind the one before it
@@ -64,3 +64,7 @@ ImportsGoOn = (s : ScanView) (rows : List Import) (xs ys : List Kept) → import
 
 abbrev pub ExportsGoOn : Type 0
 ExportsGoOn = (s : ScanView) (rows : List Export) (xs ys : List Kept) → exports_over s rows (xs ++ ys) ≡ exports_over (scan_over s xs) (exports_over s rows xs) ys
+
+-- what is gathered of tokens and one more is what was gathered of these, with that one
+abbrev pub GatheredGoesOn : Type 0
+GatheredGoesOn = (options : ModuleOptions) (ks : List Kept) (k : Kept) → gathered options (ks ++ k ∷ []) ≡ gathered_with (gathered options ks) k

@@ -1,8 +1,8 @@
 //! What a module imports and exports, by its tokens alone: no text is read, and no tree is made.
 //!
-//! [`module_of`] answers all of it for the tokens that were kept of a text. [`Scan`] takes one token after another and tells each
-//! row as soon as it is complete, for who reads a text and keeps no list: `step` for each token, then `end`, then `end_call`
-//! until it tells nothing. A row of [`Import`] has the string that names the module, by its place and by the number of its
+//! [`module_of`] answers all of it for the tokens that were kept of a text. [`Gathering`] takes one token after another, for who
+//! reads a text and keeps no list. [`Scan`] tells each row as soon as it is complete: `step` for each token, then `end`, then
+//! `end_call` until it tells nothing. A row of [`Import`] has the string that names the module, by its place and by the number of its
 //! token, whose value it is; the statement; of a call its first argument; attributes; and which rows of exports are its own.
 //! A row of [`Export`] has the exported name and the name in the module. The rows and their fields are those that
 //! es-module-lexer tells, and those of TypeScript's forms, of deferred and source phase imports and, where they are asked for,
@@ -29,5 +29,5 @@ mod statement;
 pub use ecma_module_table::rows::{
     Argument, Export, Form, Import, ImportTold, ModuleOptions, Phase, Specifier, Told,
 };
-pub use module::{Module, module_of};
+pub use module::{Gathering, Module, module_of};
 pub use scan::Scan;

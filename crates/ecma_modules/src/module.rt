@@ -4,9 +4,10 @@ ghost use Rattle.ecma_modules.specs.Modules as modules;
 ghost use Rattle.ecma_modules.specs.Scans as scans;
 
 use crate::scan::Scan;
-use ecma_module_table::rows::{Export, Import, ImportTold, ModuleOptions, Told};
+use ecma_module_table::rows::{Export, Import, ImportTold, ModuleOptions};
 use ecma_state::Kept;
 use std::alloc::{AllocError, Global};
+use std::marker::Model;
 
 /// What a module imports and exports.
 #[derive(Drop)]
@@ -67,57 +68,77 @@ fn take_calls(imports: &mut Vec<Import>, scan: &mut Scan) -> Result<(), AllocErr
     Ok(())
 }
 
-impl Module {
-    /// Nothing, which does not allocate.
-    fn empty(alloc: Global) -> Module
-        ensures imports { result.imports.items ≡ [] }
-        ensures exports { result.exports.items ≡ [] }
+/// Gathers what the tokens of a text import and export, one after another, for who reads a text and keeps no list of its tokens:
+/// `take` for each token, then `finish`.
+#[derive(Drop)]
+pub struct Gathering {
+    scan: Scan,
+    imports: Vec<Import>,
+    exports: Vec<Export>,
+}
+
+impl Model for Gathering {
+    ghost use Rattle.ecma_modules.specs.Modules.{GatheringView, gathering};
+
+    ghost Value = { GatheringView };
+
+    ghost view = { λ g. gathering g.scan g.imports.items g.exports.items };
+}
+
+impl Gathering {
+    /// Before the first token of a text, which does not allocate.
+    pub fn new(alloc: Global, options: ModuleOptions) -> Gathering
+        ensures { result ≡ modules.gathered options [] }
     {
-        Module {
+        Gathering {
+            scan: Scan::new(alloc, options),
             imports: Vec::new(alloc),
             exports: Vec::new(alloc),
-            is_facade: true,
-            has_module_syntax: false,
         }
     }
 
-    /// Adds what is told.
-    fn take(&mut self, told: Told) -> Result<(), AllocError>
-        ensures imports { OnOk result (self.new.imports.items ≡ modules.imports_behind told.import self.old.imports.items) }
-        ensures exports { OnOk result (self.new.exports.items ≡ modules.exports_behind told.export self.old.exports.items) }
+    /// Takes one token more.
+    ///
+    /// # Errors
+    ///
+    /// `AllocError` where there is no memory for a row or a call that begins. What is then gathered is not said.
+    pub fn take(&mut self, token: &Kept) -> Result<(), AllocError>
+        ensures { OnOk result (self.new ≡ modules.gathered_with self.old token.now) }
     {
+        let told = self.scan.step(token)?;
         take_told(&mut self.imports, told.import)?;
-        take_export(&mut self.exports, told.export)
-    }
-
-    /// Adds what tokens tell.
-    fn take_tokens(&mut self, scan: &mut Scan, kept: &[Kept]) -> Result<(), AllocError>
-        ensures scan { OnOk result (scan.new ≡ modules.scan_over scan.old kept.now) }
-        ensures imports { OnOk result (self.new.imports.items ≡ modules.imports_over scan.old self.old.imports.items kept.now) }
-        ensures exports { OnOk result (self.new.exports.items ≡ modules.exports_over scan.old self.old.exports.items kept.now) }
-    {
-        'tokens: for token in kept {
-            let told = scan.step(token)?;
-            self.take(told)?;
-        }
+        take_export(&mut self.exports, told.export)?;
         Ok(())
     }
 
-    /// Adds what the end of the text tells.
-    fn take_end(&mut self, scan: &mut Scan) -> Result<(), AllocError>
-        ensures imports { OnOk result (self.new.imports.items ≡ modules.imports_at_end scan.old self.old.imports.items) }
-        ensures exports { OnOk result (self.new.exports.items ≡ modules.exports_at_end scan.old self.old.exports.items) }
-        ensures facade { OnOk result (self.new.is_facade ≡ (scans.ended_scan scan.old).known.is_facade) }
-        ensures syntax { OnOk result (self.new.has_module_syntax ≡ (scans.ended_scan scan.old).known.has_module_syntax) }
+    /// What all tokens import and export, behind the last of them.
+    ///
+    /// # Errors
+    ///
+    /// `AllocError` where there is no memory for what the end of the text makes complete.
+    pub fn finish(self) -> Result<Module, AllocError>
+        ensures imports { IfOk result (λ m. m.imports.items ≡ modules.imports_at_end self.scan self.imports) }
+        ensures exports { IfOk result (λ m. m.exports.items ≡ modules.exports_at_end self.scan self.exports) }
+        ensures facade { IfOk result (λ m. m.is_facade ≡ (scans.ended_scan self.scan).known.is_facade) }
+        ensures syntax { IfOk result (λ m. m.has_module_syntax ≡ (scans.ended_scan self.scan).known.has_module_syntax) }
     {
+        let Gathering {
+            mut scan,
+            mut imports,
+            mut exports,
+        } = self;
         let told = scan.end();
         let is_facade = scan.is_facade();
         let has_module_syntax = scan.has_module_syntax();
-        self.take(told)?;
-        take_calls(&mut self.imports, scan)?;
-        self.is_facade = is_facade;
-        self.has_module_syntax = has_module_syntax;
-        Ok(())
+        take_told(&mut imports, told.import)?;
+        take_export(&mut exports, told.export)?;
+        take_calls(&mut imports, &mut scan)?;
+        Ok(Module {
+            imports,
+            exports,
+            is_facade,
+            has_module_syntax,
+        })
     }
 }
 
@@ -132,9 +153,9 @@ pub fn module_of(alloc: Global, options: ModuleOptions, kept: &[Kept]) -> Result
     ensures facade { IfOk result (λ m. m.is_facade ≡ modules.is_facade options kept.now) }
     ensures syntax { IfOk result (λ m. m.has_module_syntax ≡ modules.has_module_syntax options kept.now) }
 {
-    let mut module = Module::empty(alloc);
-    let mut scan = Scan::new(alloc, options);
-    module.take_tokens(&mut scan, kept)?;
-    module.take_end(&mut scan)?;
-    Ok(module)
+    let mut gathering = Gathering::new(alloc, options);
+    'tokens: for token in kept {
+        gathering.take(token)?;
+    }
+    gathering.finish()
 }

@@ -1,14 +1,16 @@
 -- The parts of a row that are written one behind the other are the text of its object.
-use Rattle.std.proofs.Common.{◌≡◌, ◌∙◌, List, ℕ, true, false, ◌++◌, append_assoc, ap, refl}
+use Rattle.std.proofs.Common.{◌≡◌, ◌∙◌, List, ℕ, Bool, true, false, Option, Some, None, ◌++◌, append_assoc, ap, refl}
+use Rattle.std.specs.Borrow.{Bor}
 use Rattle.std.specs.Prelude.{codes, decimal}
 use Rattle.json.specs.Print.{escape_byte, quoted}
 use Rattle.serde_json.specs.Data.{object}
 use Rattle.serde_json.specs.Written.{compact_text}
 use Rattle.ecma_place.specs.declared.place.Span.{Span}
 use Rattle.ecma_positions.specs.declared.position.Position.{Position}
+use Rattle.ecma_print.specs.declared.row.Imported.{Imported}
 use Rattle.ecma_print.specs.declared.row.More.{More}
-use Rattle.ecma_print.specs.declared.row.More.TheVariants.{Nothing, LineBreak, Message, Beside}
-use Rattle.ecma_print.specs.Rows.{line_break_text, members, side_text, text_data, token_text}
+use Rattle.ecma_print.specs.declared.row.More.TheVariants.{Nothing, LineBreak, Message, Beside, Import, Export}
+use Rattle.ecma_print.specs.Rows.{attributes_text, before_text, behind_text, flag_text, import_end_text, line_break_text, members, phase_name, text_data}
 
 -- a piece that was added before others
 pub behind : (before middle after piece rest : List ℕ) → middle ≡ before ++ piece → after ≡ middle ++ rest → after ≡ before ++ (piece ++ rest)
@@ -23,10 +25,67 @@ parts file at span kind text more =
     ++ ((codes ",\"line\":" ++ decimal at.line)
     ++ (line_break_text more
     ++ ((codes ",\"lo\":" ++ decimal span.lo.0)
-    ++ (side_text more
+    ++ (before_text more
     ++ ((codes ",\"text\":" ++ quoted text)
-    ++ (token_text more
+    ++ (behind_text more
     ++ codes "}")))))))))
+
+-- three pieces before others
+pieces-before : (a b c rest : List ℕ) → (a ++ (b ++ c)) ++ rest ≡ a ++ (b ++ (c ++ rest))
+pieces-before a b c rest = append_assoc a (b ++ c) rest ∙ ap (λ l. a ++ l) (append_assoc b c rest)
+
+-- what comes before the text of an import, and what is behind it
+abbrev import_front : List ℕ → Position → Span → List ℕ → List ℕ → List ℕ
+import_front file at span kind rest =
+    (codes "{\"column\":" ++ decimal at.column)
+    ++ ((codes ",\"file\":" ++ quoted file)
+    ++ ((codes ",\"hi\":" ++ decimal span.hi.0)
+    ++ ((codes ",\"kind\":" ++ quoted kind)
+    ++ ((codes ",\"line\":" ++ decimal at.line)
+    ++ ((codes ",\"lo\":" ++ decimal span.lo.0)
+    ++ rest)))))
+
+abbrev import_back : List ℕ → Imported → List ℕ
+import_back text i = (codes ",\"text\":" ++ quoted text) ++ (import_end_text i ++ codes "}")
+
+abbrev imported : Option (Bor (List ℕ)) → Span → Bool → Option Span → Imported
+imported phase statement is_type attributes = record { phase = phase; is_type = is_type; statement = statement; attributes = attributes }
+
+abbrev EndsAs : List ℕ → Position → Span → List ℕ → List ℕ → Imported → Type 0
+EndsAs file at span kind text i =
+    import_front file at span kind
+    ((codes ",\"phase\":" ++ quoted (phase_name i.phase))
+    ++ ((codes ",\"statement_hi\":" ++ decimal i.statement.hi.0)
+    ++ ((codes ",\"statement_lo\":" ++ decimal i.statement.lo.0)
+    ++ import_back text i)))
+    ≡ compact_text (object (members file at span kind text (Import i)))
+
+-- where attributes come behind all else
+abbrev before_attributes : List ℕ → Position → Span → List ℕ → List ℕ → Option (Bor (List ℕ)) → Span → Bool → List ℕ → List ℕ
+before_attributes file at span kind text phase statement is_type rest =
+    import_front file at span kind
+    ((codes ",\"phase\":" ++ quoted (phase_name phase))
+    ++ ((codes ",\"statement_hi\":" ++ decimal statement.hi.0)
+    ++ ((codes ",\"statement_lo\":" ++ decimal statement.lo.0)
+    ++ ((codes ",\"text\":" ++ quoted text)
+    ++ ((codes ",\"type\":" ++ flag_text is_type)
+    ++ rest)))))
+
+attributes-before : (s : Span) → attributes_text (Some s) ++ codes "}" ≡ (codes ",\"with_hi\":" ++ decimal s.hi.0) ++ ((codes ",\"with_lo\":" ++ decimal s.lo.0) ++ codes "}")
+attributes-before s = append_assoc (codes ",\"with_hi\":" ++ decimal s.hi.0) (codes ",\"with_lo\":" ++ decimal s.lo.0) (codes "}")
+
+end-object : (file : List ℕ) (at : Position) (span : Span) (kind text : List ℕ) (phase : Option (Bor (List ℕ))) (statement : Span) (is_type : Bool) (attributes : Option Span) → EndsAs file at span kind text (imported phase statement is_type attributes)
+unfolding escape_byte
+end-object file at span kind text phase statement true None = refl
+end-object file at span kind text phase statement false None = refl
+end-object file at span kind text phase statement true (Some s) = ap (before_attributes file at span kind text phase statement true) (attributes-before s)
+end-object file at span kind text phase statement false (Some s) = ap (before_attributes file at span kind text phase statement false) (attributes-before s)
+
+import-object : (file : List ℕ) (at : Position) (span : Span) (kind text : List ℕ) (i : Imported) → parts file at span kind text (Import i) ≡ compact_text (object (members file at span kind text (Import i)))
+unfolding escape_byte
+import-object file at span kind text i =
+    ap (import_front file at span kind) (pieces-before (codes ",\"phase\":" ++ quoted (phase_name i.phase)) (codes ",\"statement_hi\":" ++ decimal i.statement.hi.0) (codes ",\"statement_lo\":" ++ decimal i.statement.lo.0) (import_back text i))
+    ∙ end-object file at span kind text i.phase i.statement i.is_type i.attributes
 
 pub parts-object : (file : List ℕ) (at : Position) (span : Span) (kind text : List ℕ) (more : More) → parts file at span kind text more ≡ compact_text (object (members file at span kind text more))
 unfolding escape_byte
@@ -35,6 +94,11 @@ parts-object file at span kind text Message = refl
 parts-object file at span kind text (LineBreak true) = refl
 parts-object file at span kind text (LineBreak false) = refl
 parts-object file at span kind text (Beside side token) = refl
+parts-object file at span kind text (Import i) = import-object file at span kind text i
+parts-object file at span kind text (Export (Some local) true) = refl
+parts-object file at span kind text (Export (Some local) false) = refl
+parts-object file at span kind text (Export None true) = refl
+parts-object file at span kind text (Export None false) = refl
 
 -- the same of a whole text
 

@@ -1,12 +1,15 @@
 -- How a row is written: as a JSON object, or as what comes before its text in a line.
 use Rattle.std.specs.Prelude.{ℕ, List, map, if◌then◌else◌, [], ◌∷◌, ◌++◌, ◌==◌, ◌||◌, Bool, true, false, nat_lt, Option, Some, None, codes, decimal}
+use Rattle.std.specs.Borrow.{Bor}
 use Rattle.json.specs.Print.{quoted}
 use Rattle.serde_json.specs.Data.{Data, Members, unsigned, boolean, number, string, object, no_members, member}
+use Rattle.ecma_place.specs.declared.place.BytePos.{BytePos}
 use Rattle.ecma_place.specs.declared.place.Span.{Span}
 use Rattle.ecma_positions.specs.declared.position.Position.{Position}
 use Rattle.ecma_stdio.specs.Escaped.{escaped}
+use Rattle.ecma_print.specs.declared.row.Imported.{Imported}
 use Rattle.ecma_print.specs.declared.row.More.{More}
-use Rattle.ecma_print.specs.declared.row.More.TheVariants.{Nothing, LineBreak, Message, Beside}
+use Rattle.ecma_print.specs.declared.row.More.TheVariants.{Nothing, LineBreak, Message, Beside, Import, Export}
 use Rattle.ecma_print.specs.declared.row.Row.{Row}
 
 abbrev pub needs_escape : ℕ → Bool
@@ -15,22 +18,35 @@ needs_escape byte = nat_lt byte 32 || (byte == 34 || byte == 92)
 -- A row as a JSON object.
 
 abbrev pub with_line_break : More → Members → Members
-with_line_break Nothing behind = behind
-with_line_break Message behind = behind
 with_line_break (LineBreak flag) behind = member (codes "line_break_before") (boolean flag) behind
-with_line_break (Beside side token) behind = behind
+with_line_break _ behind = behind
 
-abbrev pub with_side : More → Members → Members
-with_side Nothing behind = behind
-with_side Message behind = behind
-with_side (LineBreak flag) behind = behind
-with_side (Beside side token) behind = member (codes "side") (string side.now) behind
+-- the phase up to which a module is brought
+abbrev pub phase_name : Option (Bor (List ℕ)) → List ℕ
+phase_name (Some phase) = phase.now
+phase_name None = codes "evaluation"
 
-abbrev pub with_token : More → Members → Members
-with_token Nothing behind = behind
-with_token Message behind = behind
-with_token (LineBreak flag) behind = behind
-with_token (Beside side token) behind = member (codes "token") (number (unsigned token.0)) behind
+abbrev pub with_statement : Imported → Members → Members
+with_statement i behind =
+    member (codes "phase") (string (phase_name i.phase))
+    (member (codes "statement_hi") (number (unsigned i.statement.hi.0))
+    (member (codes "statement_lo") (number (unsigned i.statement.lo.0)) behind))
+
+abbrev pub with_before_text : More → Members → Members
+with_before_text (Beside side token) behind = member (codes "side") (string side.now) behind
+with_before_text (Import i) behind = with_statement i behind
+with_before_text (Export (Some local) is_type) behind = member (codes "local") (string local.now) behind
+with_before_text _ behind = behind
+
+abbrev pub with_attributes : Option Span → Members → Members
+with_attributes (Some span) behind = member (codes "with_hi") (number (unsigned span.hi.0)) (member (codes "with_lo") (number (unsigned span.lo.0)) behind)
+with_attributes None behind = behind
+
+abbrev pub with_behind_text : More → Members → Members
+with_behind_text (Beside side token) behind = member (codes "token") (number (unsigned token.0)) behind
+with_behind_text (Import i) behind = member (codes "type") (boolean i.is_type) (with_attributes i.attributes behind)
+with_behind_text (Export local is_type) behind = member (codes "type") (boolean is_type) behind
+with_behind_text _ behind = behind
 
 -- its members, in the order of their names
 abbrev pub members : List ℕ → Position → Span → List ℕ → List ℕ → More → Members
@@ -42,9 +58,9 @@ members file at span kind text more =
     (member (codes "line") (number (unsigned at.line))
     (with_line_break more
     (member (codes "lo") (number (unsigned span.lo.0))
-    (with_side more
+    (with_before_text more
     (member (codes "text") (string text)
-    (with_token more no_members)))))))))
+    (with_behind_text more no_members)))))))))
 
 abbrev pub row_data : List ℕ → Position → Row → Data
 row_data file at row = object (members file at row.span row.kind.now row.text.now row.more)
@@ -55,24 +71,38 @@ text_data file text = object (member (codes "file") (string file) (member (codes
 
 -- the members that not each row has, as they are written behind others
 
+abbrev pub flag_text : Bool → List ℕ
+flag_text true = codes "true"
+flag_text false = codes "false"
+
 abbrev pub line_break_text : More → List ℕ
-line_break_text Nothing = []
-line_break_text Message = []
-line_break_text (LineBreak true) = codes ",\"line_break_before\":true"
-line_break_text (LineBreak false) = codes ",\"line_break_before\":false"
-line_break_text (Beside side token) = []
+line_break_text (LineBreak flag) = codes ",\"line_break_before\":" ++ flag_text flag
+line_break_text _ = []
 
-abbrev pub side_text : More → List ℕ
-side_text Nothing = []
-side_text Message = []
-side_text (LineBreak flag) = []
-side_text (Beside side token) = codes ",\"side\":" ++ quoted side.now
+abbrev pub statement_text : Imported → List ℕ
+statement_text i =
+    (codes ",\"phase\":" ++ quoted (phase_name i.phase))
+    ++ ((codes ",\"statement_hi\":" ++ decimal i.statement.hi.0)
+    ++ (codes ",\"statement_lo\":" ++ decimal i.statement.lo.0))
 
-abbrev pub token_text : More → List ℕ
-token_text Nothing = []
-token_text Message = []
-token_text (LineBreak flag) = []
-token_text (Beside side token) = codes ",\"token\":" ++ decimal token.0
+abbrev pub before_text : More → List ℕ
+before_text (Beside side token) = codes ",\"side\":" ++ quoted side.now
+before_text (Import i) = statement_text i
+before_text (Export (Some local) is_type) = codes ",\"local\":" ++ quoted local.now
+before_text _ = []
+
+abbrev pub attributes_text : Option Span → List ℕ
+attributes_text (Some span) = (codes ",\"with_hi\":" ++ decimal span.hi.0) ++ (codes ",\"with_lo\":" ++ decimal span.lo.0)
+attributes_text None = []
+
+abbrev pub import_end_text : Imported → List ℕ
+import_end_text i = (codes ",\"type\":" ++ flag_text i.is_type) ++ attributes_text i.attributes
+
+abbrev pub behind_text : More → List ℕ
+behind_text (Beside side token) = codes ",\"token\":" ++ decimal token.0
+behind_text (Import i) = import_end_text i
+behind_text (Export local is_type) = codes ",\"type\":" ++ flag_text is_type
+behind_text _ = []
 
 -- What comes before the text of a row in its line.
 
@@ -80,12 +110,32 @@ abbrev pub position_text : Option Position → List ℕ
 position_text None = []
 position_text (Some at) = 32 ∷ (decimal at.line ++ 58 ∷ decimal at.column)
 
+abbrev pub between : List ℕ → List ℕ
+between text = 32 ∷ (text ++ codes " ")
+
+abbrev pub beside : List ℕ → BytePos → List ℕ
+beside side token = 32 ∷ (side ++ 32 ∷ (decimal token.0 ++ codes " "))
+
+-- types alone, or a phase other than evaluation
+abbrev pub phase_mark : Option (Bor (List ℕ)) → List ℕ
+phase_mark (Some phase) = between phase.now
+phase_mark None = codes " "
+
+abbrev pub mark : Imported → List ℕ
+mark i = if i.is_type then codes " type " else phase_mark i.phase
+
+abbrev pub local_text : Option (Bor (List ℕ)) → List ℕ
+local_text (Some local) = between (escaped local.now)
+local_text None = codes " - "
+
 abbrev pub more_text : More → List ℕ
 more_text Nothing = codes " "
 more_text Message = codes " "
 more_text (LineBreak true) = codes " lf "
 more_text (LineBreak false) = codes " - "
-more_text (Beside side token) = 32 ∷ (side.now ++ 32 ∷ (decimal token.0 ++ codes " "))
+more_text (Beside side token) = beside side.now token
+more_text (Import i) = mark i
+more_text (Export local is_type) = local_text local
 
 -- what it is, its line and column where they are asked for, where it begins and ends, and what else is told
 abbrev pub head_of : Option Position → List ℕ → Span → More → List ℕ
@@ -101,6 +151,4 @@ one_line byte = if byte == 10 || byte == 13 then 32 else byte
 
 abbrev pub own_text : More → List ℕ → List ℕ
 own_text Message own = map one_line own
-own_text Nothing own = escaped own
-own_text (LineBreak flag) own = escaped own
-own_text (Beside side token) own = escaped own
+own_text _ own = escaped own

@@ -2,16 +2,37 @@
 
 use ecma_place::{BytePos, Span};
 
+/// What is reported of an import besides what all rows have.
+#[derive(Clone, Copy, Debug, PartialEq, Eq)]
+pub struct Imported {
+    /// The phase up to which the module is brought, where it is not evaluated at once.
+    pub phase: Option<&'static str>,
+    /// Whether types alone are imported.
+    pub is_type: bool,
+    pub statement: Span,
+    /// The braces of its attributes.
+    pub attributes: Option<Span>,
+}
+
 /// What is reported of a part of a text besides what all rows have.
 #[derive(Clone, Copy, Debug, PartialEq, Eq)]
-pub enum More {
+pub enum More<'r> {
     Nothing,
     /// Of a token: whether a line terminator, or nothing, comes before it.
     LineBreak(bool),
     /// Of an error: its text is a message for people.
     Message,
     /// Of a comment: on which side of its token it is, and the token's place.
-    Beside { side: &'static str, token: BytePos },
+    Beside {
+        side: &'static str,
+        token: BytePos,
+    },
+    Import(Imported),
+    /// Of an export: the name in the module, where it has one, and whether it is of a type.
+    Export {
+        local: Option<&'r str>,
+        is_type: bool,
+    },
 }
 
 /// What is reported of a part of a text.
@@ -19,6 +40,6 @@ pub enum More {
 pub struct Row<'r> {
     pub kind: &'r str,
     pub span: Span,
-    pub more: More,
+    pub more: More<'r>,
     pub text: &'r str,
 }

@@ -5,7 +5,8 @@ ghost use Rattle.json.specs.Print.{escape, escape_byte, quoted};
 ghost use Rattle.serde_json.specs.Written.{compact_text};
 ghost use Rattle.ecma_print.specs.Rows as row_specs;
 
-use crate::row::{More, Row};
+use crate::row::{Imported, More, Row};
+use ecma_place::{BytePos, Span};
 use ecma_positions::Position;
 use ecma_stdio::{push_escaped, push_number};
 use std::alloc::AllocError;
@@ -109,34 +110,94 @@ pub fn push_text_object(out: &mut Vec<u8>, file: &str, bytes: &[u8]) -> Result<(
     Ok(())
 }
 
-/// Adds the member that says whether a line terminator comes before a token.
-fn push_line_break(out: &mut Vec<u8>, more: More) -> Result<(), AllocError>
-    ensures { OnOk result (out.new.items ≡ out.old.items ++ row_specs.line_break_text more) }
+/// Adds a member of a JSON object that is a truth value, behind what comes before it.
+fn push_flag_member(out: &mut Vec<u8>, before: &[u8], flag: bool) -> Result<(), AllocError>
+    ensures { OnOk result (out.new.items ≡ out.old.items ++ (before.now ++ row_specs.flag_text flag)) }
 {
-    match more {
-        More::LineBreak(true) => out.extend_from_slice(b",\"line_break_before\":true"),
-        More::LineBreak(false) => out.extend_from_slice(b",\"line_break_before\":false"),
-        More::Nothing | More::Message | More::Beside { .. } => Ok(()),
+    out.extend_from_slice(before)?;
+    if flag {
+        out.extend_from_slice(b"true")
+    } else {
+        out.extend_from_slice(b"false")
     }
 }
 
-/// Adds the member that says on which side of its token a comment is.
-fn push_side(out: &mut Vec<u8>, more: More) -> Result<(), AllocError>
-    ensures { OnOk result (out.new.items ≡ out.old.items ++ row_specs.side_text more) }
+/// Adds the member that says whether a line terminator comes before a token.
+fn push_line_break(out: &mut Vec<u8>, more: More) -> Result<(), AllocError>
+    ensures { OnOk result (out.new.items ≡ out.old.items ++ row_specs.line_break_text more.entry) }
+{
+    match more {
+        More::LineBreak(flag) => push_flag_member(out, b",\"line_break_before\":", flag),
+        _ => Ok(()),
+    }
+}
+
+/// The name of the phase up to which a module is brought.
+fn phase_name(phase: Option<&'static str>) -> &'static str
+    ensures { result.now ≡ row_specs.phase_name phase.entry }
+{
+    match phase {
+        Some(phase) => phase,
+        None => "evaluation",
+    }
+}
+
+/// Adds the phase up to which a module is brought, and where its statement lies.
+fn push_statement(out: &mut Vec<u8>, import: Imported) -> Result<(), AllocError>
+    ensures { OnOk result (out.new.items ≡ out.old.items ++ row_specs.statement_text import) }
+{
+    let statement = import.statement;
+    push_text_member(out, b",\"phase\":", phase_name(import.phase))?;
+    push_number_member(out, b",\"statement_hi\":", statement.hi.0 as usize)?;
+    push_number_member(out, b",\"statement_lo\":", statement.lo.0 as usize)?;
+    Ok(())
+}
+
+/// Adds the members that not each row has and that stand before its text.
+fn push_before_text(out: &mut Vec<u8>, more: More) -> Result<(), AllocError>
+    ensures { OnOk result (out.new.items ≡ out.old.items ++ row_specs.before_text more.entry) }
 {
     match more {
         More::Beside { side, .. } => push_text_member(out, b",\"side\":", side),
-        More::Nothing | More::Message | More::LineBreak(_) => Ok(()),
+        More::Import(import) => push_statement(out, import),
+        More::Export {
+            local: Some(local),
+            ..
+        } => push_text_member(out, b",\"local\":", local),
+        _ => Ok(()),
     }
 }
 
-/// Adds the member that says where the token of a comment is.
-fn push_token(out: &mut Vec<u8>, more: More) -> Result<(), AllocError>
-    ensures { OnOk result (out.new.items ≡ out.old.items ++ row_specs.token_text more) }
+/// Adds where the attributes of an import lie, where it has any.
+fn push_attributes(out: &mut Vec<u8>, attributes: Option<Span>) -> Result<(), AllocError>
+    ensures { OnOk result (out.new.items ≡ out.old.items ++ row_specs.attributes_text attributes) }
+{
+    let Some(span) = attributes else {
+        return Ok(());
+    };
+    push_number_member(out, b",\"with_hi\":", span.hi.0 as usize)?;
+    push_number_member(out, b",\"with_lo\":", span.lo.0 as usize)?;
+    Ok(())
+}
+
+/// Adds whether types alone are imported, and where the attributes lie.
+fn push_import_end(out: &mut Vec<u8>, import: Imported) -> Result<(), AllocError>
+    ensures { OnOk result (out.new.items ≡ out.old.items ++ row_specs.import_end_text import) }
+{
+    push_flag_member(out, b",\"type\":", import.is_type)?;
+    push_attributes(out, import.attributes)?;
+    Ok(())
+}
+
+/// Adds the members that not each row has and that stand behind its text.
+fn push_behind_text(out: &mut Vec<u8>, more: More) -> Result<(), AllocError>
+    ensures { OnOk result (out.new.items ≡ out.old.items ++ row_specs.behind_text more.entry) }
 {
     match more {
         More::Beside { token, .. } => push_number_member(out, b",\"token\":", token.0 as usize),
-        More::Nothing | More::Message | More::LineBreak(_) => Ok(()),
+        More::Import(import) => push_import_end(out, import),
+        More::Export { is_type, .. } => push_flag_member(out, b",\"type\":", is_type),
+        _ => Ok(()),
     }
 }
 
@@ -160,9 +221,9 @@ pub fn push_object(
     push_number_member(out, b",\"line\":", position.line)?;
     push_line_break(out, row.more)?;
     push_number_member(out, b",\"lo\":", row.span.lo.0 as usize)?;
-    push_side(out, row.more)?;
+    push_before_text(out, row.more)?;
     push_text_member(out, b",\"text\":", row.text)?;
-    push_token(out, row.more)?;
+    push_behind_text(out, row.more)?;
     out.push(b'}')?;
     Ok(())
 }
@@ -186,20 +247,59 @@ fn push_position(out: &mut Vec<u8>, position: Option<Position>) -> Result<(), Al
     push_behind(out, b':', column)
 }
 
+/// Adds a text between two spaces.
+fn push_between(out: &mut Vec<u8>, text: &[u8]) -> Result<(), AllocError>
+    ensures { OnOk result (out.new.items ≡ out.old.items ++ row_specs.between text.now) }
+{
+    out.push(b' ')?;
+    out.extend_from_slice(text)?;
+    Ok(out.push(b' ')?)
+}
+
+/// Adds the side of a comment and the place of its token, between spaces.
+fn push_beside(out: &mut Vec<u8>, side: &str, token: BytePos) -> Result<(), AllocError>
+    ensures { OnOk result (out.new.items ≡ out.old.items ++ row_specs.beside side.now token) }
+{
+    out.push(b' ')?;
+    out.extend_from_slice(side.as_bytes())?;
+    push_behind(out, b' ', token.0 as usize)?;
+    Ok(out.push(b' ')?)
+}
+
+/// Adds that types alone are imported, or a phase other than evaluation, between spaces.
+fn push_mark(out: &mut Vec<u8>, import: Imported) -> Result<(), AllocError>
+    ensures { OnOk result (out.new.items ≡ out.old.items ++ row_specs.mark import) }
+{
+    match import.phase {
+        _ if import.is_type => out.extend_from_slice(b" type "),
+        Some(phase) => push_between(out, phase.as_bytes()),
+        None => Ok(out.push(b' ')?),
+    }
+}
+
+/// Adds the name that an export has in the module, between spaces; a hyphen where it has none.
+fn push_local(out: &mut Vec<u8>, local: Option<&str>) -> Result<(), AllocError>
+    ensures { OnOk result (out.new.items ≡ out.old.items ++ row_specs.local_text local.entry) }
+{
+    let Some(local) = local else {
+        return out.extend_from_slice(b" - ");
+    };
+    out.push(b' ')?;
+    push_escaped(out, local.as_bytes())?;
+    Ok(out.push(b' ')?)
+}
+
 /// Adds what is told of a row besides what all rows have, between spaces.
 fn push_more(out: &mut Vec<u8>, more: More) -> Result<(), AllocError>
-    ensures { OnOk result (out.new.items ≡ out.old.items ++ row_specs.more_text more) }
+    ensures { OnOk result (out.new.items ≡ out.old.items ++ row_specs.more_text more.entry) }
 {
     match more {
         More::Nothing | More::Message => Ok(out.push(b' ')?),
         More::LineBreak(true) => out.extend_from_slice(b" lf "),
         More::LineBreak(false) => out.extend_from_slice(b" - "),
-        More::Beside { side, token } => {
-            out.push(b' ')?;
-            out.extend_from_slice(side.as_bytes())?;
-            push_behind(out, b' ', token.0 as usize)?;
-            Ok(out.push(b' ')?)
-        }
+        More::Beside { side, token } => push_beside(out, side, token),
+        More::Import(import) => push_mark(out, import),
+        More::Export { local, .. } => push_local(out, local),
     }
 }
 

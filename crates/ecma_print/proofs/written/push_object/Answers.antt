@@ -12,7 +12,7 @@ returns c =
     (behind c.push_text_member-2.new.out.items c.push_number_member-3.new.out.items c.push.new.self.items _ _ c.in_ok-push_number_member-3.ensures
     (behind c.push_number_member-3.new.out.items c.push_line_break.new.out.items c.push.new.self.items _ _ c.in_ok-push_line_break.ensures
     (behind c.push_line_break.new.out.items c.push_number_member-4.new.out.items c.push.new.self.items _ _ c.in_ok-push_number_member-4.ensures
-    (behind c.push_number_member-4.new.out.items c.push_side.new.out.items c.push.new.self.items _ _ c.in_ok-push_side.ensures
-    (behind c.push_side.new.out.items c.push_text_member-3.new.out.items c.push.new.self.items _ _ c.in_ok-push_text_member-3.ensures
-    (behind c.push_text_member-3.new.out.items c.push_token.new.out.items c.push.new.self.items _ _ c.in_ok-push_token.ensures c.in_ok-push.ensures.items)))))))))) in
+    (behind c.push_number_member-4.new.out.items c.push_before_text.new.out.items c.push.new.self.items _ _ c.in_ok-push_before_text.ensures
+    (behind c.push_before_text.new.out.items c.push_text_member-3.new.out.items c.push.new.self.items _ _ c.in_ok-push_text_member-3.ensures
+    (behind c.push_text_member-3.new.out.items c.push_behind_text.new.out.items c.push.new.self.items _ _ c.in_ok-push_behind_text.ensures c.in_ok-push.ensures.items)))))))))) in
     added ∙ ap (λ text. c.args.out.now.items ++ text) (parts-object c.args.file.now c.args.position c.args.row.span c.args.row.kind.now c.args.row.text.now c.args.row.more)
