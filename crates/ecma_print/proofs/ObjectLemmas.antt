@@ -1,22 +1,19 @@
 -- The parts of a row that are written one behind the other are the text of its object.
 use Rattle.std.proofs.Common.{◌≡◌, ◌∙◌, List, ℕ, Bool, true, false, Option, Some, None, ◌++◌, append_assoc, ap, refl}
-use Rattle.std.specs.Borrow.{Bor}
 use Rattle.std.specs.Prelude.{codes, decimal}
 use Rattle.json.specs.Print.{escape_byte, quoted}
 use Rattle.serde_json.specs.Data.{object}
 use Rattle.serde_json.specs.Written.{compact_text}
 use Rattle.ecma_place.specs.declared.place.Span.{Span}
 use Rattle.ecma_positions.specs.declared.position.Position.{Position}
-use Rattle.ecma_print.specs.declared.row.Imported.{Imported}
-use Rattle.ecma_print.specs.declared.row.More.{More}
-use Rattle.ecma_print.specs.declared.row.More.TheVariants.{Nothing, LineBreak, Message, Beside, Import, Export}
-use Rattle.ecma_print.specs.Rows.{attributes_text, before_text, behind_text, flag_text, import_end_text, line_break_text, members, phase_name, text_data}
+use Rattle.ecma_print.specs.Rows as row_specs
+use Rattle.ecma_print.specs.Rows.{ImportView, MoreView, attributes_text, before_text, behind_text, flag_text, import_end_text, line_break_text, members, phase_name, text_data}
 
 -- a piece that was added before others
 pub behind : (before middle after piece rest : List ℕ) → middle ≡ before ++ piece → after ≡ middle ++ rest → after ≡ before ++ (piece ++ rest)
 behind before middle after piece rest first others = others ∙ ap (λ front. front ++ rest) first ∙ append_assoc before piece rest
 
-abbrev pub parts : List ℕ → Position → Span → List ℕ → List ℕ → More → List ℕ
+abbrev pub parts : List ℕ → Position → Span → List ℕ → List ℕ → MoreView → List ℕ
 parts file at span kind text more =
     (codes "{\"column\":" ++ decimal at.column)
     ++ ((codes ",\"file\":" ++ quoted file)
@@ -45,23 +42,23 @@ import_front file at span kind rest =
     ++ ((codes ",\"lo\":" ++ decimal span.lo.0)
     ++ rest)))))
 
-abbrev import_back : List ℕ → Imported → List ℕ
+abbrev import_back : List ℕ → ImportView → List ℕ
 import_back text i = (codes ",\"text\":" ++ quoted text) ++ (import_end_text i ++ codes "}")
 
-abbrev imported : Option (Bor (List ℕ)) → Span → Bool → Option Span → Imported
-imported phase statement is_type attributes = record { phase = phase; is_type = is_type; statement = statement; attributes = attributes }
+abbrev import_of : Option (List ℕ) → Span → Bool → Option Span → ImportView
+import_of phase statement is_type attributes = record { phase = phase; is_type = is_type; statement = statement; attributes = attributes }
 
-abbrev EndsAs : List ℕ → Position → Span → List ℕ → List ℕ → Imported → Type 0
+abbrev EndsAs : List ℕ → Position → Span → List ℕ → List ℕ → ImportView → Type 0
 EndsAs file at span kind text i =
     import_front file at span kind
     ((codes ",\"phase\":" ++ quoted (phase_name i.phase))
     ++ ((codes ",\"statement_hi\":" ++ decimal i.statement.hi.0)
     ++ ((codes ",\"statement_lo\":" ++ decimal i.statement.lo.0)
     ++ import_back text i)))
-    ≡ compact_text (object (members file at span kind text (Import i)))
+    ≡ compact_text (object (members file at span kind text (row_specs.imported i)))
 
 -- where attributes come behind all else
-abbrev before_attributes : List ℕ → Position → Span → List ℕ → List ℕ → Option (Bor (List ℕ)) → Span → Bool → List ℕ → List ℕ
+abbrev before_attributes : List ℕ → Position → Span → List ℕ → List ℕ → Option (List ℕ) → Span → Bool → List ℕ → List ℕ
 before_attributes file at span kind text phase statement is_type rest =
     import_front file at span kind
     ((codes ",\"phase\":" ++ quoted (phase_name phase))
@@ -74,31 +71,31 @@ before_attributes file at span kind text phase statement is_type rest =
 attributes-before : (s : Span) → attributes_text (Some s) ++ codes "}" ≡ (codes ",\"with_hi\":" ++ decimal s.hi.0) ++ ((codes ",\"with_lo\":" ++ decimal s.lo.0) ++ codes "}")
 attributes-before s = append_assoc (codes ",\"with_hi\":" ++ decimal s.hi.0) (codes ",\"with_lo\":" ++ decimal s.lo.0) (codes "}")
 
-end-object : (file : List ℕ) (at : Position) (span : Span) (kind text : List ℕ) (phase : Option (Bor (List ℕ))) (statement : Span) (is_type : Bool) (attributes : Option Span) → EndsAs file at span kind text (imported phase statement is_type attributes)
+end-object : (file : List ℕ) (at : Position) (span : Span) (kind text : List ℕ) (phase : Option (List ℕ)) (statement : Span) (is_type : Bool) (attributes : Option Span) → EndsAs file at span kind text (import_of phase statement is_type attributes)
 unfolding escape_byte
 end-object file at span kind text phase statement true None = refl
 end-object file at span kind text phase statement false None = refl
 end-object file at span kind text phase statement true (Some s) = ap (before_attributes file at span kind text phase statement true) (attributes-before s)
 end-object file at span kind text phase statement false (Some s) = ap (before_attributes file at span kind text phase statement false) (attributes-before s)
 
-import-object : (file : List ℕ) (at : Position) (span : Span) (kind text : List ℕ) (i : Imported) → parts file at span kind text (Import i) ≡ compact_text (object (members file at span kind text (Import i)))
+import-object : (file : List ℕ) (at : Position) (span : Span) (kind text : List ℕ) (i : ImportView) → parts file at span kind text (row_specs.imported i) ≡ compact_text (object (members file at span kind text (row_specs.imported i)))
 unfolding escape_byte
 import-object file at span kind text i =
     ap (import_front file at span kind) (pieces-before (codes ",\"phase\":" ++ quoted (phase_name i.phase)) (codes ",\"statement_hi\":" ++ decimal i.statement.hi.0) (codes ",\"statement_lo\":" ++ decimal i.statement.lo.0) (import_back text i))
     ∙ end-object file at span kind text i.phase i.statement i.is_type i.attributes
 
-pub parts-object : (file : List ℕ) (at : Position) (span : Span) (kind text : List ℕ) (more : More) → parts file at span kind text more ≡ compact_text (object (members file at span kind text more))
+pub parts-object : (file : List ℕ) (at : Position) (span : Span) (kind text : List ℕ) (more : MoreView) → parts file at span kind text more ≡ compact_text (object (members file at span kind text more))
 unfolding escape_byte
-parts-object file at span kind text Nothing = refl
-parts-object file at span kind text Message = refl
-parts-object file at span kind text (LineBreak true) = refl
-parts-object file at span kind text (LineBreak false) = refl
-parts-object file at span kind text (Beside side token) = refl
-parts-object file at span kind text (Import i) = import-object file at span kind text i
-parts-object file at span kind text (Export (Some local) true) = refl
-parts-object file at span kind text (Export (Some local) false) = refl
-parts-object file at span kind text (Export None true) = refl
-parts-object file at span kind text (Export None false) = refl
+parts-object file at span kind text row_specs.nothing = refl
+parts-object file at span kind text row_specs.message = refl
+parts-object file at span kind text (row_specs.line_break true) = refl
+parts-object file at span kind text (row_specs.line_break false) = refl
+parts-object file at span kind text (row_specs.beside_token side token) = refl
+parts-object file at span kind text (row_specs.imported i) = import-object file at span kind text i
+parts-object file at span kind text (row_specs.exported (Some local) true) = refl
+parts-object file at span kind text (row_specs.exported (Some local) false) = refl
+parts-object file at span kind text (row_specs.exported None true) = refl
+parts-object file at span kind text (row_specs.exported None false) = refl
 
 -- the same of a whole text
 

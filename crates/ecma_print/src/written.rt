@@ -124,7 +124,7 @@ fn push_flag_member(out: &mut Vec<u8>, before: &[u8], flag: bool) -> Result<(), 
 
 /// Adds the member that says whether a line terminator comes before a token.
 fn push_line_break(out: &mut Vec<u8>, more: More) -> Result<(), AllocError>
-    ensures { OnOk result (out.new.items ≡ out.old.items ++ row_specs.line_break_text more.entry) }
+    ensures { OnOk result (out.new.items ≡ out.old.items ++ row_specs.line_break_text (row_specs.more_view more.entry)) }
 {
     match more {
         More::LineBreak(flag) => push_flag_member(out, b",\"line_break_before\":", flag),
@@ -134,7 +134,7 @@ fn push_line_break(out: &mut Vec<u8>, more: More) -> Result<(), AllocError>
 
 /// The name of the phase up to which a module is brought.
 fn phase_name(phase: Option<&'static str>) -> &'static str
-    ensures { result.now ≡ row_specs.phase_name phase.entry }
+    ensures { result.now ≡ row_specs.phase_name (row_specs.text_behind phase.entry) }
 {
     match phase {
         Some(phase) => phase,
@@ -144,7 +144,7 @@ fn phase_name(phase: Option<&'static str>) -> &'static str
 
 /// Adds the phase up to which a module is brought, and where its statement lies.
 fn push_statement(out: &mut Vec<u8>, import: Imported) -> Result<(), AllocError>
-    ensures { OnOk result (out.new.items ≡ out.old.items ++ row_specs.statement_text import) }
+    ensures { OnOk result (out.new.items ≡ out.old.items ++ row_specs.statement_text (row_specs.import_view import)) }
 {
     let statement = import.statement;
     push_text_member(out, b",\"phase\":", phase_name(import.phase))?;
@@ -155,7 +155,7 @@ fn push_statement(out: &mut Vec<u8>, import: Imported) -> Result<(), AllocError>
 
 /// Adds the members that not each row has and that stand before its text.
 fn push_before_text(out: &mut Vec<u8>, more: More) -> Result<(), AllocError>
-    ensures { OnOk result (out.new.items ≡ out.old.items ++ row_specs.before_text more.entry) }
+    ensures { OnOk result (out.new.items ≡ out.old.items ++ row_specs.before_text (row_specs.more_view more.entry)) }
 {
     match more {
         More::Beside { side, .. } => push_text_member(out, b",\"side\":", side),
@@ -182,7 +182,7 @@ fn push_attributes(out: &mut Vec<u8>, attributes: Option<Span>) -> Result<(), Al
 
 /// Adds whether types alone are imported, and where the attributes lie.
 fn push_import_end(out: &mut Vec<u8>, import: Imported) -> Result<(), AllocError>
-    ensures { OnOk result (out.new.items ≡ out.old.items ++ row_specs.import_end_text import) }
+    ensures { OnOk result (out.new.items ≡ out.old.items ++ row_specs.import_end_text (row_specs.import_view import)) }
 {
     push_flag_member(out, b",\"type\":", import.is_type)?;
     push_attributes(out, import.attributes)?;
@@ -191,7 +191,7 @@ fn push_import_end(out: &mut Vec<u8>, import: Imported) -> Result<(), AllocError
 
 /// Adds the members that not each row has and that stand behind its text.
 fn push_behind_text(out: &mut Vec<u8>, more: More) -> Result<(), AllocError>
-    ensures { OnOk result (out.new.items ≡ out.old.items ++ row_specs.behind_text more.entry) }
+    ensures { OnOk result (out.new.items ≡ out.old.items ++ row_specs.behind_text (row_specs.more_view more.entry)) }
 {
     match more {
         More::Beside { token, .. } => push_number_member(out, b",\"token\":", token.0 as usize),
@@ -268,7 +268,7 @@ fn push_beside(out: &mut Vec<u8>, side: &str, token: BytePos) -> Result<(), Allo
 
 /// Adds that types alone are imported, or a phase other than evaluation, between spaces.
 fn push_mark(out: &mut Vec<u8>, import: Imported) -> Result<(), AllocError>
-    ensures { OnOk result (out.new.items ≡ out.old.items ++ row_specs.mark import) }
+    ensures { OnOk result (out.new.items ≡ out.old.items ++ row_specs.mark (row_specs.import_view import)) }
 {
     match import.phase {
         _ if import.is_type => out.extend_from_slice(b" type "),
@@ -279,7 +279,7 @@ fn push_mark(out: &mut Vec<u8>, import: Imported) -> Result<(), AllocError>
 
 /// Adds the name that an export has in the module, between spaces; a hyphen where it has none.
 fn push_local(out: &mut Vec<u8>, local: Option<&str>) -> Result<(), AllocError>
-    ensures { OnOk result (out.new.items ≡ out.old.items ++ row_specs.local_text local.entry) }
+    ensures { OnOk result (out.new.items ≡ out.old.items ++ row_specs.local_text (row_specs.text_behind local.entry)) }
 {
     let Some(local) = local else {
         return out.extend_from_slice(b" - ");
@@ -291,7 +291,7 @@ fn push_local(out: &mut Vec<u8>, local: Option<&str>) -> Result<(), AllocError>
 
 /// Adds what is told of a row besides what all rows have, between spaces.
 fn push_more(out: &mut Vec<u8>, more: More) -> Result<(), AllocError>
-    ensures { OnOk result (out.new.items ≡ out.old.items ++ row_specs.more_text more.entry) }
+    ensures { OnOk result (out.new.items ≡ out.old.items ++ row_specs.more_text (row_specs.more_view more.entry)) }
 {
     match more {
         More::Nothing | More::Message => Ok(out.push(b' ')?),
@@ -349,7 +349,7 @@ pub fn push_message(out: &mut Vec<u8>, message: &[u8]) -> Result<(), AllocError>
 ///
 /// `AllocError` where there is no memory; a part of it may have been added then.
 pub fn push_own_text(out: &mut Vec<u8>, row: Row) -> Result<(), AllocError>
-    ensures { OnOk result (out.new.items ≡ out.old.items ++ row_specs.own_text row.entry.more row.entry.text.now) }
+    ensures { OnOk result (out.new.items ≡ out.old.items ++ row_specs.own_text (row_specs.more_view row.entry.more) row.entry.text.now) }
 {
     match row.more {
         More::Message => push_message(out, row.text.as_bytes()),

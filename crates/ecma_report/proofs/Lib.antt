@@ -1,2 +1,3 @@
+pub mod ModuleLemmas
 pub mod ReportLemmas
 pub mod TokenLemmas

@@ -7,8 +7,7 @@ use Rattle.ecma_place.specs.declared.place.Span.{Span}
 use Rattle.ecma_stdio.specs.Escaped.{escaped}
 use Rattle.ecma_positions.specs.Columns.{position_by}
 use Rattle.ecma_positions.specs.declared.position.Position.{Position}
-use Rattle.ecma_print.specs.Rows.{head_of, members, own_text}
-use Rattle.ecma_print.specs.declared.row.More.{More}
+use Rattle.ecma_print.specs.Rows.{MoreView, head_of, members, more_view, own_text}
 use Rattle.ecma_print.specs.declared.row.Row.{Row}
 use Rattle.ecma_report.specs.declared.words.Asked.{Asked}
 
@@ -29,23 +28,23 @@ abbrev pub place_asked : Asked → List ℕ → BytePos → Option Position
 place_asked asked text place = if asked.lines then Some (position_by asked.columns text place) else None
 
 -- a line: the name of the file, of what kind it is, where it lies, what else is told, and its text
-abbrev pub line_text : Look → List ℕ → List ℕ → List ℕ → Span → More → List ℕ → List ℕ
+abbrev pub line_text : Look → List ℕ → List ℕ → List ℕ → Span → MoreView → List ℕ → List ℕ
 line_text l file text kind span more own = name_asked l file ++ (head_of (place_asked l.asked text span.lo) kind span more ++ own_text more own)
 
 -- an object, or a line
-abbrev pub parts_of : Look → List ℕ → List ℕ → List ℕ → Span → More → List ℕ → List ℕ
+abbrev pub parts_of : Look → List ℕ → List ℕ → List ℕ → Span → MoreView → List ℕ → List ℕ
 parts_of l file text kind span more own =
     if l.asked.json then compact_text (object (members file (position_by l.asked.columns text span.lo) span kind own more)) else line_text l file text kind span more own
 
 -- with the end of its line
-abbrev pub row_of : Look → List ℕ → List ℕ → List ℕ → Span → More → List ℕ → List ℕ
+abbrev pub row_of : Look → List ℕ → List ℕ → List ℕ → Span → MoreView → List ℕ → List ℕ
 row_of l file text kind span more own = parts_of l file text kind span more own ++ 10 ∷ []
 
 abbrev pub row_parts : Look → List ℕ → List ℕ → Row → List ℕ
-row_parts l file text row = parts_of l file text row.kind.now row.span row.more row.text.now
+row_parts l file text row = parts_of l file text row.kind.now row.span (more_view row.more) row.text.now
 
 abbrev pub row_text : Look → List ℕ → List ℕ → Row → List ℕ
-row_text l file text row = row_of l file text row.kind.now row.span row.more row.text.now
+row_text l file text row = row_of l file text row.kind.now row.span (more_view row.more) row.text.now
 
 -- The text at a span, where it begins and ends with characters
 

@@ -7,8 +7,8 @@ use Rattle.ecma_state.specs.declared.kept.Kept.{Kept}
 use Rattle.ecma_options.specs.Begin.{begin}
 use Rattle.ecma_styles.specs.Styles.{class_name, class_of}
 use Rattle.ecma_styles.specs.declared.«class».Class.{Class}
+use Rattle.ecma_print.specs.Rows.{line_break}
 use Rattle.ecma_report.specs.Rows.{Look, part_at, row_of}
-use Rattle.ecma_print.specs.declared.row.More.TheVariants.{LineBreak}
 use Rattle.ecma_report.specs.declared.words.Asked.{Asked}
 
 -- the class of a token, or that it is a punctuator
@@ -21,7 +21,7 @@ abbrev pub kind_name : TokenKind → Option TokenKind → List ℕ
 kind_name kind previous = name_of (class_of kind previous)
 
 abbrev pub token_row : Look → List ℕ → List ℕ → Option TokenKind → Kept → List ℕ
-token_row l file text previous k = row_of l file text (kind_name k.kind previous) k.span (LineBreak k.flag) (part_at text k.span)
+token_row l file text previous k = row_of l file text (kind_name k.kind previous) k.span (line_break k.flag) (part_at text k.span)
 
 -- the rows of tokens, one behind the other
 abbrev pub token_rows : Look → List ℕ → List ℕ → Option TokenKind → List SpannedView → List ℕ

@@ -4,7 +4,7 @@ ghost use Rattle.std.specs.Io.KnownBytes.{Appends};
 ghost use Rattle.ecma_positions.specs.Columns.{position_by};
 ghost use Rattle.ecma_print.specs.Lines.{Counts};
 ghost use Rattle.ecma_report.specs.Reports.{Adds, IsOf, Stays, look_of};
-ghost use Rattle.ecma_print.specs.Rows.{head, own_text};
+ghost use Rattle.ecma_print.specs.Rows.{head, more_view, own_text};
 ghost use Rattle.ecma_report.specs.Rows.{line_text, look, name_asked, part_at, place_asked, row_parts, row_text};
 
 use crate::words::{Among, Asked};
@@ -180,7 +180,7 @@ impl<'a> Report<'a> {
 
     /// Adds what a line has behind the name of its file, but not its end.
     fn push_content(&mut self, position: Option<Position>, row: Row) -> Result<(), AllocError>
-        ensures added { OnOk result (self.new.out.items ≡ self.old.out.items ++ (head position row.entry ++ own_text row.entry.more row.entry.text.now)) }
+        ensures added { OnOk result (self.new.out.items ≡ self.old.out.items ++ (head position row.entry ++ own_text (more_view row.entry.more) row.entry.text.now)) }
         ensures stays { Stays self.old self.new }
     {
         push_head(&mut self.out, position, row)?;
@@ -190,7 +190,7 @@ impl<'a> Report<'a> {
     /// Adds a line, but not its end.
     fn push_line(&mut self, row: Row) -> Result<(), AllocError>
         ensures added { Counts self.old.text.now self.old.lines
-            → OnOk result (self.new.out.items ≡ self.old.out.items ++ line_text (look_of self.old) self.old.name.now self.old.text.now row.entry.kind.now row.entry.span row.entry.more row.entry.text.now) }
+            → OnOk result (self.new.out.items ≡ self.old.out.items ++ line_text (look_of self.old) self.old.name.now self.old.text.now row.entry.kind.now row.entry.span (more_view row.entry.more) row.entry.text.now) }
         ensures stays { Stays self.old self.new }
     {
         let position = self.position_asked(row.span.lo);

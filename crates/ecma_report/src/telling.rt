@@ -2,6 +2,8 @@
 ghost use Rattle.std.specs.Prelude.{◌≡◌, ◌++◌, ◌<◌, ◌^◌, List, None, length, ℕ, OnOk};
 ghost use Rattle.std.specs.Io.KnownBytes.{Appends};
 ghost use Rattle.ecma_reader.specs.Readers.{tokens_by};
+ghost use Rattle.ecma_modules.specs.Modules.{exports_of, imports_of};
+ghost use Rattle.ecma_report.specs.Modules.{export_rows, import_rows, kept_by, module_options};
 ghost use Rattle.ecma_report.specs.Reports.{Adds, IsOf};
 ghost use Rattle.ecma_report.specs.Slashes.{rule_at};
 ghost use Rattle.ecma_report.specs.Tokens.{begun, token_rows};
@@ -10,7 +12,7 @@ ghost use Rattle.ecma_report.specs.declared.words.Face.TheVariants as face;
 
 use crate::comments::write_comments;
 use crate::faults::write_errors;
-use crate::imports::write_imports;
+use crate::imports::{write_exports, write_imports};
 use crate::report::{Report, Stop};
 use crate::tokens::write_tokens;
 use crate::whole::tell_gathered;
@@ -24,14 +26,19 @@ fn write_face<'a, W: Write>(
     out: &mut W,
 ) -> Result<(), Stop>
     requires { length report.old.text.now < 2 ^ 32 }
-    ensures { (look : Look) (name text : List ℕ) → IsOf look name text report.old → look.asked.face ≡ face.Tokens
+    ensures tokens { (look : Look) (name text : List ℕ) → IsOf look name text report.old → look.asked.face ≡ face.Tokens
         → OnOk result (Adds (W.contents out.old) (W.contents out.new) report.old.out.items report.new.out.items (token_rows look name text None (tokens_by (rule_at named.entry) (begun look.asked text)))) }
+    ensures imports { (look : Look) (name text : List ℕ) → IsOf look name text report.old → look.asked.face ≡ face.Imports
+        → OnOk result (Adds (W.contents out.old) (W.contents out.new) report.old.out.items report.new.out.items (import_rows look name text (imports_of (module_options look.asked) (kept_by named.entry look text)))) }
+    ensures exports { (look : Look) (name text : List ℕ) → IsOf look name text report.old → look.asked.face ≡ face.Exports
+        → OnOk result (Adds (W.contents out.old) (W.contents out.new) report.old.out.items report.new.out.items (export_rows look name text (exports_of (module_options look.asked) (kept_by named.entry look text)))) }
 {
     match report.asked.face {
         Face::Tokens => write_tokens(report, named, out),
         Face::Comments => write_comments(report, named, out),
         Face::Errors => write_errors(report, named, out),
         Face::Imports => write_imports(report, named, out),
+        Face::Exports => write_exports(report, named, out),
         Face::Canonical | Face::Classes | Face::Html | Face::Show => {
             tell_gathered(report, named, out)
         }
@@ -57,6 +64,11 @@ pub fn tell<'a, W: Write>(
     // Where tokens are asked for, and all was written, it is the row of each token of the text, in order.
     ensures tokens { (look : Look) (name text : List ℕ) → IsOf look name text report.old → look.asked.face ≡ face.Tokens
         → OnOk result (Appends (W.contents out.old) (W.contents out.new) (report.old.out.items ++ token_rows look name text None (tokens_by (rule_at named.entry) (begun look.asked text)))) }
+    // Where imports or exports are asked for, it is the row of each, in the order in which they begin.
+    ensures imports { (look : Look) (name text : List ℕ) → IsOf look name text report.old → look.asked.face ≡ face.Imports
+        → OnOk result (Appends (W.contents out.old) (W.contents out.new) (report.old.out.items ++ import_rows look name text (imports_of (module_options look.asked) (kept_by named.entry look text)))) }
+    ensures exports { (look : Look) (name text : List ℕ) → IsOf look name text report.old → look.asked.face ≡ face.Exports
+        → OnOk result (Appends (W.contents out.old) (W.contents out.new) (report.old.out.items ++ export_rows look name text (exports_of (module_options look.asked) (kept_by named.entry look text)))) }
 {
     write_face(report, named, out)?;
     report.flush(out)?;

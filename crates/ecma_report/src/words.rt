@@ -17,11 +17,12 @@ pub enum Face {
     Html,
     Show,
     Imports,
+    Exports,
 }
 
 impl Face {
     /// Each, in the order in which help names them.
-    const ALL: [Face; 8] = [
+    const ALL: [Face; 9] = [
         Face::Tokens,
         Face::Comments,
         Face::Errors,
@@ -30,6 +31,7 @@ impl Face {
         Face::Html,
         Face::Show,
         Face::Imports,
+        Face::Exports,
     ];
 
     /// The subcommand that asks for it.
@@ -43,6 +45,7 @@ impl Face {
             Face::Html => "html",
             Face::Show => "show",
             Face::Imports => "imports",
+            Face::Exports => "exports",
         }
     }
 
@@ -57,7 +60,9 @@ impl Face {
             Face::Classes => "A line for each piece of the text: token, comment or trivia",
             Face::Html => "The text as HTML, with a span for each class",
             Face::Show => "The text with line numbers and colours, and errors below their lines",
-            Face::Imports => "A line for each string that names a module which is imported",
+            Face::Imports => "A line for each import: how the module is named, where, and its name",
+            Face::Exports =>
+                "A line for each name that a module exports, with its name in the module",
         }
     }
 
@@ -71,6 +76,7 @@ impl Face {
             "html" => Face::Html,
             "show" => Face::Show,
             "imports" => Face::Imports,
+            "exports" => Face::Exports,
             _ => Face::Tokens,
         }
     }
@@ -99,6 +105,8 @@ pub struct Asked {
     pub columns: Columns,
     /// Whether a text is shown in colours.
     pub colours: bool,
+    /// Whether imports have a row for each `require("x")` of CommonJS.
+    pub commonjs: bool,
 }
 
 impl Asked {
@@ -121,6 +129,7 @@ impl Asked {
                 Some("never") => false,
                 _ => colours,
             },
+            commonjs: matches.get_flag("commonjs"),
         }
     }
 
@@ -193,6 +202,10 @@ const FLAGS: &[(&str, &str)] = &[
     (
         "as-is",
         "Read files ending in .jsx and .tsx too, as JavaScript and TypeScript: JSX is misread",
+    ),
+    (
+        "commonjs",
+        "With imports, write a line for each require(\"x\") of CommonJS too",
     ),
     ("json", "Write one JSON object a line"),
     ("lines", "Write line:column beside byte places"),

@@ -61,6 +61,7 @@ fn report_tokens(
         lines: true,
         columns: Columns::Bytes,
         colours: false,
+        commonjs: false,
     };
     let start = BytePos(0);
     let settings = options.settings(true);

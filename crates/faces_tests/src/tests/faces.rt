@@ -263,14 +263,35 @@ const IMPORTS: &[Told] = &[
         "imports --lines",
         "import a from 'b'\nexport * from \"c\"; import('d')",
         false,
-        "static 1:15 14 17 'b'\nstatic 2:15 32 35 \"c\"\ndynamic 2:27 44 47 'd'\n",
+        "static 1:15 14 17 'b'\nreexport 2:15 32 35 \"c\"\ndynamic 2:27 44 47 'd'\n",
         "",
     ),
     (
         "imports --json",
-        "import a from 'b'\nexport * from \"c\"; import('d')",
+        "import a from 'b' with {}\nexport * from \"c\"",
         false,
-        "{\"column\":15,\"file\":\"a.js\",\"hi\":17,\"kind\":\"static\",\"line\":1,\"lo\":14,\"text\":\"'b'\"}\n{\"column\":15,\"file\":\"a.js\",\"hi\":35,\"kind\":\"static\",\"line\":2,\"lo\":32,\"text\":\"\\\"c\\\"\"}\n{\"column\":27,\"file\":\"a.js\",\"hi\":47,\"kind\":\"dynamic\",\"line\":2,\"lo\":44,\"text\":\"'d'\"}\n",
+        "{\"column\":15,\"file\":\"a.js\",\"hi\":17,\"kind\":\"static\",\"line\":1,\"lo\":14,\"phase\":\"evaluation\",\"statement_hi\":25,\"statement_lo\":0,\"text\":\"'b'\",\"type\":false,\"with_hi\":25,\"with_lo\":23}\n{\"column\":15,\"file\":\"a.js\",\"hi\":43,\"kind\":\"reexport\",\"line\":2,\"lo\":40,\"phase\":\"evaluation\",\"statement_hi\":43,\"statement_lo\":26,\"text\":\"\\\"c\\\"\",\"type\":false}\n",
+        "",
+    ),
+    (
+        "imports --ts",
+        "import type { T } from 't'; import e = require('e'); declare module 'm';",
+        false,
+        "static 23 26 type 't'\nequals 47 50 'e'\nambient 68 71 'm'\n",
+        "",
+    ),
+    (
+        "imports",
+        "import defer * as d from 'd'; import(a + b); import.meta.url; require('r')",
+        false,
+        "static 25 28 defer 'd'\ndynamic 37 42 a + b\nmeta 45 56 import.meta\n",
+        "",
+    ),
+    (
+        "imports --commonjs",
+        "const r = require('r')",
+        false,
+        "require 18 21 'r'\n",
         "",
     ),
     (
@@ -286,6 +307,31 @@ const IMPORTS: &[Told] = &[
         true,
         "",
         "a.js: no slash is read at the place 1\n",
+    ),
+];
+
+/// Rows of what is exported.
+const EXPORTS: &[Told] = &[
+    (
+        "exports --lines",
+        "export { a as b, c };\nexport default 1",
+        false,
+        "export 1:15 14 15 a b\nexport 1:18 17 18 c c\nexport 2:8 29 36 - default\n",
+        "",
+    ),
+    (
+        "exports --ts",
+        "export type T = 1; export const { x, y: [z] } = w, v = 1",
+        false,
+        "type 12 13 T T\nexport 34 35 x x\nexport 41 42 z z\nexport 51 52 v v\n",
+        "",
+    ),
+    (
+        "exports --json",
+        "export { a as \"b\" }",
+        false,
+        "{\"column\":15,\"file\":\"a.js\",\"hi\":17,\"kind\":\"export\",\"line\":1,\"lo\":14,\"local\":\"a\",\"text\":\"\\\"b\\\"\",\"type\":false}\n",
+        "",
     ),
 ];
 
@@ -477,6 +523,11 @@ fn imports_are_told(rt: HostRuntime) -> Result<(), Fail> {
 }
 
 #[test]
+fn exports_are_told(rt: HostRuntime) -> Result<(), Fail> {
+    assert_told(&rt, rt.alloc(), EXPORTS)
+}
+
+#[test]
 fn texts_are_told_as_a_whole(rt: HostRuntime) -> Result<(), Fail> {
     assert_told(&rt, rt.alloc(), WHOLE)
 }
@@ -512,6 +563,7 @@ fn asked(face: Face) -> Asked {
         lines: false,
         columns: Columns::Bytes,
         colours: false,
+        commonjs: false,
     }
 }
 

@@ -2,6 +2,7 @@
 use ecma_options::Options;
 use ecma_place::{BytePos, Span};
 use ecma_positions::{Columns, LineStarts, Position};
+use ecma_print::row::Imported;
 use ecma_report::report::{More, Report, Row};
 use ecma_report::words::{Among, Asked, Face};
 use ecma_stdio::push_escaped;
@@ -63,7 +64,8 @@ fn object(alloc: Global, file: &str, position: Position, row: Row) -> Result<Str
     let hi = row.span.hi.0;
     let text = row.text;
     let value = match row.more {
-        More::Nothing | More::Message => json!(in alloc; {
+        // Rows of imports and exports are in the table of rows.
+        More::Nothing | More::Message | More::Import(_) | More::Export { .. } => json!(in alloc; {
             "file": file, "kind": kind, "lo": lo, "hi": hi, "line": line, "column": column, "text": text
         }),
         More::LineBreak(flag) => json!(in alloc; {
@@ -94,7 +96,9 @@ fn head(alloc: Global, lines: bool, position: Position, row: Row) -> Result<Stri
     };
     let place = place.as_str();
     match row.more {
-        More::Nothing | More::Message => format!(in alloc; "{kind}{place} {lo} {hi} "),
+        More::Nothing | More::Message | More::Import(_) | More::Export { .. } => {
+            format!(in alloc; "{kind}{place} {lo} {hi} ")
+        }
         More::LineBreak(true) => format!(in alloc; "{kind}{place} {lo} {hi} lf "),
         More::LineBreak(false) => format!(in alloc; "{kind}{place} {lo} {hi} - "),
         More::Beside { side, token } => {
@@ -158,6 +162,7 @@ fn asked(json: bool, lines: bool) -> Asked {
         lines,
         columns: Columns::Bytes,
         colours: false,
+        commonjs: false,
     }
 }
 
@@ -256,6 +261,22 @@ fn rows_of_texts_are_as_trees_write_them(rt: HostRuntime) -> Result<(), Fail> {
     Ok(())
 }
 
+/// An import of a phase, with attributes.
+const IMPORTED: Imported = Imported {
+    phase: Some("defer"),
+    is_type: false,
+    statement: SPAN,
+    attributes: Some(SPAN),
+};
+
+/// An import of types.
+const IMPORTED_TYPES: Imported = Imported {
+    phase: None,
+    is_type: true,
+    statement: SPAN,
+    attributes: None,
+};
+
 /// What is told besides, whether JSON is asked for, and lines, and what is written of a row.
 const ROWS: &[(More, bool, bool, &str)] = &[
     (
@@ -284,6 +305,57 @@ const ROWS: &[(More, bool, bool, &str)] = &[
         false,
         false,
         "number 8 4294967295 1\\n\0\"\n",
+    ),
+    (
+        More::Import(IMPORTED),
+        true,
+        false,
+        "{\"column\":3,\"file\":\"a.js\",\"hi\":4294967295,\"kind\":\"number\",\"line\":2,\"lo\":8,\"phase\":\"defer\",\"statement_hi\":4294967295,\"statement_lo\":8,\"text\":\"1\\n\\u0000\\\"\",\"type\":false,\"with_hi\":4294967295,\"with_lo\":8}\n",
+    ),
+    (
+        More::Import(IMPORTED_TYPES),
+        true,
+        false,
+        "{\"column\":3,\"file\":\"a.js\",\"hi\":4294967295,\"kind\":\"number\",\"line\":2,\"lo\":8,\"phase\":\"evaluation\",\"statement_hi\":4294967295,\"statement_lo\":8,\"text\":\"1\\n\\u0000\\\"\",\"type\":true}\n",
+    ),
+    (
+        More::Import(IMPORTED),
+        false,
+        false,
+        "number 8 4294967295 defer 1\\n\0\"\n",
+    ),
+    (
+        More::Import(IMPORTED_TYPES),
+        false,
+        false,
+        "number 8 4294967295 type 1\\n\0\"\n",
+    ),
+    (
+        More::Export {
+            local: Some("\\u0061"),
+            is_type: false,
+        },
+        true,
+        false,
+        "{\"column\":3,\"file\":\"a.js\",\"hi\":4294967295,\"kind\":\"number\",\"line\":2,\"lo\":8,\"local\":\"\\\\u0061\",\"text\":\"1\\n\\u0000\\\"\",\"type\":false}\n",
+    ),
+    (
+        More::Export {
+            local: Some("\\u0061"),
+            is_type: false,
+        },
+        false,
+        false,
+        "number 8 4294967295 \\\\u0061 1\\n\0\"\n",
+    ),
+    (
+        More::Export {
+            local: None,
+            is_type: true,
+        },
+        false,
+        false,
+        "number 8 4294967295 - 1\\n\0\"\n",
     ),
 ];
 

@@ -1,10 +1,11 @@
 use Rattle.std.proofs.Common.{◌≡◌, ◌∙◌, ◌++◌, ap}
+use Rattle.ecma_print.specs.Rows.{more_view}
 use Rattle.ecma_print.proofs.ObjectLemmas.{behind, parts, parts-object}
 use Rattle.ecma_print.proofs.written.push_object.Goals as goal
 
 pub returns : goal.returns
 returns c =
-    let added : c.push.new.self.items ≡ c.args.out.now.items ++ parts c.args.file.now c.args.position c.args.row.span c.args.row.kind.now c.args.row.text.now c.args.row.more =
+    let added : c.push.new.self.items ≡ c.args.out.now.items ++ parts c.args.file.now c.args.position c.args.row.span c.args.row.kind.now c.args.row.text.now (more_view c.args.row.more) =
     (behind c.args.out.now.items c.push_number_member.new.out.items c.push.new.self.items _ _ c.in_ok-push_number_member.ensures
     (behind c.push_number_member.new.out.items c.push_text_member.new.out.items c.push.new.self.items _ _ c.in_ok-push_text_member.ensures
     (behind c.push_text_member.new.out.items c.push_number_member-2.new.out.items c.push.new.self.items _ _ c.in_ok-push_number_member-2.ensures
@@ -15,4 +16,4 @@ returns c =
     (behind c.push_number_member-4.new.out.items c.push_before_text.new.out.items c.push.new.self.items _ _ c.in_ok-push_before_text.ensures
     (behind c.push_before_text.new.out.items c.push_text_member-3.new.out.items c.push.new.self.items _ _ c.in_ok-push_text_member-3.ensures
     (behind c.push_text_member-3.new.out.items c.push_behind_text.new.out.items c.push.new.self.items _ _ c.in_ok-push_behind_text.ensures c.in_ok-push.ensures.items)))))))))) in
-    added ∙ ap (λ text. c.args.out.now.items ++ text) (parts-object c.args.file.now c.args.position c.args.row.span c.args.row.kind.now c.args.row.text.now c.args.row.more)
+    added ∙ ap (λ text. c.args.out.now.items ++ text) (parts-object c.args.file.now c.args.position c.args.row.span c.args.row.kind.now c.args.row.text.now (more_view c.args.row.more))
