@@ -205,7 +205,7 @@ const FLAGS: &[(&str, &str)] = &[
     ),
     (
         "commonjs",
-        "With imports, write a line for each require(\"x\") of CommonJS too",
+        "With imports, write a line for each string that require of CommonJS is called with too",
     ),
     ("json", "Write one JSON object a line"),
     ("lines", "Write line:column beside byte places"),
