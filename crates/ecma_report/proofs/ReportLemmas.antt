@@ -76,3 +76,10 @@ adds-sent before after held now written none = record { sent = held; written = w
 -- where nothing is held any more, all was written
 pub all-sent : (before after : Option (List ℕ)) (held xs : List ℕ) → Adds before after held [] xs → Appends before after (held ++ xs)
 all-sent before after held xs adds = subst (Appends before after) (sym (append-nil adds.sent) ∙ adds.left) adds.written
+
+-- what was added and then flushed is all written
+pub flushed-all : (before between after : Option (List ℕ)) (held left now xs : List ℕ) → Adds before between held left xs → Appends between after left → now ≡ [] → Appends before after (held ++ xs)
+flushed-all before between after held left now xs told written none =
+    let sent = adds-sent between after left now written none in
+    let all = adds-on before between after held left now xs [] told sent in
+    all-sent before after held xs (subst (λ n. Adds before after held n xs) none (subst (Adds before after held now) (append-nil xs) all))

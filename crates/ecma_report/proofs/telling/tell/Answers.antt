@@ -1,21 +1,21 @@
-use Rattle.std.proofs.Common.{[], None, append-nil, subst}
+use Rattle.std.proofs.Common.{None}
+use Rattle.ecma_modules.specs.Modules.{exports_of, imports_of}
 use Rattle.ecma_reader.specs.Readers.{tokens_by}
-use Rattle.ecma_report.specs.Reports.{Adds}
+use Rattle.ecma_report.specs.Modules.{export_rows, import_rows, kept_by, module_options}
 use Rattle.ecma_report.specs.Slashes.{rule_at}
 use Rattle.ecma_report.specs.Tokens.{begun, token_rows}
-use Rattle.ecma_report.proofs.ReportLemmas.{adds-on, adds-sent, all-sent}
+use Rattle.ecma_report.proofs.ReportLemmas.{flushed-all}
 use Rattle.ecma_report.proofs.telling.tell.Goals as goal
 
 pub returns : goal.returns
-returns g c = record {
-  tokens = λ ask file bytes of face.
-      let held = c.args.report.now.out.items in
-      let rows = token_rows ask file bytes None (tokens_by (rule_at c.args.named) (begun ask.asked bytes)) in
-      let before = g.W.Write.contents c.args.out.now in
-      let after = g.W.Write.contents c.flush.new.out in
-      let told = c.in_ok-write_face.ensures ask file bytes of face in
-      let flushed = c.in_ok-flush.ensures in
-      let sent = adds-sent (g.W.Write.contents c.write_face.new.out) after c.write_face.new.report.out.items c.flush.new.self.out.items flushed.written flushed.none in
-      let all = adds-on before (g.W.Write.contents c.write_face.new.out) after held c.write_face.new.report.out.items c.flush.new.self.out.items rows [] told sent in
-      all-sent before after held rows (subst (λ now. Adds before after held now rows) flushed.none (subst (Adds before after held c.flush.new.self.out.items) (append-nil rows) all));
-}
+returns g c =
+    let flushed = c.in_ok-flush.ensures in
+    let written = flushed-all (g.W.Write.contents c.args.out.now) (g.W.Write.contents c.write_face.new.out) (g.W.Write.contents c.flush.new.out) c.args.report.now.out.items c.write_face.new.report.out.items c.flush.new.self.out.items in
+    record {
+      tokens = λ ask file bytes of face.
+          written (token_rows ask file bytes None (tokens_by (rule_at c.args.named) (begun ask.asked bytes))) (c.in_ok-write_face.ensures.tokens ask file bytes of face) flushed.written flushed.none;
+      imports = λ ask file bytes of face.
+          written (import_rows ask file bytes (imports_of (module_options ask.asked) (kept_by c.args.named ask bytes))) (c.in_ok-write_face.ensures.imports ask file bytes of face) flushed.written flushed.none;
+      exports = λ ask file bytes of face.
+          written (export_rows ask file bytes (exports_of (module_options ask.asked) (kept_by c.args.named ask bytes))) (c.in_ok-write_face.ensures.exports ask file bytes of face) flushed.written flushed.none;
+    }
