@@ -1,6 +1,6 @@
 //! Steps of the layer above, as tables of tests hold them.
 
-use ecma_lexer::{Step, TokenContexts};
+use ecma_state::{Step, TokenContexts};
 use ecma_syntax::Context;
 use std::alloc::{AllocError, Global};
 

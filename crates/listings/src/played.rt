@@ -1,7 +1,8 @@
 //! Listings of what is played: a replay of reads comes to what a lexer answers one by one.
 use crate::commands::{most_reads, push_reads};
-use ecma_lexer::{Answer, Kept, Replay, Settings, Step, replay};
 use ecma_place::{BytePos, StringInput};
+use ecma_replay::{Answer, Replay, replay};
+use ecma_state::{Kept, Settings, Step};
 use listing::listing::{
     Row, Settings as RowSettings, contexts_of, flags, syntax, write_comments, write_errors,
     write_note, write_token,

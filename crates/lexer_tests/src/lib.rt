@@ -1,5 +1,0 @@
-//! Rows of texts: what the lexer reads of each, as any caller sees it.
-#![tactic(auto)]
-
-#[cfg(test)]
-mod tests;

@@ -1,0 +1,10 @@
+//! Tests of the work of the programs: they see of it what any caller sees.
+#![tactic(auto)]
+
+#[cfg(test)]
+mod measures;
+#[cfg(test)]
+mod tests;
+
+/// Does nothing: the crate is its tests. It is a program since `rt` makes the sum of a library over each way down crates.txt.
+fn main(_rt: HostRuntime) {}

@@ -1,0 +1,8 @@
+//! Rows of lexers that go on from a checkpoint over the rest of a text, and of checkpoints that are stored.
+#![tactic(auto)]
+
+#[cfg(test)]
+mod tests;
+
+/// Does nothing: the crate is its tests. It is a program since `rt` makes the sum of a library over each way down crates.txt.
+fn main(_rt: HostRuntime) {}
