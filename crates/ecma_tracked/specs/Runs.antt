@@ -19,6 +19,7 @@ use Rattle.ecma_tracked.specs.States.{tracked_of}
 -- which they were read are those with which all steps by roles begin, and none of them takes errors away.
 pub record ReadsTo (begin : Session) (tokens : List SpannedView) (s : Session) : Type 0 where
   pub plain : begin.reread ≡ None
+  pub plain_still : s.reread ≡ None
   pub steps : List Step
   pub there : s ≡ act_all begin steps
   pub count : ℕ

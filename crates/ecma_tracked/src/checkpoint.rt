@@ -9,14 +9,14 @@ use std::marker::Model;
 /// Where a [`Tracked`](crate::Tracked) is between two reads: where its lexer is, and what the tokens up to there lead to. It
 /// holds no text. Our own.
 #[derive(Drop)]
-pub struct TrackedCheckpoint<'a> {
+pub struct TrackedCheckpoint {
     pub(crate) place: Checkpoint,
-    pub(crate) decider: Decider<'a>,
+    pub(crate) decider: Decider<'static>,
     /// Whether memory was refused.
     pub(crate) refused: bool,
 }
 
-impl<'a> Model for TrackedCheckpoint<'a> {
+impl Model for TrackedCheckpoint {
     ghost use Rattle.ecma_tracked.specs.Marked.{IsMarked, mark_view};
     ghost use Rattle.ecma_tracked.specs.Marks.{MarkValue};
 
@@ -27,13 +27,13 @@ impl<'a> Model for TrackedCheckpoint<'a> {
     ghost invariant = { IsMarked };
 }
 
-impl<'a> TrackedCheckpoint<'a> {
+impl TrackedCheckpoint {
     /// The same checkpoint. It does not allocate where at most 128 contexts are open and at most 64 frames of the track.
     ///
     /// # Errors
     ///
     /// `AllocError` where there is no memory for the contexts and the track.
-    pub fn copy(&self) -> Result<TrackedCheckpoint<'a>, AllocError>
+    pub fn copy(&self) -> Result<TrackedCheckpoint, AllocError>
         ensures { IfOk result (λ c. c ≡ self.now) }
     {
         Ok(TrackedCheckpoint {

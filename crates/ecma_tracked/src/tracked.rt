@@ -30,7 +30,7 @@ use std::marker::Model;
 #[derive(Drop)]
 pub struct Tracked<'a> {
     lexer: Lexer<'a>,
-    decider: Decider<'a>,
+    decider: Decider<'static>,
     /// Whether memory was refused.
     refused: bool,
 }
@@ -215,7 +215,7 @@ impl<'a> Tracked<'a> {
     /// # Errors
     ///
     /// `AllocError` where there is no memory for the contexts and the track.
-    pub fn checkpoint(&self) -> Result<TrackedCheckpoint<'a>, AllocError>
+    pub fn checkpoint(&self) -> Result<TrackedCheckpoint, AllocError>
         ensures same { IfOk result (λ c. c ≡ mark_of (tracked_state self.now)) }
         // It can go back there, and so can what goes on from here.
         ensures goes { GoesBack (checkpoint_of (lexer_state self.now.lexer)) (lexer_state self.now.lexer) }
@@ -237,7 +237,7 @@ impl<'a> Tracked<'a> {
     /// # Errors
     ///
     /// `AllocError` as of [`Tracked::checkpoint`]. Nothing is then changed.
-    pub fn rewind(&mut self, to: &TrackedCheckpoint<'a>) -> Result<bool, AllocError>
+    pub fn rewind(&mut self, to: &TrackedCheckpoint) -> Result<bool, AllocError>
         ensures goes { IfOk result (λ went. IsTrue went ↔ GoesBack to.now.place (lexer_state self.old.lexer)) }
         ensures back { IfOk result (λ went. went ≡ true → tracked_state self.new ≡ back_to to.now (tracked_state self.old)) }
         ensures stays { IfOk result (λ went. went ≡ false → self.new ≡ self.old) }

@@ -19,14 +19,14 @@ const TEXTS: &[Row] = &[
     (PLAIN, "a = '\\x61' / 0_1 / /\\u{61}/u / b", 9, 31),
     (TS, "x! / `\\x61${y / 2}` / /[/]/g", 14, 22),
     (COLLECTING, "/*a*/ b /*c*/ / /*d*/ e", 3, 22),
-    (PLAIN, DEEP, 142, 141),
+    (PLAIN, DEEP, 143, 147),
 ];
 
 const DEEP: &str =
     "(((((((((((((((((((((((((((((((((((((((((((((((((((((((((((((((((((((((((((((((((((((((((((((((((((((((((((((((((((((((((((((((((((((((((((( /a/ / b";
 
 /// A checkpoint, asked for once more where memory was refused.
-fn saved<'a>(tracked: &Tracked<'a>) -> Result<TrackedCheckpoint<'a>, AllocError> {
+fn saved<'a>(tracked: &Tracked<'a>) -> Result<TrackedCheckpoint, AllocError> {
     match tracked.checkpoint() {
         Ok(here) => Ok(here),
         Err(_) => tracked.checkpoint(),
@@ -36,7 +36,7 @@ fn saved<'a>(tracked: &Tracked<'a>) -> Result<TrackedCheckpoint<'a>, AllocError>
 /// Goes back, once more where memory was refused.
 fn went_back<'a>(
     tracked: &mut Tracked<'a>,
-    here: &TrackedCheckpoint<'a>,
+    here: &TrackedCheckpoint,
 ) -> Result<bool, AllocError> {
     match tracked.rewind(here) {
         Ok(went) => Ok(went),
