@@ -163,6 +163,8 @@ impl<'a> Tracked<'a> {
         ensures refused { self.old.refused ≡ true → (result ≡ Err alloc_error) × (self.new ≡ self.old) }
         ensures refusal { OnErr result (self.new.refused ≡ true) }
         ensures given { OnErr result (IsGivenAs self.old.lexer self.new.lexer) }
+        // What is expected is then what was expected before.
+        ensures expects_still { (s : Session) → tracked_of s ≡ tracked_state self.old → OnErr result (self.new.known ≡ self.old.known) }
     {
         if self.refused {
             return Err(AllocError);
@@ -187,6 +189,7 @@ impl<'a> Tracked<'a> {
         ensures refused { self.old.refused ≡ true → (result ≡ Err alloc_error) × (self.new ≡ self.old) }
         ensures refusal { OnErr result (self.new.refused ≡ true) }
         ensures given { OnErr result (IsGivenAs self.old.lexer self.new.lexer) }
+        ensures expects_still { (s : Session) → tracked_of s ≡ tracked_state self.old → OnErr result (self.new.known ≡ self.old.known) }
     {
         let mut slot = None;
         self.read_into(&mut slot)?;

@@ -1,4 +1,4 @@
-use Rattle.std.proofs.Common.{◌∙◌, ap, false, refl, subst}
+use Rattle.std.proofs.Common.{ap, false, refl, subst}
 use Rattle.std.specs.Prelude.{IsOk}
 use Rattle.std.specs.Str.{chars}
 use Rattle.ecma_state.specs.Session.{lexer_state}

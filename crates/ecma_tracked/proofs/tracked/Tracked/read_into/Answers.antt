@@ -1,5 +1,5 @@
 use Rattle.std.proofs.Common.{◌∙◌, ap, sym}
-use Rattle.ecma_slashes.specs.Rereads.{behind_by, by_role, is_in_order, rule_of}
+use Rattle.ecma_slashes.specs.Rereads.{behind_by, by_role, is_in_order}
 use Rattle.ecma_tracked.specs.States.{tracked_state}
 use Rattle.ecma_tracked.proofs.StateLemmas.{shown-decides, shows-all}
 use Rattle.ecma_tracked.proofs.tracked.Tracked.read_into.Goals as goal
@@ -17,3 +17,8 @@ returns-in-Ok-clause-reads c = λ s shows.
     let decides = shown-decides s c.self.inside c.self.invariant here in
     let told = c.in-Ok.ensures.steps by_role s at decides in
     record { finds = told.0.finds; shows = shows-all (behind_by by_role s) _ _ _ told.0.after (c.in-Ok.ensures.decides by_role s at decides).follows c.if-self.false }
+
+pub returns-in-Err-clause-expects_still : goal.returns-in-Err-clause-expects_still
+returns-in-Err-clause-expects_still c = λ s shows.
+    let here = shows ∙ sym (ap tracked_state c.self.view_is) in
+    (c.in-Err.ensures.decides_still by_role s (shown-decides s c.self.inside c.self.invariant here)).follows ∙ ap (λ t. t.known) shows
