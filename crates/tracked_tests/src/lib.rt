@@ -1,0 +1,5 @@
+//! Tests of `ecma_tracked`.
+#![tactic(auto)]
+
+#[cfg(test)]
+mod tests;
