@@ -26,7 +26,11 @@ const tried = (work) => () => {
     }
 };
 
-/** What is measured, by the name of its row; `plain` are those of the module without SIMD. */
+const BY_FLAG = { slashes: 'flag' };
+/** What stands behind the name of a job that asks the lexer's flag, not the tokens before a slash. */
+const FLAGGED = ', by the flag';
+
+/** What is measured, by the name of its row. */
 function jobsOf(bytes, text, others) {
     const { acorn, lexer, typescript } = others;
     const jobs = {
@@ -39,9 +43,14 @@ function jobsOf(bytes, text, others) {
         'canonical': () => ecma.canonical(text),
         'imports': () => ecma.imports(text),
         'count': () => ecma.count(text),
+        [`tokenRows of bytes${FLAGGED}`]: () => ecma.tokenRows(bytes, BY_FLAG),
+        [`tokenRows of a string${FLAGGED}`]: () => ecma.tokenRows(text, BY_FLAG),
+        [`tokens (iterator)${FLAGGED}`]: () => drain(ecma.tokens(text, BY_FLAG)),
+        [`imports${FLAGGED}`]: () => ecma.imports(text, BY_FLAG),
     };
     if (acorn) {
         jobs['acorn.mjs'] = () => drain(tokenizer(text, acorn.tokTypes));
+        jobs[`acorn.mjs${FLAGGED}`] = () => drain(tokenizer(text, acorn.tokTypes, BY_FLAG));
         jobs.acorn = () => drain(acorn.tokenizer(text, { ecmaVersion: 'latest' }));
     }
     if (lexer) jobs['es-module-lexer'] = tried(() => lexer.parse(text));
@@ -118,7 +127,10 @@ function ratio(jobs, one, other, times) {
 /** The ratios of all pairs, on a file whose jobs were run before. */
 function printRatios(file, others) {
     const { bytes, text } = contents(file), jobs = jobsOf(bytes, text, others), times = Math.ceil(TURN_BYTES / bytes.length);
-    for (const [one, other] of PAIRS) console.log(`${path.basename(file)}: ${one} over ${other}: ${ratio(jobs, one, other, times)}`);
+    for (const [one, other] of PAIRS) {
+        const ratios = [one, one + FLAGGED].map((it) => ratio(jobs, it, other, times));
+        console.log(`${path.basename(file)}: ${one} over ${other}: ${ratios[0]}, by the flag ${ratios[1]}`);
+    }
 }
 
 /** Runs a script in a process of its own, as often as asked, and answers the numbers that it writes, least first. */

@@ -24,7 +24,7 @@ export interface Options {
 
 /**
  * Loads the module: without an argument the file beside this one, once. A URL, the bytes, a Response or a compiled module may be
- * given; that module is then taken in place of the one before.
+ * given; that module is then taken in place of the one before. Where it can't be loaded, the code is `NOT_LOADED`.
  */
 export function load(source?: WebAssembly.Module | BufferSource | Response | URL | string): Promise<void>;
 /** The same at once, of bytes or a compiled module. */

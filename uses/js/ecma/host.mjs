@@ -66,6 +66,11 @@ async function compileUrl(url) {
     return WebAssembly.compile(await readFile(url));
 }
 
+/** What keeps a module from being loaded, as an error of this package. */
+function notLoaded(error) {
+    return error instanceof EcmaError ? error : new EcmaError('NOT_LOADED', `the module can't be loaded: ${error.message}`, { cause: error });
+}
+
 async function compile(source) {
     if (source instanceof WebAssembly.Module) return source;
     if (typeof source === 'string' || source instanceof URL) return compileUrl(new URL(source, globalThis.location?.href));
@@ -81,17 +86,29 @@ let loading;
  * given; that module is then taken in place of the one before.
  */
 export function load(source) {
-    if (source !== undefined) return compile(source).then(begin);
-    loading ??= compiled ? Promise.resolve() : compile(besideThisFile()).then(begin).catch((error) => {
+    if (source !== undefined) return loaded(source);
+    loading ??= compiled ? Promise.resolve() : loaded(besideThisFile()).catch((error) => {
         loading = undefined;
         throw error;
     });
     return loading;
 }
 
+async function loaded(source) {
+    try {
+        begin(await compile(source));
+    } catch (error) {
+        throw notLoaded(error);
+    }
+}
+
 /** The same at once, of bytes or a compiled module. */
 export function loadSync(source) {
-    begin(source instanceof WebAssembly.Module ? source : new WebAssembly.Module(source));
+    try {
+        begin(source instanceof WebAssembly.Module ? source : new WebAssembly.Module(source));
+    } catch (error) {
+        throw notLoaded(error);
+    }
 }
 
 function begin(module) {

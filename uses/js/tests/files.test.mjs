@@ -30,8 +30,8 @@ test('what is exported is there, and declared', async () => {
     }
 });
 
-test('a module has at most 90 kB by gzip', () => {
-    for (const name of ['ecma.wasm', 'ecma-plain.wasm']) assert.ok(gzipSync(bytesOf(name), { level: 9 }).length <= 90_000, name);
+test('a module has at most 80 kB by gzip', () => {
+    for (const name of ['ecma.wasm', 'ecma-plain.wasm']) assert.ok(gzipSync(bytesOf(name), { level: 9 }).length <= 80_000, name);
 });
 
 test('the kinds are those of the header', () => {
@@ -60,6 +60,21 @@ test('by names of the package, before and behind load', async () => {
     });
 });
 
+test('an engine without SIMD gets the module without', async () => {
+    await installed((folder) => {
+        const script = `
+            const { compile } = WebAssembly, sizes = [];
+            WebAssembly.validate = () => false;
+            WebAssembly.compile = (bytes) => (sizes.push(bytes.length), compile(bytes));
+            const { count, load } = await import('fintaluy');
+            await load();
+            console.log(sizes.join(), count('a b'));`;
+        fs.writeFileSync(path.join(folder, 'script.mjs'), script);
+        const made = spawnSync(process.execPath, ['script.mjs'], { cwd: folder, encoding: 'utf8' });
+        assert.equal(made.stdout, `${bytesOf('ecma-plain.wasm').length} 2\n`, made.stderr);
+    });
+});
+
 test('what can be loaded', async () => {
     const file = pathToFileURL(path.join(PACKAGE, 'ecma.wasm')), bytes = bytesOf('ecma.wasm');
     const response = (type) => new Response(bytes, { headers: { 'content-type': type } });
@@ -71,8 +86,15 @@ test('what can be loaded', async () => {
         ecma.loadSync(source);
         assert.equal(ecma.count('a b'), 2);
     }
-    await assert.rejects(ecma.load(new Response('', { status: 404 })), { code: 'NOT_LOADED' });
-    await assert.rejects(ecma.load(new Uint8Array([1, 2, 3])), WebAssembly.CompileError);
+    const other = new Uint8Array([0, 97, 115, 109, 1, 0, 0, 0]);
+    for (const source of [new Uint8Array([1, 2, 3]), other]) {
+        await assert.rejects(ecma.load(source), { name: 'EcmaError', code: 'NOT_LOADED' });
+        refuses('NOT_LOADED', () => ecma.loadSync(source));
+    }
+    const absent = new URL('./absent.wasm', file);
+    for (const source of [new Response('', { status: 404 }), absent, absent.href, 'no address']) {
+        await assert.rejects(ecma.load(source), { name: 'EcmaError', code: 'NOT_LOADED' });
+    }
     assert.equal(ecma.count('a b'), 2);
 });
 

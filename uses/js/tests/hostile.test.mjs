@@ -11,19 +11,21 @@ const KEPT = 64 << 20;
 test('long texts', () => {
     const million = 1_000_000;
     const rows = [
-        ['one string', `"${'a'.repeat(20 * million)}"`, 1],
-        ['one comment', `/*${'é'.repeat(20 * million)}*/`, 0],
-        ['brackets', '('.repeat(5 * million), 5 * million],
-        ['semicolons', ';'.repeat(30 * million), 30 * million],
-        ['wide names', '𝒳 '.repeat(million), million],
+        ['one string', `"${'a'.repeat(70 * million)}"`, 1],
+        ['one comment', `/*${'é'.repeat(10 * million)}*/`, 0],
+        ['brackets', '('.repeat(million), million],
+        ['semicolons', ';'.repeat(2 * million), 2 * million],
+        ['wide names', '𝒳 '.repeat(100_000), 100_000],
     ];
     for (const [name, text, wanted] of rows) {
         assert.equal(ecma.count(text), wanted, name);
         assert.ok(ecma.memory() <= KEPT, `${name}: a memory above 64 MB is let go behind its call`);
     }
-    assert.equal(ecma.tokenRows(';'.repeat(10 * million)).length, 30 * million);
-    assert.ok(ecma.count('`${'.repeat(million)) >= 2 * million);
-    assert.ok(ecma.errors('"\n'.repeat(100_000)).length >= 100_000);
+    // Its rows have more than 64 MB, and more than there is room for at first.
+    assert.equal(ecma.tokenRows(';'.repeat(6 * million)).length, 18 * million);
+    assert.ok(ecma.memory() <= KEPT);
+    assert.ok(ecma.count('`${'.repeat(200_000)) >= 400_000);
+    assert.ok(ecma.errors('"\n'.repeat(20_000)).length >= 20_000);
     assert.equal(ecma.count('a b'), 2);
 });
 

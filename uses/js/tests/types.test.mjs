@@ -13,7 +13,8 @@ test('declarations', { skip: compiler ? false : 'tsc is not installed' }, async 
         fs.copyFileSync(path.join(HERE, 'types.mts'), path.join(folder, 'types.mts'));
         fs.writeFileSync(path.join(folder, 'package.json'), '{ "type": "module" }');
         for (const resolution of ['nodenext', 'node16']) {
-            const words = ['--noEmit', '--strict', '--target', 'es2022', '--lib', 'es2022,dom', '--module', resolution, '--moduleResolution', resolution];
+            // The compiler's own declarations are not checked, the package's are.
+            const words = ['--noEmit', '--strict', '--skipDefaultLibCheck', '--target', 'es2022', '--lib', 'es2022,dom', '--module', resolution, '--moduleResolution', resolution];
             const made = spawnSync(process.execPath, [compiler, ...words, 'types.mts'], { cwd: folder, encoding: 'utf8' });
             assert.equal(made.stdout, '', resolution);
             assert.equal(made.status, 0, resolution);
