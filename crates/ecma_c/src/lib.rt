@@ -1,8 +1,8 @@
-//! The lexer for C and Rust: a static library. The caller owns all memory, and nothing is kept between calls.
+//! The static library: the lexer for C and Rust. The caller owns all memory, and nothing is kept between calls.
 //!
 //! It has the exports alone, since no crate can be above a static library; the work is in `ecma_rows`. docs/C.md has
-//! the calls, `uses/c` and `uses/rust` callers, and `uses/run` compares these with `ecma_lex`; `uses/js` makes a
-//! module of WebAssembly of it (docs/JAVASCRIPT.md).
+//! the calls, `uses/c` and `uses/rust` callers, and `uses/run` compares these with `ecma_lex`; `uses/js` makes a module
+//! of WebAssembly of it (docs/JAVASCRIPT.md).
 #![tactic(auto)]
 
 ghost use Rattle.std.specs.Prelude.{◌≡◌, false, map, true};
