@@ -2,8 +2,8 @@
 //!
 //! `blank_gap.rt` passes most gaps: white space, and where comments are not collected, closed comments
 //! (`plain_comments.rt`). `gap.rt` passes white space and reads an element (`element.rt`) by turns; `so_far.rt` has
-//! what was read so far, with the `<!--` whose error is still to come; `for_next.rt` says for which token a comment is;
-//! `bars.rt` reads a marker of bars by the same parts.
+//! what was read so far, with the `<!--` whose error is still to come; `for_next.rt` says for which token a comment is,
+//! and looks for a `;` last, as that scans ahead; `bars.rt` reads a marker of bars by the same parts.
 //!
 //! `specs/BlankGaps.antt` says which gap between two cursors is white space alone (`IsBlankGap`) and with which
 //! characters another element may begin (`may_begin`); `specs/GapRecords.antt` what was read of a gap so far

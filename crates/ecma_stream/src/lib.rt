@@ -6,7 +6,8 @@
 //!
 //! `lexer.rt` puts the layers together: the fork of a read (`lexer/fork.rt`), its arms (`lexer/arms.rt`,
 //! `lexer/template.rt`), going back and going on (`lexer/checkpoint.rt`, over the `Checkpoint` of `ecma_checkpoint`),
-//! the handing over of comments (`hand_over.rt`), and what a parser asks of it (`tokens.rt`).
+//! the handing over of comments (`hand_over.rt`), and what a parser asks of it (`tokens.rt`). A lexer is never before
+//! the back quote of its last template, which `scan_template` requires.
 #![tactic(auto)]
 
 mod hand_over;
