@@ -53,7 +53,7 @@ fn filled(
 ///
 /// # Errors
 ///
-/// `AllocError` where there is no memory.
+/// `AllocError` where allocation fails.
 pub fn classes(
     alloc: Global,
     source: &str,

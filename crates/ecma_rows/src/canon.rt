@@ -33,7 +33,7 @@ fn canon_of_read(alloc: Global, asked: &Asked, read: &LexOutput) -> Result<Canon
 ///
 /// # Errors
 ///
-/// `AllocError` where there is no memory; the room is then as before.
+/// `AllocError` where allocation fails; the room is then as before.
 #[tactic(auto, using(crate::proofs::CanonCases::canon_text, crate::proofs::CanonCases::canon_too_long, crate::proofs::CanonCases::canon_not_clean))]
 pub fn write_canonical(
     alloc: Global,

@@ -90,7 +90,7 @@ fn write(comments: &[BufferedComment], is_met: bool, out: &mut [CommentRow]) -> 
 ///
 /// # Errors
 ///
-/// `AllocError` where there is no memory; the room is then as before.
+/// `AllocError` where allocation fails; the room is then as before.
 pub fn write_comments(
     alloc: Global,
     text: &[u8],

@@ -157,7 +157,7 @@ impl Gathered {
 ///
 /// # Errors
 ///
-/// `AllocError` where there is no memory; the rooms are then as before.
+/// `AllocError` where allocation fails; the rooms are then as before.
 pub fn write_errors(
     alloc: Global,
     text: &[u8],

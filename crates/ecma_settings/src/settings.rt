@@ -75,7 +75,7 @@ impl Default for Syntax {
     }
 }
 
-/// What a text in this language may hold: each answer is an option's value, or the same for every text.
+/// What a text in this language may hold: each is an option's value, or the same for every text.
 impl Syntax {
     /// Whether a class may have `accessor` fields.
     pub fn auto_accessors(self) -> bool
