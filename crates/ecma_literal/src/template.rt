@@ -99,7 +99,7 @@ fn scan_text<'a>(
 /// Reads what is at the cursor in a template (ECMA-262 TemplateCharacters, 12.9.6), and moves behind it: text up to
 /// a back quote, `${` or the end, or, where there is no text behind template text, the back quote or `${`.
 ///
-/// The cursor is not at the end. `opened` is the place of the last back quote that opened a template, or the
+/// The cursor is not at the end. `opened` is where a template was opened last, by its back quote, or, if none was, the
 /// lexer's start place, and not behind the cursor; `after_template` says that the last token was template text. It
 /// returns a `Template`, a `BackQuote` or a `DollarLBrace`. An escape that is refused is the error that is in the
 /// `Template` for what the text means, the last one where there are several. Text that meets the end is refused with
