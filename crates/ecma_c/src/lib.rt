@@ -50,7 +50,7 @@ impl EcmaAnswer {
     }
 }
 
-/// How many tokens a text has ([`count_tokens`]); status 5 where there is no memory.
+/// How many tokens a text has ([`count_tokens`]); status 5 where allocation fails.
 #[unsafe(no_mangle)]
 pub extern "C" fn ecma_count(
     alloc: Global,
@@ -63,7 +63,7 @@ pub extern "C" fn ecma_count(
     EcmaAnswer::of_told(count_tokens(alloc, text, options, slashes))
 }
 
-/// Writes a row for each token to `out` ([`write_tokens`]); status 5 where there is no memory.
+/// Writes a row for each token to `out` ([`write_tokens`]); status 5 where allocation fails.
 #[unsafe(no_mangle)]
 pub extern "C" fn ecma_tokens(
     alloc: Global,
@@ -77,7 +77,7 @@ pub extern "C" fn ecma_tokens(
     EcmaAnswer::of_told(write_tokens(alloc, text, options, slashes, out))
 }
 
-/// Writes a row for each comment to `out` ([`write_comments`]); status 5 where there is no memory.
+/// Writes a row for each comment to `out` ([`write_comments`]); status 5 where allocation fails.
 #[unsafe(no_mangle)]
 pub extern "C" fn ecma_comments(
     alloc: Global,
@@ -91,7 +91,7 @@ pub extern "C" fn ecma_comments(
     EcmaAnswer::of_told(write_comments(alloc, text, options, slashes, out))
 }
 
-/// Writes a row for each error to `out`, and their messages to `messages` ([`write_errors`]); status 5 where there is no memory.
+/// Writes a row for each error to `out`, and their messages to `messages` ([`write_errors`]); status 5 where allocation fails.
 #[unsafe(no_mangle)]
 pub extern "C" fn ecma_errors(
     alloc: Global,
@@ -106,7 +106,7 @@ pub extern "C" fn ecma_errors(
     EcmaAnswer::of_told(write_errors(alloc, text, options, slashes, out, messages))
 }
 
-/// Writes the canonical text to `out` ([`write_canonical`]); status 5 where there is no memory.
+/// Writes the canonical text to `out` ([`write_canonical`]); status 5 where allocation fails.
 #[unsafe(no_mangle)]
 pub extern "C" fn ecma_canonical(
     alloc: Global,

@@ -28,7 +28,7 @@ fn canon_of_read(alloc: Global, asked: &Asked, read: &LexOutput) -> Result<Canon
 
 /// Writes the canonical text of a text to the room, as many bytes as fit. The count is the number of its bytes. What is taken
 /// is as of [`write_tokens`](crate::write_tokens). Nothing is written where the answer is `Refused`,
-/// `NotUtf8`, `TooLong`, `NoSlash` or `NotClean`, judged in this order, but that `TooLong` is also answered, last, where the
+/// `NotUtf8`, `TooLong`, `NoSlash` or `NotClean`, judged in this order, but that `TooLong` is also returned, last, where the
 /// canonical text is longer than places go. Our own.
 ///
 /// # Errors

@@ -20,7 +20,7 @@ use ecma_token::{Token, TokenAndSpan};
 use std::alloc::{AllocError, Global};
 
 /// A token: where it begins and ends, in bytes from the text's start, the number of its kind
-/// ([`kind_number`](ecma_kinds::kind_number)), and flags: 1 where a line terminator, or nothing, stands before it, or it is
+/// ([`kind_number`](ecma_kinds::kind_number)), and flags: 1 where a line terminator, or nothing, is before it, or it is
 /// template text that has one; 2 where its value is not its spelling (a word, string, template text or regular expression's
 /// flags with an escape, a line continuation, a carriage return in a template, a number with separators, template text that
 /// means nothing). Our own.
