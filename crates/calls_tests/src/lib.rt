@@ -1,4 +1,4 @@
-//! Tests of each call of the lexer by itself: what it answers, and what it leaves.
+//! Tests of single calls of the lexer: what each returns and leaves.
 #![tactic(auto)]
 
 #[cfg(test)]

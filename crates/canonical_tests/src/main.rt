@@ -1,4 +1,4 @@
-//! Tests of canonical texts: they see of `ecma_lexer` what any caller sees.
+//! Tests of canonical texts.
 #![tactic(auto)]
 
 #[cfg(test)]

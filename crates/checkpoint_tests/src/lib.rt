@@ -1,4 +1,4 @@
-//! Rows of a lexer that goes back to its checkpoints.
+//! Tests of going back to checkpoints.
 #![tactic(auto)]
 
 #[cfg(test)]

@@ -1,8 +1,8 @@
-//! What a lexer finds in files: tokens, comments, errors, canonical texts, classes, HTML and imports.
+//! The command `ecma`: what a lexer finds in files.
 //!
-//! `arguments.rt` reads its words, `files.rt` finds the files that they name, in directories and lists too,
-//! `source.rt` reads one, `watched.rt` remembers why a read or a write failed, `faults.rt` has the lines on standard
-//! error, and `main.rt` reports on each file (docs/COMMAND.md).
+//! `arguments.rt` reads its words, `files.rt` finds the files that they name, in directories and lists too, `source.rt`
+//! reads one, `watched.rt` remembers why a read or a write failed, `faults.rt` has the lines on standard error, and
+//! `main.rt` reports on each file (docs/COMMAND.md).
 #![tactic(auto)]
 
 ghost use Rattle.std.specs.Prelude.{◌<◌, ◌^◌, length};

@@ -1,4 +1,4 @@
-//! Counts the tokens of a text from standard input, or measures how fast they are read.
+//! The program `ecma_bench`: counts the tokens of a text from standard input, or measures how fast they are read.
 #![tactic(auto)]
 
 use ecma_measure::run;

@@ -1,8 +1,8 @@
-//! The lexer for C and Rust: a static library. The caller owns all memory, and nothing is kept between calls.
+//! The static library: the lexer for C and Rust. The caller owns all memory, and nothing is kept between calls.
 //!
 //! It has the exports alone, since no crate can be above a static library; the work is in `ecma_rows`. docs/C.md has
-//! the calls, `uses/c` and `uses/rust` callers, and `uses/run` compares these with `ecma_lex`; `uses/js` makes a
-//! module of WebAssembly of it (docs/JAVASCRIPT.md).
+//! the calls, `uses/c` and `uses/rust` callers, and `uses/run` compares these with `ecma_lex`; `uses/js` makes a module
+//! of WebAssembly of it (docs/JAVASCRIPT.md).
 #![tactic(auto)]
 
 ghost use Rattle.std.specs.Prelude.{◌≡◌, false, map, true};
@@ -50,7 +50,7 @@ impl EcmaAnswer {
     }
 }
 
-/// How many tokens a text has ([`count_tokens`]); status 5 where there is no memory.
+/// How many tokens a text has ([`count_tokens`]); status 5 where allocation fails.
 #[unsafe(no_mangle)]
 pub extern "C" fn ecma_count(
     alloc: Global,
@@ -63,7 +63,7 @@ pub extern "C" fn ecma_count(
     EcmaAnswer::of_told(count_tokens(alloc, text, options, slashes))
 }
 
-/// Writes a row for each token to `out` ([`write_tokens`]); status 5 where there is no memory.
+/// Writes a row for each token to `out` ([`write_tokens`]); status 5 where allocation fails.
 #[unsafe(no_mangle)]
 pub extern "C" fn ecma_tokens(
     alloc: Global,
@@ -77,7 +77,7 @@ pub extern "C" fn ecma_tokens(
     EcmaAnswer::of_told(write_tokens(alloc, text, options, slashes, out))
 }
 
-/// Writes a row for each comment to `out` ([`write_comments`]); status 5 where there is no memory.
+/// Writes a row for each comment to `out` ([`write_comments`]); status 5 where allocation fails.
 #[unsafe(no_mangle)]
 pub extern "C" fn ecma_comments(
     alloc: Global,
@@ -91,7 +91,7 @@ pub extern "C" fn ecma_comments(
     EcmaAnswer::of_told(write_comments(alloc, text, options, slashes, out))
 }
 
-/// Writes a row for each error to `out`, and their messages to `messages` ([`write_errors`]); status 5 where there is no memory.
+/// Writes a row for each error to `out`, and their messages to `messages` ([`write_errors`]); status 5 where allocation fails.
 #[unsafe(no_mangle)]
 pub extern "C" fn ecma_errors(
     alloc: Global,
@@ -106,7 +106,7 @@ pub extern "C" fn ecma_errors(
     EcmaAnswer::of_told(write_errors(alloc, text, options, slashes, out, messages))
 }
 
-/// Writes the canonical text to `out` ([`write_canonical`]); status 5 where there is no memory.
+/// Writes the canonical text to `out` ([`write_canonical`]); status 5 where allocation fails.
 #[unsafe(no_mangle)]
 pub extern "C" fn ecma_canonical(
     alloc: Global,

@@ -11,7 +11,7 @@ use ecma_place::BytePos;
 use ecma_replay::Gathered;
 use std::alloc::{AllocError, Global};
 
-/// The canonical text of a text that starts at a place, as [`canonical`](crate::canonical) answers it of a list of steps, by
+/// The canonical text of a text that starts at a place, as [`canonical`](crate::canonical) returns it of a list of steps, by
 /// what [`gather`](ecma_replay::gather), or one reading, gathered of them. Our own.
 ///
 /// The caller knows that the text fits its places ([`StringInput::fits`](ecma_place::StringInput::fits)), and that all was
@@ -21,7 +21,7 @@ use std::alloc::{AllocError, Global};
 ///
 /// # Errors
 ///
-/// `AllocError` where there is no memory.
+/// `AllocError` where allocation fails.
 pub fn canonical_of_gathered(
     alloc: Global,
     source: &str,

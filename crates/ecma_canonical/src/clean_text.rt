@@ -92,7 +92,7 @@ pub(crate) fn canon_of_clean(
 ///
 /// # Errors
 ///
-/// `AllocError` where there is no memory.
+/// `AllocError` where allocation fails.
 pub fn canonical(
     alloc: Global,
     settings: &Settings,

@@ -43,11 +43,11 @@ fn before_token(token: &Kept) -> &'static str
 ///
 /// The caller knows that the text fits its places ([`StringInput::fits`]), and that each span lies in it, on places of the
 /// text and its end not before its beginning, as those that [`replay`](ecma_replay::replay) keeps of the same text do. No
-/// tokens give the empty text, whatever the source is.
+/// tokens have the empty text, whatever the source is.
 ///
 /// # Errors
 ///
-/// `AllocError` where there is no memory.
+/// `AllocError` where allocation fails.
 pub fn canonical_text(
     alloc: Global,
     source: &str,

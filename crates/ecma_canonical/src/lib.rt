@@ -1,8 +1,9 @@
-//! The canonical text of a list of steps over a text: the characters of the tokens that they keep, with as little between
-//! them as keeps them apart. Where the run is clean, it is read to the same tokens.
+//! Canonical texts: the characters of the tokens that steps keep, with as little between them as separates them.
 //!
-//! `joined.rt` joins kept tokens, `clean_text.rt` replays, judges and joins, `clean_gathered.rt` judges and joins
-//! what was gathered of steps that are plain, `watch.rt` goes by steps and answers whether they are plain.
+//! Call [`canonical`]. Promised: where the run is clean, the text is read by the same steps to the same tokens, and is
+//! its own canonical text; texts with the same tokens have the same one. `joined.rt` joins kept tokens, `clean_text.rt`
+//! replays, judges and joins, `clean_gathered.rt` judges and joins what was gathered of steps that are plain,
+//! `watch.rt` goes by steps and says whether they are plain.
 #![tactic(auto)]
 
 mod clean_gathered;

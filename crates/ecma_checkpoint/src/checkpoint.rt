@@ -38,7 +38,7 @@ pub struct Checkpoint {
     /// The slash that the next read begins at, where it reads again.
     pub reread: Option<BytePos>,
     pub counts: Counts,
-    /// Whether memory was refused.
+    /// Whether an allocation failed.
     pub refused: bool,
 }
 

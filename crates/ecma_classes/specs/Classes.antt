@@ -1,5 +1,4 @@
--- What pieces cover a text: one for each token, one for each comment that lies in none, one for each longest run of bytes
--- that lie in neither.
+-- What pieces cover a text: each token, each comment outside of all tokens, and whatever is between two of these.
 use Rattle.std.specs.Prelude.{ℕ, zero, suc, ◌+◌, ◌-◌, ◌<◌, ◌≤◌, ◌≡◌, ◌==◌, ◌&&◌, ◌||◌, Bool, true, false, List, [], ◌∷◌, ◌++◌, map, nat_le, nat_lt, slice_range, if◌then◌else◌}
 use Rattle.std.specs.List.{filter, list_all, list_any}
 use Rattle.ecma_place.specs.Cursor.{Cursor, HasPlace}

@@ -43,9 +43,8 @@ fn filled(
     Ok(pieces)
 }
 
-/// The pieces of a text that starts at a place: in order of place, one for each kept token, one for each comment that lies
-/// outside all of them, and one of trivia for each longest run of bytes that lie in neither. A token or comment whose span is
-/// empty has no piece, nor has the empty text. The comments may come in any order, as that of their attachment.
+/// The pieces of a text that starts at a place, in order of place: each kept token, each comment outside of all tokens, and as
+/// trivia all that is between two of these. A token or comment whose span is empty has no piece, nor has the empty text. The comments may come in any order, as that of their attachment.
 ///
 /// The caller knows that the text fits its places ([`StringInput::fits`](ecma_place::StringInput::fits)); that the tokens lie
 /// in it between places of the text, in order, none over another; that the comments lie in it so, that no byte lies in two of
@@ -53,7 +52,7 @@ fn filled(
 ///
 /// # Errors
 ///
-/// `AllocError` where there is no memory.
+/// `AllocError` where allocation fails.
 pub fn classes(
     alloc: Global,
     source: &str,

@@ -1,4 +1,5 @@
-//! Laws of clean runs and of the canonical text of what they keep: each run of a session is a walk of the lexer's grammar.
+//! Laws of clean runs: they and the canonical text of what they keep; each run of a session is a walk of the lexer's
+//! grammar.
 #![tactic(auto)]
 
 pub mod laws;

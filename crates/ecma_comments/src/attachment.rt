@@ -122,7 +122,7 @@ impl<'a> CommentsBuffer<'a> {
     ///
     /// # Errors
     ///
-    /// `AllocError` where there is no memory for them. Nothing is then changed.
+    /// `AllocError` where allocation fails for them. Nothing is then changed.
     pub fn attach(
         &mut self,
         around: Around,

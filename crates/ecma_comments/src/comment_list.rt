@@ -45,7 +45,7 @@ impl<'a> CommentList<'a> {
         self.comments
     }
 
-    /// Adds a comment, or gives it back where there is no memory for it.
+    /// Adds a comment, or returns it where allocation fails.
     fn add(&mut self, buffered: BufferedComment<'a>) -> Result<(), Comment<'a>>
         ensures ok { OnOk result (self.new ≡ self.old ++ buffered.entry ∷ []) }
         ensures err { OnErr result (self.new ≡ self.old) }

@@ -31,7 +31,7 @@ impl<'a> BufferedComment<'a> {
     ///
     /// # Errors
     ///
-    /// `AllocError` where there is no memory for the bytes of an owned text.
+    /// `AllocError` where allocation fails for the bytes of an owned text.
     pub fn copy(&self, alloc: Global) -> Result<BufferedComment<'a>, AllocError>
         ensures same { IfOk result (λ c. c ≡ self.now) }
         ensures free { IsTrue self.now.comment.text.is_borrowed → IsOk result }
@@ -86,7 +86,7 @@ impl<'a> CommentsBuffer<'a> {
     ///
     /// # Errors
     ///
-    /// `AllocError` where there is no memory for it. Nothing is then changed.
+    /// `AllocError` where it can't be allocated. Nothing is then changed.
     pub fn push(&mut self, comment: BufferedComment<'a>) -> Result<(), AllocError>
         ensures ok { OnOk result (self.new ≡ record self.old { comments = self.old.comments ++ comment.entry ∷ [] }) }
         ensures err { OnErr result (self.new ≡ self.old) }
@@ -98,7 +98,7 @@ impl<'a> CommentsBuffer<'a> {
     ///
     /// # Errors
     ///
-    /// `AllocError` where there is no memory for it. Nothing is then changed.
+    /// `AllocError` where it can't be allocated. Nothing is then changed.
     pub fn push_pending_leading(&mut self, comment: BufferedComment<'a>) -> Result<(), AllocError>
         ensures ok { OnOk result (self.new ≡ record self.old { pending_leading = self.old.pending_leading ++ comment.entry ∷ [] }) }
         ensures err { OnErr result (self.new ≡ self.old) }
@@ -142,7 +142,7 @@ impl<'a> CommentsBuffer<'a> {
     ///
     /// # Errors
     ///
-    /// `AllocError` where there is no memory for them.
+    /// `AllocError` where allocation fails for them.
     pub fn copy(&self) -> Result<CommentsBuffer<'a>, AllocError>
         ensures { IfOk result (λ b. b ≡ self.now) }
     {
@@ -159,7 +159,7 @@ impl<'a> CommentsBuffer<'a> {
     ///
     /// # Errors
     ///
-    /// `AllocError` where there is no memory for them. Those that wait are then lost.
+    /// `AllocError` where allocation fails for them. Those that wait are then lost.
     pub(crate) fn settle(&mut self) -> Result<(), AllocError>
         ensures ok { OnOk result (self.new.comments ≡ self.old.comments ++ self.old.pending_leading) }
         ensures err { OnErr result (self.new.comments ≡ self.old.comments) }
@@ -181,14 +181,14 @@ impl<'a> CommentsBuffer<'a> {
     ///
     /// # Errors
     ///
-    /// `AllocError` where the store has no memory for one. Those before it were handed over,
+    /// `AllocError` where the store can't allocate for one. Those before it were handed over,
     /// and it and those behind it are kept, in order.
     pub fn hand_over<C: Comments<'a>>(&mut self, to: &mut C) -> Result<(), AllocError>
         ensures ok { OnOk result (C.added to.new ≡ C.added to.old ++ map added_of self.old.comments) }
         ensures none { OnOk result (self.new ≡ record self.old { comments = [] }) }
         ensures err { OnErr result (StopsEarly (C.added to.old) (C.added to.new) self.old self.new) }
     {
-        // A list gives up its last element with no other moved, so it stands turned meanwhile.
+        // A list gives up its last element with no other moved, so it is turned meanwhile.
         let mut comments = self.comments.take();
         comments.reverse();
         let given = give_from_last(&mut comments, to);

@@ -1,4 +1,4 @@
-//! Handing comments over to a store, which may have no memory for one of them.
+//! Handing comments over to a store, which may fail to allocate for one of them.
 ghost use Rattle.std.specs.Prelude.{◌≡◌, ◌<◌, ◌++◌, ◌∷◌, [], map, reverse, OnOk, OnErr, IfErr, vec_len};
 ghost use Rattle.ecma_comments.specs.HandOver.{added_of, HandsFirst};
 
@@ -10,7 +10,7 @@ use std::alloc::AllocError;
 ///
 /// # Errors
 ///
-/// The comment itself where the store has no memory for it.
+/// The comment itself where the store can't allocate for it.
 fn give<'a, C: Comments<'a>>(
     buffered: BufferedComment<'a>,
     to: &mut C,
@@ -31,7 +31,7 @@ fn give<'a, C: Comments<'a>>(
 ///
 /// # Errors
 ///
-/// `AllocError` where the store has no memory for one. Those behind it were given, and it and those
+/// `AllocError` where the store can't allocate for one. Those behind it were handed over, and it and those
 /// before it are kept.
 pub(crate) fn give_from_last<'a, C: Comments<'a>>(
     comments: &mut Vec<BufferedComment<'a>>,

@@ -1,7 +1,12 @@
-//! Comments that a lexer gathers, the tokens that they belong to, and how they are handed over to a store.
+//! Collected comments, their tokens, and handing over.
 //!
-//! `comments_buffer.rt` has the comments that a lexer gathers, `attachment.rt` the token that each belongs to,
-//! `shared_comments.rt` what copies of a lexer share of them, and `hand_over.rt` how a store is handed them.
+//! `comments_buffer.rt` has the comments that a lexer collects, `attachment.rt` the token that each belongs to,
+//! `shared_comments.rt` what copies of a lexer share of them, and `hand_over.rt` hands them to a store.
+//!
+//! To change whose a comment is: `ecma_grammar/specs/Comments.antt`, `ecma_gap`: `for_next.rt`; side and place:
+//! `attachment.rt`, `specs/Attachment.antt`; `state_rows/proofs/AttachmentRows.antt`,
+//! `grammar_rows/proofs/CommentRows.antt`. Prove `ecma_grammar`, `ecma_gap`, `ecma_comments`, `ecma_state`,
+//! `ecma_laws`, `ecma_pieces`.
 #![tactic(auto)]
 
 pub mod attachment;

@@ -145,7 +145,7 @@ impl<'a> SharedComments<'a> {
     }
 
     /// Puts the comments behind the blocks into a block of their own, where none owns its text. A block that is refused
-    /// changes nothing that any call answers: it only leaves the comments unshared until the next full block.
+    /// changes nothing that any call returns: it only leaves the comments unshared until the next full block.
     fn close_block(&mut self)
         ensures { self.new ≡ self.old }
     {
@@ -178,7 +178,7 @@ impl<'a> SharedComments<'a> {
     ///
     /// # Errors
     ///
-    /// `AllocError` where there is no memory for it. Nothing is then changed.
+    /// `AllocError` where it can't be allocated. Nothing is then changed.
     pub(crate) fn push(&mut self, comment: BufferedComment<'a>) -> Result<(), AllocError>
         ensures ok { OnOk result (self.new ≡ self.old ++ comment.entry ∷ []) }
         ensures err { OnErr result (self.new ≡ self.old) }
@@ -217,7 +217,7 @@ impl<'a> SharedComments<'a> {
     ///
     /// # Errors
     ///
-    /// `AllocError` where there is no memory for them. Nothing is then changed.
+    /// `AllocError` where allocation fails for them. Nothing is then changed.
     pub(crate) fn append(&mut self, others: &mut Vec<BufferedComment<'a>>) -> Result<(), AllocError>
         ensures ok { OnOk result (self.new ≡ self.old ++ others.old.items) }
         ensures err { OnErr result (self.new ≡ self.old) }
@@ -231,7 +231,7 @@ impl<'a> SharedComments<'a> {
     ///
     /// # Errors
     ///
-    /// `AllocError` where there is no memory for them.
+    /// `AllocError` where allocation fails for them.
     pub(crate) fn copy(&self) -> Result<SharedComments<'a>, AllocError>
         ensures { IfOk result (λ copy. copy ≡ self.now) }
     {

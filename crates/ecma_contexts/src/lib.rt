@@ -1,4 +1,4 @@
-//! What encloses the place that is read: a stack of contexts, and how a token changes it.
+//! The stack of contexts: what encloses the place that is read.
 //!
 //! `token_contexts.rt` has the stack (two contexts in a byte by `context_pair.rt`, of which copies share the outer
 //! ones: `pair_stack.rt`), and `transition.rt` how a token changes it.

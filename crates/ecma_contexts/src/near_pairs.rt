@@ -4,7 +4,7 @@ ghost use Rattle.std.specs.Prelude.{◌≡◌, ◌+◌, ◌<◌, ◌≤◌, ◌=
 use crate::context_pair::ContextPair;
 use std::marker::Model;
 
-/// How many pairs stand in the value itself.
+/// How many pairs are in the value itself.
 pub(crate) const MOST_NEAR: usize = 63;
 
 /// At most 63 pairs, the innermost last, in the value itself.

@@ -34,7 +34,7 @@ impl Model for PairStack {
 ///
 /// # Errors
 ///
-/// `AllocError` where there is no memory for them. Nothing is then changed.
+/// `AllocError` where allocation fails for them. Nothing is then changed.
 #[inline(never)]
 fn move_out(
     alloc: Global,
@@ -101,7 +101,7 @@ impl PairStack {
     ///
     /// # Errors
     ///
-    /// `AllocError` where there is no memory for it. Nothing is then changed.
+    /// `AllocError` where it can't be allocated. Nothing is then changed.
     #[inline(always)]
     pub(crate) fn push(&mut self, pair: ContextPair) -> Result<(), AllocError>
         ensures ok { OnOk result (self.new ≡ self.old ++ pair ∷ []) }

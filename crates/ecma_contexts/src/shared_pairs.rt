@@ -52,7 +52,7 @@ fn list_of(
     Ok(Arc::new(alloc, list)?)
 }
 
-/// Whether the list has no other owner. Then pairs are put behind its first `len`, in place of those that stand there;
+/// Whether the list has no other owner. Then pairs are put behind its first `len`, in place of those that are there;
 /// where that is refused those first ones stay.
 fn put_behind(
     list: &mut Arc<Vec<ContextPair>>,
@@ -122,7 +122,7 @@ impl SharedPairs {
     ///
     /// # Errors
     ///
-    /// `AllocError` where there is no memory for them, and where 2 to the 32nd would come together. Nothing is then changed.
+    /// `AllocError` where allocation fails for them, and where 2 to the 32nd would come together. Nothing is then changed.
     pub(crate) fn add(&mut self, alloc: Global, pairs: &[ContextPair]) -> Result<(), AllocError>
         ensures ok { OnOk result (self.new ≡ self.old ++ pairs.now) }
         ensures err { OnErr result (self.new ≡ self.old) }

@@ -111,7 +111,7 @@ impl TokenContexts {
     ///
     /// # Errors
     ///
-    /// `AllocError` where there is no memory for it. Nothing is then changed.
+    /// `AllocError` where it can't be allocated. Nothing is then changed.
     #[tactic(auto, using(crate::proofs::ContextPairLemmas::paired_length))]
     pub fn push(&mut self, context: TokenContext) -> Result<(), AllocError>
         ensures ok { OnOk result (self.new ≡ context ∷ self.old) }

@@ -239,7 +239,7 @@ impl Before {
     ///
     /// # Errors
     ///
-    /// `AllocError` where there is no memory for one more context. The contexts are then unchanged.
+    /// `AllocError` where allocation fails for one more context. The contexts are then unchanged.
     pub fn turn_keyword(
         self,
         contexts: &mut TokenContexts,
@@ -267,7 +267,7 @@ impl Before {
     ///
     /// # Errors
     ///
-    /// `AllocError` where there is no memory for one more context. The contexts are then unchanged.
+    /// `AllocError` where allocation fails for one more context. The contexts are then unchanged.
     #[tactic(auto, unfolding(crate::specs::Transition::transition))]
     pub fn turn(
         self,

@@ -1,9 +1,9 @@
-//! Drives of a lexer: `COUNT SEED` plays so many lists of steps, each over a text that a number gives, with a lexer that goes
-//! back to copies and one that goes back to checkpoints, and writes how many differ.
+//! Random lists of steps, by copies and by checkpoints: `COUNT SEED` plays so many, each over a text that a number
+//! gives, and writes how many differ.
 //!
-//! `drive` and `act` play random lists of steps over texts that are hard to read (`text`), with a lexer that goes
-//! back to copies and one that goes back to checkpoints (`sides`), and compare all that the two answer, show and
-//! have. The gate plays 300 drives, `bench/going_back` many.
+//! `drive` and `act` play random lists of steps over texts that are hard to read (`text`), with a lexer that goes back
+//! to copies and one that goes back to checkpoints (`sides`), and compare all that the two return, show and have. The
+//! gate plays 300 drives, `bench/going_back` many.
 #![tactic(auto)]
 
 mod act;

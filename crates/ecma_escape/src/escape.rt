@@ -51,7 +51,7 @@ pub enum Refusal {
     Octal,
 }
 
-/// What an escape stands for.
+/// What an escape means.
 #[derive(Clone, Copy)]
 pub enum Meaning {
     /// Nothing: a line terminator that is passed over.
@@ -78,7 +78,7 @@ fn is_at_digit(input: &StringInput, radix: u32) -> bool
     }
 }
 
-/// Moves behind the digits at the cursor, but not behind more than `most`, and answers them.
+/// Moves behind the digits at the cursor, but not behind more than `most`, and returns them.
 #[tactic(auto, using(crate::proofs::EscapeReading::digit_fronts))]
 fn some_digits<'a>(input: &mut StringInput<'a>, radix: u32, most: u32) -> &'a str
     requires lower { 2 ≤ radix }
@@ -95,7 +95,7 @@ fn some_digits<'a>(input: &mut StringInput<'a>, radix: u32, most: u32) -> &'a st
     input.slice(start, input.cur_pos())
 }
 
-/// Moves behind the hexadecimal digits at the cursor, and answers them.
+/// Moves behind the hexadecimal digits at the cursor, and returns them.
 #[tactic(auto, using(crate::proofs::EscapeReading::hex_runs))]
 fn hex_run<'a>(input: &mut StringInput<'a>) -> &'a str
     ensures text { result.now ≡ escapes.hex_front (rest input.old) }
@@ -199,7 +199,7 @@ fn unicode_escape(input: &mut StringInput) -> Meaning
     }
 }
 
-/// Moves behind the octal digits at the cursor, at most three and as long as their value is below 256, and answers
+/// Moves behind the octal digits at the cursor, at most three and as long as their value is below 256, and returns
 /// the character of that value.
 fn octal_character(input: &mut StringInput, first: char) -> char
     requires first { slice_get (rest input.old) 0 ≡ Some first }
@@ -253,7 +253,7 @@ fn skip_line_end(input: &mut StringInput, first: char)
     }
 }
 
-/// What a character stands for behind a backslash.
+/// What a character behind a backslash means.
 fn single_value(c: char) -> char
     ensures { result ≡ escapes.single_value c }
 {
@@ -299,7 +299,7 @@ fn is_word(within: Use) -> bool
     matches!(within, Use::InWord)
 }
 
-/// Moves behind the escape at the cursor, and answers what it stands for.
+/// Moves behind the escape at the cursor, and returns what it means.
 ///
 /// A backslash is at the cursor. Nothing is allocated.
 pub fn read_escape(input: &mut StringInput, within: Use) -> Meaning
@@ -384,7 +384,7 @@ pub(crate) fn refusal_error<'a>(
     Error::new(alloc, span, refusal_kind(refusal))
 }
 
-/// Adds what an escape stands for, which is written so. An escape that stands for nothing does not allocate.
+/// Adds what an escape means, which is written so. An escape with an empty meaning does not allocate.
 pub fn push_value(text: &mut String, answer: Meaning, spelling: &str) -> Result<(), AllocError>
     ensures text { OnOk result (string_bytes text.new ≡ string_bytes text.old ++ answer_value spelling.now answer) }
     ensures free { answer ≡ Nothing → IsOk result }
@@ -415,10 +415,10 @@ fn push_octal_fault<'a>(
     Ok(())
 }
 
-/// Moves behind the escape at the cursor. What it stands for is added to the text, and what is wrong with it to the
-/// faults; the error of one that is refused is answered.
+/// Moves behind the escape at the cursor. What it means is added to the text, and what is wrong with it to the
+/// faults; it returns the error of one that is refused.
 ///
-/// A backslash is at the cursor, in a string or a template. An escape that stands for nothing does not allocate.
+/// A backslash is at the cursor, in a string or a template. An escape with an empty meaning does not allocate.
 pub fn push_escape<'a>(
     alloc: Global,
     input: &mut StringInput<'a>,
@@ -476,16 +476,16 @@ fn use_in(in_template: bool) -> Use
 /// Reads the escape at the cursor (ECMA-262 EscapeSequence, 12.9.4, with LegacyOctalEscapeSequence of Annex B), in a
 /// string or in a template.
 ///
-/// A backslash is at the cursor. The value is the text that the escape stands for: nothing for a line terminator,
+/// A backslash is at the cursor. The value is the text that the escape means: nothing for a line terminator,
 /// and for a surrogate, which is no character, all that is written of the escape (our own choice). An octal escape in
 /// a string is a fault of strict code. A refused escape is read up to where reading goes on: `\x` without two
 /// hexadecimal digits and `\u` without four, or without one to 10FFFF in braces, up to behind the digits that are
 /// there, an octal escape in a template up to behind its first digit, a backslash that ends the text with nothing more.
-/// An escape that stands for nothing does not allocate.
+/// An escape with an empty meaning does not allocate.
 ///
 /// # Errors
 ///
-/// `AllocError` where there is no memory for the value or an error; the cursor is then where it was.
+/// `AllocError` where allocation fails for the value or an error; the cursor is then where it was.
 pub fn scan_escape<'a>(
     alloc: Global,
     input: &mut StringInput<'a>,

@@ -47,7 +47,7 @@ fn pass_part_characters(input: &mut StringInput)
     }
 }
 
-/// Moves behind the part characters at the cursor, and answers their text.
+/// Moves behind the part characters at the cursor, and returns their text.
 #[tactic(auto, using(ecma_place::proofs::ClassLemmas::word_runs))]
 #[inline(always)]
 pub(crate) fn part_characters<'a>(input: &mut StringInput<'a>) -> &'a str
@@ -63,7 +63,7 @@ pub(crate) fn part_characters<'a>(input: &mut StringInput<'a>) -> &'a str
     input.slice(start, input.cur_pos())
 }
 
-/// Whether what an escape stands for is a character that may be named here: a start character as the first of a word,
+/// Whether what an escape means is a character that may be named here: a start character as the first of a word,
 /// a part character later.
 fn is_named(is_first: bool, answer: Meaning) -> bool
     ensures { result ≡ is_named is_first answer }
@@ -102,8 +102,8 @@ fn push_name_fault<'a>(
     )
 }
 
-/// Moves behind the escape at the cursor. What it stands for is added to the text, and what is wrong with it to the
-/// faults; the error of one that is refused is answered.
+/// Moves behind the escape at the cursor. What it means is added to the text, and what is wrong with it to the
+/// faults; it returns the error of one that is refused.
 ///
 /// A backslash is at the cursor.
 fn push_name_escape<'a>(
@@ -138,7 +138,7 @@ fn push_name_escape<'a>(
     Ok(None)
 }
 
-/// Moves behind the pieces of a name at the cursor, and answers their text behind `before`, or the error of a refused
+/// Moves behind the pieces of a name at the cursor, and returns their text behind `before`, or the error of a refused
 /// escape. No part character is at the cursor; `is_first` says that nothing of the name comes before it.
 fn escaped_name<'a>(
     alloc: Global,
@@ -166,7 +166,7 @@ fn escaped_name<'a>(
     Ok(Ok(text))
 }
 
-/// Moves behind the name at the cursor, and answers its text: a slice where it holds no escape, which does not allocate.
+/// Moves behind the name at the cursor, and returns its text: a slice where it holds no escape, which does not allocate.
 fn name_text<'a>(
     alloc: Global,
     input: &mut StringInput<'a>,

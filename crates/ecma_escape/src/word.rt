@@ -88,7 +88,7 @@ fn word_of_name<'a>(
 }
 
 // The kind of the word at the cursor, where it has fewer than 16 bytes, all of them ASCII, and an ASCII character that is no
-// backslash stands behind them: it is passed. Else the cursor stays.
+// backslash is behind them: it is passed. Else the cursor stays.
 #[inline(always)]
 fn eat_short_kind(input: &mut StringInput) -> Option<WordKind>
     ensures kind { IfSome result (λ k. k ≡ word_kind (word_of (encode_utf8_all (take_while is_ident_part (rest input.old))))) }
@@ -110,7 +110,7 @@ fn eat_short_kind(input: &mut StringInput) -> Option<WordKind>
     Some(kind)
 }
 
-// The same for any word: where a backslash stands behind the part characters, which are passed, there is no answer.
+// The same for any word: where a backslash is behind the part characters, which are passed, it returns `None`.
 #[inline(never)]
 fn eat_long_kind(input: &mut StringInput) -> Option<WordKind>
     ensures kind { IfSome result (λ k. k ≡ word_kind (word_of (encode_utf8_all (take_while is_ident_part (rest input.old))))) }
@@ -126,10 +126,10 @@ fn eat_long_kind(input: &mut StringInput) -> Option<WordKind>
     Some(Word::kind_of(text))
 }
 
-/// Moves behind the word at the cursor, where it is written with no escape, and answers its kind: that of the row of the
+/// Moves behind the word at the cursor, where it is written with no escape, and returns its kind: that of the row of the
 /// table of words for the part characters that are there, which are passed, and are all of the word.
 ///
-/// Where a backslash follows them there is no answer. Nothing is allocated. Our own, for speed.
+/// Where a backslash follows them it returns `None`. Nothing is allocated. Our own, for speed.
 #[inline(always)]
 pub fn eat_plain_kind(input: &mut StringInput) -> Option<WordKind>
     ensures kind { IfSome result (λ k. k ≡ word_kind (word_of (encode_utf8_all (take_while is_ident_part (rest input.old))))) }
@@ -144,10 +144,10 @@ pub fn eat_plain_kind(input: &mut StringInput) -> Option<WordKind>
     eat_long_kind(input)
 }
 
-/// Moves behind the word at the cursor, where it is written with no escape, and answers it: what [`scan_word`] finds, without
+/// Moves behind the word at the cursor, where it is written with no escape, and returns it: what [`scan_word`] finds, without
 /// its extent. It is the row of the table of words for the part characters that are there, which are passed.
 ///
-/// Where a backslash follows them there is no answer. Nothing is allocated. Our own, for speed.
+/// Where a backslash follows them it returns `None`. Nothing is allocated. Our own, for speed.
 #[inline(always)]
 pub fn eat_plain_word<'a>(input: &mut StringInput<'a>) -> Option<Word<'a>>
     ensures word { IfSome result (λ w. (context : Context) →
@@ -199,7 +199,7 @@ fn word_at<'a>(
 ///
 /// # Errors
 ///
-/// `AllocError` where there is no memory for the text or an error; the cursor is then where it was.
+/// `AllocError` where allocation fails for the text or an error; the cursor is then where it was.
 pub fn scan_word<'a>(
     alloc: Global,
     input: &mut StringInput<'a>,

@@ -1,6 +1,6 @@
-//! Reads a text from standard input and writes where each of its identifiers is: how a program uses the layer, and no more.
+//! Where the identifiers of a text are: how a program uses the layer, and no more.
 //!
-//! It is the program of docs/GUIDE.md.
+//! It is the first program of docs/GUIDE.md; it reads standard input.
 #![tactic(auto)]
 
 use ecma_lexer::place::{BytePos, StringInput};

@@ -43,7 +43,7 @@ pub struct Found<'a> {
 ///
 /// # Errors
 ///
-/// `AllocError` where there is no memory; those of the errors that were added before stay.
+/// `AllocError` where allocation fails; those of the errors that were added before stay.
 fn push_all<'a>(
     found: &mut Vec<Found<'a>>,
     origin: Origin,
@@ -61,7 +61,7 @@ fn push_all<'a>(
 ///
 /// # Errors
 ///
-/// `AllocError` where there is no memory; the order is then as before.
+/// `AllocError` where allocation fails; the order is then as before.
 fn sort_by_place<'a>(found: &mut Vec<Found<'a>>) -> Result<(), AllocError>
     ensures ok { OnOk result (IsByPlace (map faults.view found.old.items) (map faults.view found.new.items)) }
     ensures err { OnErr result (found.new.items ≡ found.old.items) }
@@ -75,7 +75,7 @@ fn sort_by_place<'a>(found: &mut Vec<Found<'a>>) -> Result<(), AllocError>
 ///
 /// # Errors
 ///
-/// `AllocError` where there is no memory.
+/// `AllocError` where allocation fails.
 pub fn in_order<'a>(
     alloc: Global,
     tokens: Vec<Error<'a>>,

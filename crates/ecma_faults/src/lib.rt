@@ -1,7 +1,8 @@
-//! The errors of a text in order of place, whether they are tokens, were recorded, or wait until the code is known to be a module.
+//! The errors of a text in order.
 //!
-//! `found.rt` has an error with where it comes from, and [`in_order`], which moves errors into one list, sorted by the place where
-//! they begin.
+//! [`in_order`] moves errors that are tokens, those that were recorded, and those that wait until the code is known to
+//! be a module into one list. Promised: it is sorted by the place where they begin; those of one place are in the order
+//! above. `found.rt` has an error with where it comes from.
 #![tactic(auto)]
 
 mod found;

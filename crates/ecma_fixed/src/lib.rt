@@ -1,4 +1,4 @@
-//! The errors that hold nothing.
+//! The parser's fixed errors: those that hold nothing.
 #![tactic(auto)]
 
 pub mod fixed;

@@ -1,4 +1,5 @@
-//! Laws of the canonical texts of texts that are read to their end with no parser above, by the lexer's own flag or by roles.
+//! Laws of canonical texts without a parser: of texts that are read to their end by the lexer's own flag, by roles, or
+//! by numbers of tokens.
 #![tactic(auto)]
 
 pub mod laws;

@@ -70,7 +70,7 @@ fn read_bars<'a>(
 ///
 /// # Errors
 ///
-/// `AllocError` where there is no memory for a fault, a comment or the error; the cursor is then where it
+/// `AllocError` where allocation fails for a fault, a comment or the error; the cursor is then where it
 /// was.
 pub fn scan_bars<'a>(
     alloc: Global,

@@ -51,7 +51,7 @@ fn may_begin(input: &StringInput, flag: bool, b: u8) -> bool
     }
 }
 
-/// What is answered at a cursor behind white space: nothing where another element may begin there, at the end, and before a
+/// What is returned at a cursor behind white space: `None` where another element may begin there, at the end, and before a
 /// character that isn't ASCII.
 #[inline(always)]
 pub(crate) fn told_at(input: &StringInput, line_break: bool) -> Option<BlankGap>
@@ -63,12 +63,12 @@ pub(crate) fn told_at(input: &StringInput, line_break: bool) -> Option<BlankGap>
     }
 }
 
-/// Passes the gap at the cursor, where there is nothing to report of it but the flag, and answers that; `first` says that no
+/// Passes the gap at the cursor, where there is nothing to report of it but the flag, and returns that; `first` says that no
 /// token came before, `collect` that comments are collected. [`scan_gap`](crate::scan_gap) finds the same where white space
 /// may be passed.
 ///
 /// Such a gap is white space, and where comments are not collected, line comments and closed block comments. Where another
-/// element may come behind it, at the end, and before a character that isn't ASCII, there is no answer, and the cursor
+/// element may come behind it, at the end, and before a character that isn't ASCII, it returns `None`, and the cursor
 /// is somewhere ahead; where comments are collected, behind the white space. Nothing is allocated.
 #[inline(always)]
 pub fn scan_blank_gap(input: &mut StringInput, first: bool, collect: bool) -> Option<BlankGap>

@@ -42,7 +42,7 @@ pub(crate) fn skip_body(input: &mut StringInput) -> bool
     terminator
 }
 
-/// Moves to the first `*/` or the end, and answers the text that was passed, and whether it holds a line terminator.
+/// Moves to the first `*/` or the end, and returns the text that was passed, and whether it holds a line terminator.
 #[tactic(auto, using(crate::proofs::BodyLemmas::body_texts))]
 pub(crate) fn read_body<'a>(input: &mut StringInput<'a>) -> (&'a str, bool)
     ensures text { result.0.now ≡ encode_utf8_all (gaps.body_before (rest input.old)) }

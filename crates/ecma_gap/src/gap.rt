@@ -73,7 +73,7 @@ fn read_elements<'a>(
 ///
 /// # Errors
 ///
-/// `AllocError` where there is no memory for a fault or a comment; the cursor is then where it was.
+/// `AllocError` where allocation fails for a fault or a comment; the cursor is then where it was.
 pub fn scan_gap<'a>(
     alloc: Global,
     input: &mut StringInput<'a>,

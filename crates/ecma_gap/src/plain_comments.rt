@@ -25,8 +25,8 @@ fn pass_line_comment(input: &mut StringInput)
     let _ = read_line(input);
 }
 
-/// Passes the block comment at the cursor (ECMA-262 MultiLineComment, 12.4), and answers whether it holds a line
-/// terminator; nothing is answered where nothing ends it, and the cursor is then at the end.
+/// Passes the block comment at the cursor (ECMA-262 MultiLineComment, 12.4), and returns whether it holds a line
+/// terminator; it returns `None` where nothing ends it, and the cursor is then at the end.
 fn pass_block_comment(input: &mut StringInput) -> Option<bool>
     requires opening { begins_with (codes "/*") (rest input.old) ≡ true }
     requires stands { next_passes is_white_space (rest input.old) ≡ false }
@@ -44,7 +44,7 @@ fn pass_block_comment(input: &mut StringInput) -> Option<bool>
     }
 }
 
-/// Passes the comment at the cursor, and answers whether it holds a line terminator. Nothing is answered where there is none,
+/// Passes the comment at the cursor, and returns whether it holds a line terminator. It returns `None` where there is none,
 /// and where nothing ends it: the cursor is then at the end.
 fn pass_comment(input: &mut StringInput) -> Option<bool>
     requires { next_passes is_white_space (rest input.old) ≡ false }
@@ -62,7 +62,7 @@ fn pass_comment(input: &mut StringInput) -> Option<bool>
     }
 }
 
-/// Passes the comments at the cursor and the white space behind each, and answers what is to be reported of them, as
+/// Passes the comments at the cursor and the white space behind each, and returns what is to be reported of them, as
 /// [`scan_blank_gap`](crate::scan_blank_gap) does; `flag` says whether a line terminator comes before them, or no token.
 #[inline(never)]
 pub(crate) fn pass_comments(input: &mut StringInput, flag: bool) -> Option<BlankGap>

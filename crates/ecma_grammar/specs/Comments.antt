@@ -55,7 +55,7 @@ abbrev pub can_trail_block : Option TokenKind → Bool
 can_trail_block None = false
 can_trail_block (Some kind) = can_have_trailing_comment kind
 
--- A comment is for the next token where the flag stands at its start, or where it can't be the previous token's.
+-- A comment belongs to the token ahead if the flag is set where it begins, or if the token before can have none.
 -- A block comment before a semicolon never is.
 abbrev pub is_for_next : Option TokenKind → Bool → Bool → CommentKind → Bool
 is_for_next prev flag semicolon Line = flag || not (can_trail_line prev)

@@ -110,7 +110,7 @@ gap_cutter mode = record { read = element mode; spelling = element_text; next = 
 abbrev pub elements : GapMode → Text → List Element
 elements mode text = pieces (gap_cutter mode) mode.first text
 
--- where space is kept the gap is empty, or begins with an HTML-like comment or a marker
+-- where space is kept, a gap that is not empty has a marker or an HTML-like comment in front
 abbrev pub elements_if : Option Element → GapMode → Text → List Element
 elements_if None mode text = []
 elements_if (Some e) mode text = elements mode text
@@ -201,7 +201,7 @@ is_inert c = not (((((is_white_space c || c == 47) || c == 60) || c == 45) || c 
 
 -- The same by rules, one for each element
 
--- characters that are no line terminators, as many as there are before the rest
+-- all characters up to the line terminator with which the rest begins, or up to the end
 abbrev pub IsLine : Text → Text → Type 0
 IsLine line rest = (list_all in_line line ≡ true) × (next_passes in_line rest ≡ false)
 

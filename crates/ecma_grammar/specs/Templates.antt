@@ -126,7 +126,7 @@ abbrev pub template_end : Text → TemplateEnd
 template_end [] = AtEnd
 template_end (c ∷ cs) = if c == 96 then AtBackQuote else AtDollarBrace
 
--- a line terminator that is a piece of its own is a line break, also where the text is refused
+-- a piece that is a bare line terminator makes a line break, whether the text is refused or not
 abbrev pub found_text : Result TokenView ErrorView → List TemplatePiece → Scanned TokenView
 found_text value ps = record { value = value; faults = []; spelling = raw_text ps; line_break = list_any is_break ps }
 

@@ -4,7 +4,7 @@ use ecma_token::TokenKind;
 /// What the reading of a gap goes by, beside the text.
 #[derive(Debug, Clone, Copy, PartialEq, Eq)]
 pub struct GapMode {
-    /// Whether no token but a shebang was given.
+    /// Whether no token but a shebang was read.
     pub first: bool,
     /// Whether `<` and `>` are read as in types.
     pub type_mode: bool,

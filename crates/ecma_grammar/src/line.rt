@@ -5,7 +5,7 @@ ghost use Rattle.ecma_grammar.specs.Fronts as fronts;
 
 use ecma_place::{ByteClass, CharExt, StringInput};
 
-/// Moves behind the line at the cursor, before its line terminator or the end, and answers its text.
+/// Moves behind the line at the cursor, before its line terminator or the end, and returns its text.
 #[tactic(auto, using(crate::proofs::LineLemmas::lines))]
 pub fn read_line<'a>(input: &mut StringInput<'a>) -> &'a str
     ensures text { result.now ≡ encode_utf8_all (fronts.line (rest input.old)) }

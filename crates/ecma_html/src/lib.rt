@@ -1,8 +1,8 @@
-//! A text as HTML: its bytes, each token and comment in a span that says what it is.
+//! A text as HTML: its bytes, each token and comment in a span that names its class.
 //!
-//! [`html_text`] is the whole of it: one call from a text to its markup. `class.rt` has the classes of tokens,
-//! `markup.rt` a text with spans over pieces that cover it, `text.rt` the whole of a text. `specs/Styles.antt` says
-//! which piece has which class, `Markup.antt` what is written, `Unmark.antt` what a reader of HTML makes of it;
+//! Call [`html_text`], from a text to its markup. Promised: what a browser shows of the markup is the text, with U+FFFD
+//! for NUL. `markup.rt` writes a text with spans over pieces that cover it, `text.rt` a whole text. `ecma_styles/specs/Styles.antt`
+//! says which piece has which class, `Markup.antt` what is written, `Unmark.antt` what a reader of HTML makes of it;
 //! `proofs/MarkupLemmas.antt` that this is the text.
 #![tactic(auto)]
 

@@ -105,7 +105,7 @@ fn push_pieces(
 ///
 /// # Errors
 ///
-/// `AllocError` where there is no memory.
+/// `AllocError` where allocation fails.
 pub fn html(
     alloc: Global,
     source: &str,

@@ -25,7 +25,7 @@ use std::alloc::{AllocError, Global};
 ///
 /// # Errors
 ///
-/// `AllocError` where there is no memory.
+/// `AllocError` where allocation fails.
 pub fn html_of_gathered(
     alloc: Global,
     source: &str,
@@ -48,7 +48,7 @@ pub fn html_of_gathered(
 ///
 /// # Errors
 ///
-/// `AllocError` where there is no memory.
+/// `AllocError` where allocation fails.
 pub fn html_of_steps(
     alloc: Global,
     settings: &Settings,
@@ -68,7 +68,7 @@ pub fn html_of_steps(
 ///
 /// # Errors
 ///
-/// `AllocError` where there is no memory.
+/// `AllocError` where allocation fails.
 pub fn html_text(
     alloc: Global,
     settings: &Settings,

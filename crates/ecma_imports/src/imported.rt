@@ -43,7 +43,7 @@ fn told(stage: Stage, part: Part) -> Option<Form>
 ///
 /// # Errors
 ///
-/// `AllocError` where there is no memory.
+/// `AllocError` where allocation fails.
 pub fn specifiers(alloc: Global, kept: &[Kept]) -> Result<Vec<Specifier>, AllocError>
     ensures { IfOk result (λ v. v.items ≡ specifiers_of kept.now) }
 {

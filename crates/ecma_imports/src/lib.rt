@@ -1,8 +1,8 @@
-//! What a text imports: the strings that name modules, read off its tokens.
+//! Lines of a text's imports: the strings that name modules, found by its tokens.
 //!
-//! [`imports_text`] is the whole of it. `stage.rt` has the table of stages (`specs/Stages.antt`): what each kind of
-//! token is to an import, and where that leads; `imported.rt` goes through tokens by it, and needs no lexer;
-//! `lines.rt` has the lines of a text.
+//! Call [`imports_text`]. `stage.rt` has the table of stages (`specs/Stages.antt`): what each kind of token is to an
+//! import, and where that leads; `imported.rt` goes through tokens by it, and needs no lexer; `lines.rt` has the lines
+//! of a text.
 #![tactic(auto)]
 
 mod imported;

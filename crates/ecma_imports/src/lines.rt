@@ -52,7 +52,7 @@ fn push_line(out: &mut Vec<u8>, bytes: &[u8], specifier: Specifier) -> Result<()
 ///
 /// # Errors
 ///
-/// `AllocError` where there is no memory.
+/// `AllocError` where allocation fails.
 pub fn specifier_lines(
     alloc: Global,
     bytes: &[u8],
@@ -81,7 +81,7 @@ fn imports_of_kept(alloc: Global, source: &str, kept: &[Kept]) -> Result<Vec<u8>
 ///
 /// # Errors
 ///
-/// `AllocError` where there is no memory.
+/// `AllocError` where allocation fails.
 pub fn imports_of_steps(
     alloc: Global,
     settings: &Settings,
@@ -99,7 +99,7 @@ pub fn imports_of_steps(
 ///
 /// # Errors
 ///
-/// `AllocError` where there is no memory.
+/// `AllocError` where allocation fails.
 pub fn imports_text(
     alloc: Global,
     settings: &Settings,

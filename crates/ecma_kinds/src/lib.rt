@@ -1,7 +1,7 @@
 //! Kinds of tokens as numbers.
 //!
-//! `number.rt` has the one table of numbers of kinds (`specs/KindNumbers.antt`), and the law that they are told
-//! apart.
+//! `number.rt` has the one table of numbers of kinds (`specs/KindNumbers.antt`), and the law that different kinds have
+//! different numbers.
 #![tactic(auto)]
 
 pub mod laws;

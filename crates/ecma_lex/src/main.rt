@@ -1,4 +1,4 @@
-//! Reads a text from standard input, and writes what the words of the command line ask for.
+//! The program `ecma_lex`: reads a text from standard input, and writes what the words of the command line ask for.
 //!
 //! docs/COMMAND.md has its words, lines and statuses; its work is in `ecma_program`.
 #![tactic(auto)]

@@ -1,8 +1,9 @@
-//! The lexer layer: the lexer, lists of steps played over a text, and the laws of both.
+//! Facade of the lexer layer: the lexer, lists of steps, and the laws of both.
 //!
 //! Begin with [`tokenize`] for all tokens of a text, [`Reader`] for a loop over them, [`Lexer`] under a parser,
 //! [`replay`] for a list of steps, [`canonical`] for canonical texts, [`classes_of_steps`] for pieces that cover a
-//! text. The calls in `laws` do nothing: their contracts are what holds of every run (docs/GUARANTEES.md).
+//! text. docs/GUIDE.md has examples, docs/GUARANTEES.md what is promised of each call. The calls in `laws` do nothing:
+//! their contracts are what holds of every run.
 #![tactic(auto)]
 
 pub mod laws;

@@ -20,7 +20,7 @@ use ecma_token::{Error, SyntaxError, Token};
 use std::alloc::{AllocError, Global};
 use std::borrow::CowStr;
 
-/// Moves behind the backslash at the cursor and the character behind it, if that is no line terminator, and answers
+/// Moves behind the backslash at the cursor and the character behind it, if that is no line terminator, and returns
 /// whether it is none.
 fn skip_quoted(input: &mut StringInput) -> bool
     requires { slice_get (rest input.old) 0 ≡ Some 92 }
@@ -40,7 +40,7 @@ fn skip_quoted(input: &mut StringInput) -> bool
     }
 }
 
-/// Moves behind the letter of a class at the cursor, and answers whether there is one.
+/// Moves behind the letter of a class at the cursor, and returns whether there is one.
 fn skip_class_letter(input: &mut StringInput) -> bool
     ensures value { result ≡ is_some (expressions.class_letter (rest input.old)) }
     ensures moved { input.new ≡ passed (length (letter_if (expressions.class_letter (rest input.old)))) input.old }
@@ -67,7 +67,7 @@ fn skip_class(input: &mut StringInput)
     'letters: while skip_class_letter(input) {}
 }
 
-/// Moves behind the class whose bracket is at the cursor, and answers whether another closes it. Where none does,
+/// Moves behind the class whose bracket is at the cursor, and returns whether another closes it. Where none does,
 /// the cursor stays in its line.
 fn skip_bracketed(input: &mut StringInput) -> bool
     requires { slice_get (rest input.old) 0 ≡ Some 91 }
@@ -81,7 +81,7 @@ fn skip_bracketed(input: &mut StringInput) -> bool
     input.eat_byte(b']')
 }
 
-/// Moves behind the piece of a body at the cursor, and answers whether there is one. Where there is none, the cursor
+/// Moves behind the piece of a body at the cursor, and returns whether there is one. Where there is none, the cursor
 /// stays in its line, and at a slash where there is one.
 fn skip_piece(input: &mut StringInput) -> bool
     ensures value { result ≡ is_some (expressions.body_piece (rest input.old)) }
@@ -108,7 +108,7 @@ fn skip_piece(input: &mut StringInput) -> bool
     }
 }
 
-/// Moves to the slash that closes the body at the cursor, or, where none does, to the end of the line, and answers
+/// Moves to the slash that closes the body at the cursor, or, where none does, to the end of the line, and returns
 /// whether one does. Nothing is allocated.
 fn skip_body(input: &mut StringInput) -> bool
     ensures closed { result ≡ next_is 47 (remainder expressions.body_cutter tt (rest input.old)) }
@@ -226,7 +226,7 @@ fn expression_at<'a>(
 /// Reads the regular expression at the cursor (ECMA-262 RegularExpressionLiteral, 12.9.5), and moves behind it: the body
 /// between two slashes, and flags where a start character follows.
 ///
-/// The cursor is at a slash. The answer is a `Regex` with the body and the unescaped flags, or why it is refused:
+/// The cursor is at a slash. It returns a `Regex` with the body and the unescaped flags, or why it is refused:
 ///
 /// - `UnterminatedRegExp` over the expression, which then reaches up to a line terminator or the end;
 /// - the refusal of an escape in the flags.
@@ -238,7 +238,7 @@ fn expression_at<'a>(
 ///
 /// # Errors
 ///
-/// `AllocError` where there is no memory for the flags or an error; the cursor is then where it was.
+/// `AllocError` where allocation fails for the flags or an error; the cursor is then where it was.
 pub fn scan_regexp<'a>(
     alloc: Global,
     input: &mut StringInput<'a>,

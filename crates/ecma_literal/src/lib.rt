@@ -1,12 +1,12 @@
-//! Readers of strings, template texts and regular expressions.
+//! Readers of strings, templates, regular expressions.
 //!
-//! `string.rt` makes a text of its own only where an escape ends a plain run. `template/plain.rt` passes text of a
-//! template that means what is written, by runs of bytes; `template/survey.rt` passes the pieces of any such text and
-//! makes nothing, `cooked.rt` makes what they mean. `expression.rt` reads regular expressions, and their flags by
-//! `name.rt` of `ecma_escape`.
+//! `string.rt` makes an owned text only where an escape ends a plain run. `template/plain.rt` passes template text that
+//! means what is written, by runs of bytes; `template/survey.rt` passes the pieces of any such text and makes nothing,
+//! `cooked.rt` makes what they mean. `expression.rt` reads regular expressions, and their flags by `name.rt` of
+//! `ecma_escape`.
 //!
 //! `specs/WrittenTemplates.antt` and `WrittenExpressions.antt` say which pieces of a template's text and of a regular
-//! expression's body the reader's own records stand for.
+//! expression's body the reader's own records mean.
 #![tactic(auto)]
 
 pub mod expression;

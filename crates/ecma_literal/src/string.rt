@@ -18,7 +18,7 @@ use ecma_token::{Error, SyntaxError, Token};
 use std::alloc::{AllocError, Global};
 use std::simd::prelude::*;
 
-/// Moves behind the quote at the cursor, and answers which it is.
+/// Moves behind the quote at the cursor, and returns which it is.
 #[inline(always)]
 fn opening_quote(input: &mut StringInput) -> Quote
     requires { strings.opens_string (rest input.old) ≡ true }
@@ -70,7 +70,7 @@ fn pass_plain(input: &mut StringInput, quote: Quote)
     pass_long_run(input, quote);
 }
 
-/// Moves behind the characters at the cursor that a string in these quotes holds as they are, and answers their text.
+/// Moves behind the characters at the cursor that a string in these quotes holds as they are, and returns their text.
 #[tactic(auto, using(crate::proofs::PlainRuns::plain_runs))]
 fn plain_text<'a>(input: &mut StringInput<'a>, quote: Quote) -> &'a str
     ensures text { result.now ≡ encode_utf8_all (take (prefix_len (is_in_class (Plain quote)) (rest input.old)) (rest input.old)) }
@@ -81,8 +81,8 @@ fn plain_text<'a>(input: &mut StringInput<'a>, quote: Quote) -> &'a str
     input.slice(start, input.cur_pos())
 }
 
-/// Moves behind the pieces of a string at the cursor, and answers their text behind `before`, or the error of a
-/// refused escape. No character that stands for itself is at the cursor.
+/// Moves behind the pieces of a string at the cursor, and returns their text behind `before`, or the error of a
+/// refused escape. No character that is its own value is at the cursor.
 fn escaped_text<'a>(
     alloc: Global,
     input: &mut StringInput<'a>,
@@ -106,7 +106,7 @@ fn escaped_text<'a>(
     Ok(Ok(text))
 }
 
-/// Moves behind the pieces of a string, whose quote is just before the cursor, and answers their value: a slice where
+/// Moves behind the pieces of a string, whose quote is just before the cursor, and returns their value: a slice where
 /// they hold no escape, which does not allocate.
 fn string_value<'a>(
     alloc: Global,
@@ -157,7 +157,7 @@ fn close_string<'a>(
     )
 }
 
-/// Moves behind the string at the cursor, and answers its token, or the error of a refused escape.
+/// Moves behind the string at the cursor, and returns its token, or the error of a refused escape.
 fn string_token<'a>(
     alloc: Global,
     input: &mut StringInput<'a>,
@@ -193,7 +193,7 @@ fn string_token<'a>(
 ///
 /// # Errors
 ///
-/// `AllocError` where there is no memory for the value or an error; the cursor is then where it was.
+/// `AllocError` where allocation fails for the value or an error; the cursor is then where it was.
 pub fn scan_string<'a>(
     alloc: Global,
     input: &mut StringInput<'a>,
@@ -224,7 +224,7 @@ pub fn scan_string<'a>(
 /// Reads the string at the cursor (ECMA-262 StringLiteral, 12.9.4), and moves behind it, where it is closed and holds no
 /// escape: its token is what [`scan_string`] finds, with nothing else to report.
 ///
-/// The cursor is at a quote. Where the string holds an escape or is not closed there is no answer, and the cursor
+/// The cursor is at a quote. Where the string holds an escape or is not closed it returns `None`, and the cursor
 /// stays. Nothing is allocated: value and raw text borrow from the source. Our own, for speed.
 #[inline(always)]
 pub fn eat_plain_string<'a>(input: &mut StringInput<'a>) -> Option<Token<'a>>

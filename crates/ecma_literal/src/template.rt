@@ -30,7 +30,7 @@ fn is_at_mark(input: &StringInput) -> bool
     input.cur() == Some('`') || (input.cur() == Some('$') && input.peek() == Some('{'))
 }
 
-/// Moves behind the back quote or `${` at the cursor, and answers it.
+/// Moves behind the back quote or `${` at the cursor, and returns it.
 fn read_mark<'a>(input: &mut StringInput) -> Token<'a>
     requires { ends_template (rest input.old) ≡ true }
     ensures value { (templates.mark_of (templates.template_end (rest input.old))).value ≡ Ok (token_view result) }
@@ -99,9 +99,9 @@ fn scan_text<'a>(
 /// Reads what is at the cursor in a template (ECMA-262 TemplateCharacters, 12.9.6), and moves behind it: text up to
 /// a back quote, `${` or the end, or, where there is no text behind template text, the back quote or `${`.
 ///
-/// The cursor is not at the end. `opened` is the place of the last back quote that opened a template, or the
-/// lexer's start place, and not behind the cursor; `after_template` says that the last token was template text. The
-/// answer is a `Template`, a `BackQuote` or a `DollarLBrace`. An escape that is refused is the error that is in the
+/// The cursor is not at the end. `opened` is where a template was opened last, by its back quote, or, if none was, the
+/// lexer's start place, and not behind the cursor; `after_template` says that the last token was template text. It
+/// returns a `Template`, a `BackQuote` or a `DollarLBrace`. An escape that is refused is the error that is in the
 /// `Template` for what the text means, the last one where there are several. Text that meets the end is refused with
 /// `UnterminatedTpl`, from `opened` to the end: our own choice. There are no faults. The flag says whether a line
 /// terminator is in the text outside an escape.
@@ -110,7 +110,7 @@ fn scan_text<'a>(
 ///
 /// # Errors
 ///
-/// `AllocError` where there is no memory for what the text means or an error; the cursor is then where it was.
+/// `AllocError` where allocation fails for what the text means or an error; the cursor is then where it was.
 pub fn scan_template<'a>(
     alloc: Global,
     input: &mut StringInput<'a>,

@@ -1,7 +1,8 @@
-//! How tokens and errors look in a terminal.
+//! Colours and marks of a text in a terminal.
 //!
-//! `parts.rt` gives the pieces of a text the colours of their classes, `marks.rt` each error a mark with its line, its column and
-//! its message, and `shown.rt` has `ecma_show` show both.
+//! `parts.rt` gives the pieces of a text the colours of their classes, `marks.rt` each error a mark with its line, its
+//! column and its message, and `shown.rt` has `ecma_show` show both. Promised: the parts of `parts_of` are the text
+//! where the pieces are, and `marks_of` has a mark for each error.
 #![tactic(auto)]
 
 mod marks;

@@ -30,7 +30,7 @@ fn mark_of(alloc: Global, position: Position, error: &Error) -> Result<Mark, All
 ///
 /// # Errors
 ///
-/// `AllocError` where there is no memory.
+/// `AllocError` where allocation fails.
 pub fn marks_of(alloc: Global, text: &str, found: &[Found]) -> Result<Vec<Mark>, AllocError>
     ensures { IfOk result (λ all. map marks.mark_view all.items ≡ marks.marks_seen text.now (map view found.now)) }
 {

@@ -41,7 +41,7 @@ fn colour_of_style(style: Option<Class>) -> Option<Colour>
 ///
 /// # Errors
 ///
-/// `AllocError` where there is no memory.
+/// `AllocError` where allocation fails.
 pub fn parts_of(
     alloc: Global,
     classes: &[Option<Class>],

@@ -1,8 +1,9 @@
-//! What the program that measures writes of a text: the number of its tokens, or the speed at which they are read, and the
-//! words that ask for them.
+//! The work of `ecma_bench`.
 //!
 //! It counts the tokens of a text (`count`), or measures how fast they are read (`timing`, also with saves: `saving`;
-//! `speed`). `bench/compare` runs its program and the upstream lexer in turn; docs/PERF.md has the figures.
+//! `speed`). Promised: `run` with `count` writes the number of kept tokens and bytes, or a fault's line; with `time` it
+//! is safe and returns. It has a program of its own, so that figures are of the lexer without lines. `bench/compare`
+//! runs its program and the upstream lexer in turn; docs/PERF.md has the figures.
 #![tactic(auto)]
 
 mod command;

@@ -258,7 +258,7 @@ impl Calls {
     ///
     /// # Errors
     ///
-    /// `AllocError` where there is no memory for it. Nothing is then changed.
+    /// `AllocError` where it can't be allocated. Nothing is then changed.
     pub(crate) fn push(&mut self, call: Call) -> Result<(), AllocError>
         ensures ok { OnOk result (self.new ≡ call ∷ self.old) }
         ensures err { OnErr result (self.new ≡ self.old) }

@@ -146,7 +146,7 @@ impl Gathering {
 ///
 /// # Errors
 ///
-/// `AllocError` where there is no memory.
+/// `AllocError` where allocation fails.
 pub fn module_of(alloc: Global, options: ModuleOptions, kept: &[Kept]) -> Result<Module, AllocError>
     ensures imports { IfOk result (λ m. m.imports.items ≡ modules.imports_of options kept.now) }
     ensures exports { IfOk result (λ m. m.exports.items ≡ modules.exports_of options kept.now) }

@@ -54,7 +54,7 @@ impl Scan {
     ///
     /// # Errors
     ///
-    /// `AllocError` where there is no memory for the call that begins. The machine is then unchanged.
+    /// `AllocError` where allocation fails for the call that begins. The machine is then unchanged.
     pub fn step(&mut self, token: &Kept) -> Result<Told, AllocError>
         ensures scan { OnOk result (self.new ≡ scans.scanned self.old token.now) }
         ensures told { IfOk result (λ told. told ≡ scans.told self.old token.now) }

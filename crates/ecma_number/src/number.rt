@@ -70,7 +70,7 @@ fn found_number<'a>(
 /// Reads the number at the cursor (ECMA-262 NumericLiteral, 12.9.3, with the legacy forms), and moves behind it.
 ///
 /// The cursor is at a digit, or at a point and a digit. `ts1085` says that a legacy octal is reported as TypeScript
-/// does, and `rule` which rule numbers are read by. The answer is a `Num` or a `BigInt`, or why the number is refused:
+/// does, and `rule` which rule numbers are read by. It returns a `Num` or a `BigInt`, or why the number is refused:
 ///
 /// - `ExpectedDigit` over the run of a radix or an exponent that has no digit;
 /// - `NumLitTerminatedWithExp`, empty behind a mark of an exponent that ends the text;
@@ -86,7 +86,7 @@ fn found_number<'a>(
 ///
 /// # Errors
 ///
-/// `AllocError` where there is no memory for digits or an error; the cursor is then where it was.
+/// `AllocError` where allocation fails for digits or an error; the cursor is then where it was.
 pub fn scan_number<'a>(
     alloc: Global,
     input: &mut StringInput<'a>,

@@ -15,7 +15,7 @@ use std::alloc::{AllocError, Global};
 ///
 /// # Errors
 ///
-/// `AllocError` where there is no memory.
+/// `AllocError` where allocation fails.
 pub fn begin<'a>(
     alloc: Global,
     comments: bool,
@@ -36,7 +36,7 @@ pub fn begin<'a>(
 ///
 /// # Errors
 ///
-/// `AllocError` where there is no memory; each later read answers the same.
+/// `AllocError` where allocation fails; each later read returns the same.
 #[inline(always)]
 pub fn pass_next(lexer: &mut Lexer) -> Result<bool, AllocError>
     ensures more { IfOk result (λ more. more ≡ is_some (reading_of (lexer_state lexer.old)).found) }

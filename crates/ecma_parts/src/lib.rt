@@ -1,3 +1,4 @@
-//! The lexer's grammar in parts, as clean runs over any grammar see them: what a read of code, of template text, of a shebang
-//! or from a slash finds, apart from places; and that these parts keep the laws which the theorem over grammars asks for.
+//! The lexer's grammar in parts: what a read of code, of template text, of a shebang or from a slash finds, apart from
+//! places, as clean runs over any grammar see it; and that these parts keep the laws which the theorem over grammars
+//! asks for.
 #![tactic(auto)]

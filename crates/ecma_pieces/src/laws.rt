@@ -7,7 +7,7 @@ pub fn runs_may_be_covered()
     ensures { RunsMayBeCovered }
 {}
 
-/// So do the tokens and comments that a replay answers.
+/// So do the tokens and comments that a replay returns.
 pub fn replays_may_be_covered()
     ensures { ReplaysMayBeCovered }
 {}

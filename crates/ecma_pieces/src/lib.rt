@@ -1,9 +1,9 @@
-//! What a run keeps and collects meets what is asked of the caller of [`classes`](ecma_classes::classes): by laws, each a call
-//! that does nothing and whose contract is the law, and by the call that gives the pieces of a run.
+//! Pieces of a run: [`classes_of_steps`] returns them.
 //!
-//! Its proofs go up from single elements (`ElementPlaces.antt`) to reads (`ReadLemmas.antt`) and runs
-//! (`CollectedLemmas.antt`): no comment ends behind where the slash begins that was answered last, so a token that is
-//! read again from that slash holds none.
+//! What a run keeps and collects meets what [`classes`](ecma_classes::classes) requires of its caller: the laws here,
+//! each a call that does nothing and whose contract is the law, say so. Its proofs go up from single elements
+//! (`ElementPlaces.antt`) to reads (`ReadLemmas.antt`) and runs (`CollectedLemmas.antt`): no comment ends behind where
+//! the slash begins that was read last, so a token that is read again from that slash holds none.
 #![tactic(auto)]
 
 pub mod laws;

@@ -19,7 +19,7 @@ use std::alloc::{AllocError, Global};
 ///
 /// # Errors
 ///
-/// `AllocError` where there is no memory.
+/// `AllocError` where allocation fails.
 pub fn classes_of_steps(
     alloc: Global,
     settings: &Settings,

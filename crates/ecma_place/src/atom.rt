@@ -42,7 +42,7 @@ impl<'a> Atom<'a> {
         self.text.as_str()
     }
 
-    /// Whether the text is a slice of the source. An owned text answers false.
+    /// Whether the text is a slice of the source. False for an owned text.
     #[inline]
     pub fn is_borrowed(&self) -> bool
         ensures { result ≡ self.now.is_borrowed }
@@ -56,7 +56,7 @@ impl<'a> Atom<'a> {
     ///
     /// # Errors
     ///
-    /// `AllocError` where there is no memory for the bytes of an owned text.
+    /// `AllocError` where allocation fails for the bytes of an owned text.
     pub fn copy(&self, alloc: Global) -> Result<Atom<'a>, AllocError>
         ensures same { IfOk result (λ a. a ≡ self.now) }
         ensures free { IsTrue self.now.is_borrowed → IsOk result }

@@ -1,15 +1,16 @@
 //! Texts, places and characters: what every layer of the lexer is built on.
 //!
-//! A text is a list of characters, and a place in it is the place where the text starts plus an
-//! offset in bytes. [`StringInput`] is a cursor in a text, [`Atom`] a text that is a slice of the
-//! source or owned, [`CharExt`] has the classes of characters of ECMA-262, and [`Comments`] is
-//! what comments are handed to. Only a copy of an owned text allocates.
+//! Begin with [`StringInput::new`], a cursor in a text whose places fit 32 bits ([`StringInput::fits`]). A place is the
+//! place where the text starts plus a byte offset. [`Atom`] is a text that is a slice of the source or owned,
+//! [`CharExt`] has the character sets of ECMA-262, and [`Comments`] is the store that comments are handed to. Only a
+//! copy of an owned text allocates.
+//!
+//! Promised: each call of a cursor is a function of its text and place, proved to equal its definition in
+//! `specs/Cursor.antt`; no place wraps and no offset leaves a character's boundary.
 //!
 //! Contracts see a text with a start, its characters, and how many of them are before the cursor, never an offset or
-//! UTF-8. The invariant of `StringInput` keeps the offset on a boundary and every place below 2 to the 32nd; the
-//! rules of `proofs/RunLemmas.antt` prove a scanner loop without answers. `Atom` is its bytes and whether it borrows
-//! them. `run_bytes` and the lanes of `chunk` look at 32 and 16 bytes at a time, behind contracts that count one byte
-//! at a time.
+//! UTF-8. The rules of `proofs/RunLemmas.antt` prove a scanner loop. `run_bytes` and the lanes of `chunk` look at 32
+//! and 16 bytes at a time, under contracts that count one byte at a time.
 #![tactic(auto)]
 
 pub mod atom;

@@ -1,7 +1,8 @@
 //! Lines and columns of the places of a text.
 //!
-//! `LineStarts` has where the lines of a text begin, and finds the line and column of a place by halving, or at once
-//! where its line is the one that is named (`position.rt`, `specs/Positions.antt`).
+//! Begin with `LineStarts::of`; `LineStarts::position` finds the line and column of a place by halving, or at once
+//! where its line is the one that is named (`position.rt`, `specs/Positions.antt`). Lines and columns count from 1,
+//! columns in bytes; only line feeds end lines.
 #![tactic(auto)]
 
 mod columns;

@@ -24,7 +24,7 @@ impl LineStarts {
     ///
     /// # Errors
     ///
-    /// `AllocError` where there is no memory.
+    /// `AllocError` where allocation fails.
     pub fn of(alloc: Global, bytes: &[u8]) -> Result<LineStarts, AllocError>
         ensures { IfOk result (λ lines. lines.starts.items ≡ line_starts bytes.now) }
     {

@@ -1,7 +1,9 @@
-//! How rows about a text are written: in lines or as JSON objects, with lines and columns that are counted as rows go on.
+//! Rows as lines or JSON, with lines and columns that are counted as rows go on.
 //!
-//! `row.rt` has what is written of a row, `written.rt` writes it as a line or as the JSON that the kit's `serde_json`
-//! gives (`specs/Rows.antt`), and `lines.rt` counts lines from the last place that was asked for.
+//! `row.rt` has what is written of a row, `written.rt` writes it as a line or as the JSON of the kit's `serde_json`
+//! (`specs/Rows.antt`), and `lines.rt` counts lines from the last place that was asked for. Promised: `Lines::position`
+//! is the position that `LineStarts` finds, or, in units of UTF-16 (`utf16_length`, by the law `units_are_of_utf16` as
+//! std counts them), its column in these.
 #![tactic(auto)]
 
 pub mod lines;

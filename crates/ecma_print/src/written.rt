@@ -100,7 +100,7 @@ fn push_text_member(out: &mut Vec<u8>, before: &[u8], text: &str) -> Result<(), 
 ///
 /// # Errors
 ///
-/// `AllocError` where there is no memory; a part of the object may have been added then.
+/// `AllocError` where allocation fails; a part of the object may have been added then.
 pub fn push_text_object(out: &mut Vec<u8>, file: &str, bytes: &[u8]) -> Result<(), AllocError>
     ensures { OnOk result (out.new.items ≡ out.old.items ++ compact_text (row_specs.text_data file.now bytes.now)) }
 {
@@ -205,7 +205,7 @@ fn push_behind_text(out: &mut Vec<u8>, more: More) -> Result<(), AllocError>
 ///
 /// # Errors
 ///
-/// `AllocError` where there is no memory; a part of the object may have been added then.
+/// `AllocError` where allocation fails; a part of the object may have been added then.
 pub fn push_object(
     out: &mut Vec<u8>,
     file: &str,
@@ -307,7 +307,7 @@ fn push_more(out: &mut Vec<u8>, more: More) -> Result<(), AllocError>
 ///
 /// # Errors
 ///
-/// `AllocError` where there is no memory; a part of it may have been added then.
+/// `AllocError` where allocation fails; a part of it may have been added then.
 pub fn push_head(out: &mut Vec<u8>, position: Option<Position>, row: Row) -> Result<(), AllocError>
     ensures { OnOk result (out.new.items ≡ out.old.items ++ row_specs.head position row.entry) }
 {
@@ -333,7 +333,7 @@ fn one_line(byte: u8) -> u8
 ///
 /// # Errors
 ///
-/// `AllocError` where there is no memory; a part of it may have been added then.
+/// `AllocError` where allocation fails; a part of it may have been added then.
 pub fn push_message(out: &mut Vec<u8>, message: &[u8]) -> Result<(), AllocError>
     ensures { OnOk result (out.new.items ≡ out.old.items ++ map row_specs.one_line message.now) }
 {
@@ -347,7 +347,7 @@ pub fn push_message(out: &mut Vec<u8>, message: &[u8]) -> Result<(), AllocError>
 ///
 /// # Errors
 ///
-/// `AllocError` where there is no memory; a part of it may have been added then.
+/// `AllocError` where allocation fails; a part of it may have been added then.
 pub fn push_own_text(out: &mut Vec<u8>, row: Row) -> Result<(), AllocError>
     ensures { OnOk result (out.new.items ≡ out.old.items ++ row_specs.own_text (row_specs.more_view row.entry.more) row.entry.text.now) }
 {

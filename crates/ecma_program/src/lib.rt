@@ -1,9 +1,11 @@
-//! What the program is asked for by its words, and what it answers: lines of a text, its pieces, or its canonical text.
+//! The work of `ecma_lex`: its words, and what it writes of a text.
 //!
 //! `command` has the words, `particulars` those behind the command: options, and numbers of tokens; `kept_tokens` has
-//! what is kept of the tokens, `canon` whether all is clean, and the canonical text of what is kept, `classes` what
-//! is written of the pieces of what is kept and handed over; `program` is the whole, and `standard_error` what is
-//! said besides of a status.
+//! what is kept of the tokens, `canon` whether all is clean, and the canonical text of what is kept, `classes` what is
+//! written of the pieces of what is kept and handed over; `program` is the whole, and `standard_error` the explanation
+//! of a status.
+//!
+//! To add a command: `command.rt`, a module and a file of `specs/`, `specs/Command.antt`, `specs/Reply.antt`.
 #![tactic(auto)]
 
 mod canon;

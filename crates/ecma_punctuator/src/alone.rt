@@ -1,4 +1,4 @@
-//! Punctuators of one character, told by that character and the byte behind it: our own, for speed.
+//! Punctuators of one character, found by that character and the byte behind it: our own, for speed.
 ghost use Rattle.std.specs.Prelude.{◌≡◌, ◌<◌, ◌||◌, ◌&&◌, ◌==◌, Bool, true, false, None, Some, [], ◌∷◌, slice_get, IfNone, IfSome};
 ghost use Rattle.std.specs.Char.{is_ascii_digit};
 ghost use Rattle.ecma_place.specs.Cursor.{rest};
@@ -82,7 +82,7 @@ fn opens_fraction(c: u8, next: u8) -> bool
 /// Whether the byte behind the character `c`, which is at the cursor, shows that the character is no part of a longer
 /// punctuator and begins no number.
 ///
-/// Where nothing follows the answer is no, though the character may stand alone.
+/// False where nothing follows, though the character may be alone.
 #[inline(always)]
 pub fn stands_alone(input: &StringInput, c: u8) -> bool
     requires ascii { c < 128 }

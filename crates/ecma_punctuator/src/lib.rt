@@ -1,7 +1,7 @@
-//! Punctuators, and the shebang.
+//! Readers of punctuators and shebangs.
 //!
-//! All punctuators are in one table, in which the first that fits is the longest. `alone.rt` says of a punctuator of
-//! one character, by the byte behind it, that it stands alone; it is proved against that table.
+//! All punctuators are in one table, in which the first that fits is the longest. `alone.rt` says by the next byte that
+//! a punctuator has one character; it is proved against that table.
 #![tactic(auto)]
 
 pub mod alone;

@@ -391,7 +391,7 @@ fn eat_lone(input: &mut StringInput) -> Option<PunctuatorKind>
     Some(kind)
 }
 
-/// Moves behind the punctuator at the cursor, if there is one, and answers it.
+/// Moves behind the punctuator at the cursor, if there is one, and returns it.
 #[inline(never)]
 fn eat_any(input: &mut StringInput, type_mode: bool) -> Option<PunctuatorKind>
     ensures token { option_map kind_token result ≡ token_in (punctuator_in type_mode (rest input.old)) }
@@ -415,7 +415,7 @@ fn eat_any(input: &mut StringInput, type_mode: bool) -> Option<PunctuatorKind>
     }
 }
 
-/// Moves behind the punctuator at the cursor, if there is one, and answers it: what [`scan_punct`] finds, without its extent.
+/// Moves behind the punctuator at the cursor, if there is one, and returns it: what [`scan_punct`] finds, without its extent.
 /// Nothing is allocated. Our own, for speed.
 #[inline(always)]
 pub fn eat_punctuator(input: &mut StringInput, type_mode: bool) -> Option<PunctuatorKind>

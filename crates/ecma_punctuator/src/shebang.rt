@@ -29,7 +29,7 @@ fn shebang<'a>(input: &mut StringInput<'a>) -> Option<Token<'a>>
 
 /// Reads the shebang at the cursor (ECMA-262 Hashbang Comment, 12.5), or nothing: `#!` and what follows it in its line.
 ///
-/// Whether the cursor is at the start of the text is for the caller to ask. The answer's text is what follows `#!`;
+/// Whether the cursor is at the start of the text is for the caller to ask. The text is what follows `#!`;
 /// it borrows from the source, and nothing allocates.
 pub fn scan_shebang<'a>(
     alloc: Global,

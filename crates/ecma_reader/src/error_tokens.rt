@@ -87,7 +87,7 @@ impl<'a> Sink<'a> {
     }
 }
 
-/// What [`tokenize`](crate::tokenize) tells of a text, and the errors of the tokens that are one, by one reading. What is
+/// What [`tokenize`](crate::tokenize) returns of a text, and the errors of the tokens that are one, by one reading. What is
 /// taken is as of `tokenize`. Our own.
 ///
 /// The caller knows that the text fits its places ([`StringInput::fits`](ecma_place::StringInput::fits)), and that the places
@@ -95,7 +95,7 @@ impl<'a> Sink<'a> {
 ///
 /// # Errors
 ///
-/// `AllocError` where there is no memory.
+/// `AllocError` where allocation fails.
 pub fn read_out<'a>(
     alloc: Global,
     settings: &Settings,

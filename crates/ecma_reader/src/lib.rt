@@ -1,15 +1,16 @@
-//! Texts that are read to their end once, by a reader over which each caller has a short loop.
+//! Whole texts, token by token: a reader over which each caller has a short loop.
 //!
-//! Begin with [`tokenize`], or with [`Reader`] for a loop of one's own over `read_into`. `reader.rt` reads a text to
-//! its end by a rule of slashes, token by token and with no list of steps, and leaves errors, comments, whether the
-//! end was answered, and how many slashes were read again. `tokens.rt` keeps the tokens, and answers with what is
-//! left what `gather` answers of the steps that `ecma_slashes` gives; `error_tokens.rt` answers besides the errors of
-//! the tokens that are one.
+//! Begin with [`tokenize`], or with [`Reader`] for a loop of one's own over `read_into`. Promised: the tokens are those
+//! that `gather` keeps of the steps of `ecma_slashes`; each loop ends.
 //!
-//! `specs/Readers.antt` says which session a reader shows: that behind the first tokens (`Shows`), and at the end
-//! that behind all (`HasRead`). `proofs/FoldLemmas.antt` is the law of loops: who adds what a token gives behind each
-//! that is read has at the end what all tokens give, for a list by `map` or `flat_map`, or whatever else holds of the
-//! tokens so far (`Tells`).
+//! `reader.rt` reads a text to its end by a rule of slashes, token by token and with no list of steps, and leaves
+//! errors, comments, whether the end was reached, and how many slashes were read again. `tokens.rt` keeps the tokens;
+//! `error_tokens.rt` also returns the errors of the tokens that are one.
+//!
+//! `specs/Readers.antt` says which session a reader shows: that behind the first tokens (`Shows`), and at the end that
+//! behind all (`HasRead`). `proofs/FoldLemmas.antt` is the law of loops: a loop that adds what each token yields has at
+//! the end what all tokens yield, for a list by `map` or `flat_map`, or whatever else holds of the tokens so far
+//! (`Tells`).
 #![tactic(auto)]
 
 mod error_tokens;

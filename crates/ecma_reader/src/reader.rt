@@ -26,7 +26,7 @@ pub struct Reader<'a> {
     decider: Decider<'a>,
     /// How many slashes were read again.
     rereads: usize,
-    /// Whether memory was refused.
+    /// Whether an allocation failed.
     refused: bool,
 }
 
@@ -39,7 +39,7 @@ pub struct Outcome<'a> {
     pub waiting: ErrorList<'a>,
     /// The comments, where the settings collect them.
     pub comments: Vec<BufferedComment<'a>>,
-    /// Whether the last read answered the end.
+    /// Whether the last read was the end.
     pub ended: bool,
     /// How many slashes were read again.
     pub rereads: usize,
@@ -79,7 +79,7 @@ impl<'a> Reader<'a> {
     ///
     /// # Errors
     ///
-    /// `AllocError` where there is no memory.
+    /// `AllocError` where allocation fails.
     pub fn new(
         alloc: Global,
         settings: &Settings,
@@ -110,12 +110,12 @@ impl<'a> Reader<'a> {
         self.rereads
     }
 
-    /// Reads one token more into a slot that is kept, and answers whether there was one: nothing stands in the slot at the
+    /// Reads one token more into a slot that is kept, and returns whether there was one: the slot is empty at the
     /// end.
     ///
     /// # Errors
     ///
-    /// `AllocError` where there is no memory; each later read answers the same. Which token the slot then holds is not said.
+    /// `AllocError` where allocation fails; each later read returns the same. Which token the slot then holds is not said.
     pub fn read_into(&mut self, slot: &mut Option<TokenAndSpan<'a>>) -> Result<bool, AllocError>
         requires ready { IsReady self.old }
         // Who has added something for each token so far, and adds it for one more, has it of all tokens at the end.
@@ -143,7 +143,7 @@ impl<'a> Reader<'a> {
         }
     }
 
-    /// Reads to the end, and answers how many tokens there were.
+    /// Reads to the end, and returns how many tokens there were.
     ///
     /// # Errors
     ///
@@ -194,7 +194,7 @@ impl<'a> Iterator for Reader<'a> {
 
     ghost remaining = { items_left };
 
-    /// The next token. A refusal of memory comes once, and nothing behind it. There are at most twice as many items as bytes that
+    /// The next token. `AllocError` comes once at most, and nothing behind it. There are at most twice as many items as bytes that
     /// are left, and two.
     fn next(&mut self) -> Option<Result<TokenAndSpan<'a>, AllocError>> {
         if self.refused {

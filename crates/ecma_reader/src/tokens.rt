@@ -73,7 +73,7 @@ pub(crate) fn gathered<'a>(kept: Vec<Kept>, reader: Reader<'a>) -> LexOutput<'a>
     }
 }
 
-/// What [`gather`](ecma_replay::gather) tells of the steps by which a text that starts at a place is read to its end in a
+/// What [`gather`](ecma_replay::gather) returns of the steps by which a text that starts at a place is read to its end in a
 /// context ([`steps_by`](ecma_slashes::steps_by)), and how many slashes were read again, by one reading and with no list of
 /// steps. Our own.
 ///
@@ -82,7 +82,7 @@ pub(crate) fn gathered<'a>(kept: Vec<Kept>, reader: Reader<'a>) -> LexOutput<'a>
 ///
 /// # Errors
 ///
-/// `AllocError` where there is no memory.
+/// `AllocError` where allocation fails.
 pub fn tokenize<'a>(
     alloc: Global,
     settings: &Settings,

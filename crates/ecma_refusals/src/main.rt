@@ -1,6 +1,6 @@
-//! Plays texts through each call that allocates, and writes a line for each answer.
+//! Each call that allocates, a line for each answer.
 //!
-//! Where memory is refused a call says in one line what stands behind that; then it is made again, so that all other lines
+//! Where memory is refused a call says in one line what is there then; then it is made again, so that all other lines
 //! are those of a run in which nothing is refused. `bench/refusals` refuses each request in turn and compares.
 #![tactic(auto)]
 

@@ -83,7 +83,7 @@ impl<'a> Branch<'a> {
         Ok(())
     }
 
-    /// Reads into a slot, and keeps the token that is answered.
+    /// Reads into a slot, and keeps the token that is read.
     #[inline(always)]
     pub fn read_into(
         &mut self,

@@ -18,6 +18,6 @@ pub struct Replay<'a> {
     pub waiting: ErrorList<'a>,
     /// The comments, in the order in which they would be handed over, where the settings collect them.
     pub comments: Vec<BufferedComment<'a>>,
-    /// Whether the last read that counts answered the end.
+    /// Whether the last read that counts was the end.
     pub ended: bool,
 }

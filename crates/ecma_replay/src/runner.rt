@@ -52,7 +52,7 @@ fn perform<'a>(
 
 /// Takes steps over a text that starts at a place.
 ///
-/// There is one answer for each step. `Reread` has the next reads begin at the slash that was answered last, and `Withdraw`
+/// There is one answer for each step. `Reread` has the next reads begin at the slash that was read last, and `Withdraw`
 /// takes that back; `Back(n)` puts all but the answers and the saves as it was right after save `n`, which are numbered
 /// from 0 over the whole list. Steps that are refused change nothing: `NoSlash`, `NoSave`, `NoContext`.
 ///
@@ -60,7 +60,7 @@ fn perform<'a>(
 ///
 /// # Errors
 ///
-/// `AllocError` where there is no memory.
+/// `AllocError` where allocation fails.
 pub fn replay<'a>(
     alloc: Global,
     settings: &Settings,
@@ -70,7 +70,7 @@ pub fn replay<'a>(
 ) -> Result<Replay<'a>, AllocError>
     requires { start.0 + length source.now < 2 ^ 32 }
     ensures replays { IfOk result (λ r. Replays (start_of settings.now record { start = start.0; text = chars source.now; at = 0 }) steps.now r) }
-    // Each token that is kept stands right behind the gap that was read before it, and that behind the token before.
+    // Each token that is kept is right behind the gap that was read before it, and that behind the token before.
     ensures tiled { IfOk result (λ r. TilesText settings.now record { start = start.0; text = chars source.now; at = 0 } steps.now r) }
 {
     let mut course = Course::new(alloc, settings, StringInput::new(source, start));
@@ -95,14 +95,14 @@ pub fn replay<'a>(
     })
 }
 
-/// What [`replay`] tells of the steps but for their answers, which take most of its memory: for who looks at the tokens, the
+/// What [`replay`] returns of the steps but for their answers, which take most of its memory: for who looks at the tokens, the
 /// errors and the comments alone. Our own.
 ///
 /// The caller knows that the text fits its places ([`StringInput::fits`]).
 ///
 /// # Errors
 ///
-/// `AllocError` where there is no memory.
+/// `AllocError` where allocation fails.
 pub fn gather<'a>(
     alloc: Global,
     settings: &Settings,

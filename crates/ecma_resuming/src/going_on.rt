@@ -34,7 +34,7 @@ pub fn begin_of(from: &Checkpoint) -> BytePos
 /// of, over the whole text; errors and comments are those that come behind the checkpoint. A later checkpoint of either may be
 /// handed to the other.
 ///
-/// `rest` is the text from [`begin_of`] on. The answer is `None` where the checkpoint does not fit ([`Checkpoint::fits`]), or
+/// `rest` is the text from [`begin_of`] on. It returns `None` where the checkpoint does not fit ([`Checkpoint::fits`]), or
 /// the places of `rest` are too large ([`StringInput::fits`]). It does not allocate where at most 128 contexts are open.
 ///
 /// # Errors

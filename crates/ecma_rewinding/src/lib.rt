@@ -1,4 +1,4 @@
-//! Going back to a checkpoint: what it undoes. Each call does nothing, and its contract is the law.
+//! Laws of going back to a checkpoint: each call does nothing, and its contract is the law.
 #![tactic(auto)]
 
 pub mod laws;

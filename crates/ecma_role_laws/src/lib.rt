@@ -1,4 +1,4 @@
-//! Laws of what is expected next in a text: what stands within brackets ends with them.
+//! Laws of brackets: what is within them ends with them.
 //!
 //! `specs/Brackets.antt` says which tokens are balanced, and that behind them the frames outside are as they were. Its
 //! proofs: what frames enclose (`Frames.antt`), what a row needs to be right (`Right.antt`), that each row is

@@ -1,9 +1,8 @@
-//! What is expected next in a text of ECMAScript or TypeScript, by its tokens alone: where a slash begins a regular
-//! expression.
+//! What is expected next in a text, by its tokens alone: where a slash begins a regular expression.
 //!
 //! Begin with [`Track`]: `track.rt` takes in one token after another, which is read again as long as a row of the table
-//! says so. `settled.rt` passes the tokens that leave all around them as it is before the table is asked, and `slash.rt`
-//! says where a slash begins a regular expression.
+//! says so. Promised: a step is the table's. `settled.rt` passes the tokens that leave all around them as it is before
+//! the table is asked, and `slash.rt` says where a slash begins a regular expression.
 //!
 //! `specs/Track.antt` says what one token more leads to, `specs/Slashes.antt` what is expected. `specs/Rank.antt` has a
 //! rank of states, which falls each time that a token is read again (`proofs/RowRanks.antt`, row by row, and

@@ -167,7 +167,7 @@ impl Track {
     ///
     /// # Errors
     ///
-    /// `AllocError` where there is no memory for what the token opens. The track is then unchanged.
+    /// `AllocError` where allocation fails for what the token opens. The track is then unchanged.
     pub fn step(&mut self, part: &Part) -> Result<(), AllocError>
         ensures step { OnOk result (self.new ≡ tracks.stepped self.old part.now) }
         ensures err { OnErr result (self.new ≡ self.old) }
@@ -193,7 +193,7 @@ impl Track {
     ///
     /// # Errors
     ///
-    /// `AllocError` where there is no memory for it.
+    /// `AllocError` where it can't be allocated.
     pub fn copy(&self) -> Result<Track, AllocError>
         ensures copy { IfOk result (λ copy. copy ≡ self.now) }
         ensures free { IsShallow self.now.nest → IsOk result }

@@ -28,12 +28,12 @@ fn canon_of_read(alloc: Global, asked: &Asked, read: &LexOutput) -> Result<Canon
 
 /// Writes the canonical text of a text to the room, as many bytes as fit. The count is the number of its bytes. What is taken
 /// is as of [`write_tokens`](crate::write_tokens). Nothing is written where the answer is `Refused`,
-/// `NotUtf8`, `TooLong`, `NoSlash` or `NotClean`, judged in this order, but that `TooLong` is also answered, last, where the
+/// `NotUtf8`, `TooLong`, `NoSlash` or `NotClean`, judged in this order, but that `TooLong` is also returned, last, where the
 /// canonical text is longer than places go. Our own.
 ///
 /// # Errors
 ///
-/// `AllocError` where there is no memory; the room is then as before.
+/// `AllocError` where allocation fails; the room is then as before.
 #[tactic(auto, using(crate::proofs::CanonCases::canon_text, crate::proofs::CanonCases::canon_too_long, crate::proofs::CanonCases::canon_not_clean))]
 pub fn write_canonical(
     alloc: Global,

@@ -86,11 +86,11 @@ fn write(comments: &[BufferedComment], is_met: bool, out: &mut [CommentRow]) -> 
 }
 
 /// Writes a row for each comment of a text to the room, as many as fit, in the order in which the lexer hands them over. What
-/// is taken and answered is as of [`write_tokens`](crate::write_tokens), but that comments are counted.
+/// is taken and returned is as of [`write_tokens`](crate::write_tokens), but that comments are counted.
 ///
 /// # Errors
 ///
-/// `AllocError` where there is no memory; the room is then as before.
+/// `AllocError` where allocation fails; the room is then as before.
 pub fn write_comments(
     alloc: Global,
     text: &[u8],

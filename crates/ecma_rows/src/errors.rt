@@ -151,13 +151,13 @@ impl Gathered {
 
 /// Writes a row for each error of a text to `out`, as many as fit: of the tokens that are one, then of those that were
 /// recorded, then of those that wait until the code is known to be a module, each in order. Their messages, joined with
-/// nothing between them, are written to `messages`, as many bytes as fit. What is taken and answered is as of
+/// nothing between them, are written to `messages`, as many bytes as fit. What is taken and returned is as of
 /// [`write_tokens`](crate::write_tokens), but that errors are counted, and that the answer is `NoRoom` also where the messages
 /// don't fit: all rows together, where they fit, say how many bytes there are.
 ///
 /// # Errors
 ///
-/// `AllocError` where there is no memory; the rooms are then as before.
+/// `AllocError` where allocation fails; the rooms are then as before.
 pub fn write_errors(
     alloc: Global,
     text: &[u8],

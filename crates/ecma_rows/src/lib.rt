@@ -1,12 +1,12 @@
-//! What a run gives, as rows of numbers for callers that know no enums and own all memory.
+//! A run as rows of numbers, for callers that know no enums and own all memory.
 //!
 //! All of the static library's work is here, over ordinary types: `bits.rt` has the options of a sum of numbers,
-//! `request.rt` judges options, places and bytes, and opens the reader of the text, `room.rt` writes rows,
-//! `tokens.rt`, `comments.rt` and `errors.rt` have the rows and the calls, which write while they read, with no list
-//! of steps or tokens, `canon.rt` the canonical text, `outcome.rt` the statuses.
+//! `request.rt` judges options, places and bytes, and opens the reader of the text, `room.rt` writes rows, `tokens.rt`,
+//! `comments.rt` and `errors.rt` have the rows and the calls, which write while they read, with no list of steps or
+//! tokens, `canon.rt` the canonical text, `outcome.rt` the statuses.
 //!
-//! `specs/Told.antt` says what is reported, `written` what is in the room then; `proofs/RowLemmas.antt` that the row
-//! of one token more is written, `proofs/ErrorLemmas.antt` that each message is behind the one before it.
+//! `specs/Told.antt` says what is reported, `written` what is in the room then; `proofs/RowLemmas.antt` that the row of
+//! one token more is written, `proofs/ErrorLemmas.antt` that each message is behind the one before it.
 #![tactic(auto)]
 
 mod bits;

@@ -13,7 +13,7 @@ pub enum Status {
     NotUtf8,
     /// An error is recorded, or a token is one, so that there is no canonical text.
     NotClean,
-    /// There is no memory.
+    /// Allocation failed.
     OutOfMemory,
     /// There is no room for all. What fits was written.
     NoRoom,

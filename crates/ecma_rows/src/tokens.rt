@@ -20,7 +20,7 @@ use ecma_token::{Token, TokenAndSpan};
 use std::alloc::{AllocError, Global};
 
 /// A token: where it begins and ends, in bytes from the text's start, the number of its kind
-/// ([`kind_number`](ecma_kinds::kind_number)), and flags: 1 where a line terminator, or nothing, stands before it, or it is
+/// ([`kind_number`](ecma_kinds::kind_number)), and flags: 1 where a line terminator, or nothing, is before it, or it is
 /// template text that has one; 2 where its value is not its spelling (a word, string, template text or regular expression's
 /// flags with an escape, a line continuation, a carriage return in a template, a number with separators, template text that
 /// means nothing). Our own.
@@ -87,7 +87,7 @@ fn put_token(out: &mut [TokenRow], count: usize, slot: &Option<TokenAndSpan>)
     }
 }
 
-/// Reads to the end, writes a row for each token to the room, in order, as many as fit, and answers how many tokens there are.
+/// Reads to the end, writes a row for each token to the room, in order, as many as fit, and returns how many tokens there are.
 fn write_rows(reader: &mut Reader, out: &mut [TokenRow]) -> Result<usize, AllocError>
     requires ready { IsReady reader.old }
     ensures told { (rule : SlashRule) (begin : Session) → Shows rule begin [] reader.old
@@ -106,14 +106,14 @@ fn write_rows(reader: &mut Reader, out: &mut [TokenRow]) -> Result<usize, AllocE
 /// Writes a row for each token of a text to the room, in order, as many as fit.
 ///
 /// `bits` is a sum of options ([`options_of_bits`](crate::options_of_bits)); `slashes` are the places, each behind the one
-/// before it, of `/` and `/=` that begin regular expressions, none where the flag is to say. The answer is `Done`, or
+/// before it, of `/` and `/=` that begin regular expressions, none where the flag is to say. It returns `Done`, or
 /// `NoRoom` where there are more tokens than room; its count is the number of tokens. What lies behind the rows is as
 /// before. Nothing is written where the answer is `Refused`, `NotUtf8` or `TooLong`, judged in
 /// this order; where it is `NoSlash` the place that is not that of a slash changed nothing. Our own.
 ///
 /// # Errors
 ///
-/// `AllocError` where there is no memory: some rows may have been written.
+/// `AllocError` where allocation fails: some rows may have been written.
 pub fn write_tokens(
     alloc: Global,
     text: &[u8],
@@ -140,7 +140,7 @@ pub fn write_tokens(
 ///
 /// # Errors
 ///
-/// `AllocError` where there is no memory.
+/// `AllocError` where allocation fails.
 pub fn count_tokens(
     alloc: Global,
     text: &[u8],

@@ -1,5 +1,5 @@
-//! Texts to measure on: scripts, TypeScript, declarations and data of the shape that real files have, and awkward ones. Each
-//! number gives another text of the same kind and size.
+//! Texts to measure on: scripts, TypeScript, declarations and data of the shape that real files have, and awkward ones.
+//! Each number gives another text of the same kind and size.
 #![tactic(auto)]
 
 mod pool;

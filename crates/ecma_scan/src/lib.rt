@@ -1,8 +1,9 @@
-//! The readers of the lexical grammar: each reads one kind of text from a cursor on, and says what it found.
+//! Facade of the readers: each reads one kind of text from a cursor on.
 //!
-//! It shows the readers of gaps, numbers, escapes, words, strings, templates, regular expressions, punctuators and
-//! shebangs. A reader takes a cursor and the mode of the read, and answers what it found, how far it read, and each
-//! error in order (docs/GRAMMAR.md); `specs/PunctuatorKinds.antt` says which token a kind of punctuator is
+//! It passes on the readers of gaps, numbers, escapes, words, strings, templates, regular expressions, punctuators and
+//! shebangs. A reader takes a cursor and the mode of the read, and returns what it found, with each error in order; the
+//! cursor is then behind it. Promised: value, extent and errors are those of its definition (docs/GRAMMAR.md); after
+//! `AllocError` the cursor is where it was. `ecma_punctuator/specs/PunctuatorKinds.antt` says which token a kind of punctuator is
 //! (`kind_token`). The laws of several parts are in `proofs/`.
 #![tactic(auto)]
 

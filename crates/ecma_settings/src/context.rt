@@ -17,8 +17,8 @@ pub struct ExpressionContext {
 
 /// The flags of the code that is being read.
 ///
-/// The lexer looks at `ignore_error`, `module`, `strict`, `in_async`, `in_generator`, `in_static_block`,
-/// `in_type` and `should_not_lex_lt_or_gt_as_type`; the others are the parser's own.
+/// Reads ask for `in_type`, `should_not_lex_lt_or_gt_as_type`, `module`, `ignore_error` and `strict`, and for reserved words
+/// also for `in_static_block`, `in_generator` and `in_async`. Only a parser has a use for the others.
 #[derive(Debug, Clone, Copy, Default)]
 pub struct Context {
     /// Errors to be recorded are dropped, but for those of module code: the reading may be taken back.

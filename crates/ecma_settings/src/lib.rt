@@ -1,7 +1,12 @@
-//! The caller's settings and the context flags, with the questions that are asked of them.
+//! The caller's settings and context flags: types, and questions about them.
 //!
-//! `settings.rt` has the languages with their options, which serde carries under swc's keys; each question is a row
-//! of `specs/Questions.antt`. `context.rt` has the flags, and which words are reserved under them.
+//! Build a [`Syntax`] of [`EsSyntax`] or [`TsSyntax`], and set flags in a [`Context`]. Promised: each question is its
+//! row of `specs/Questions.antt`, and `is_reserved` the table of `specs/Reserved.antt`. `settings.rt` has the languages
+//! with their options, which serde carries under swc's keys; `context.rt` has the flags.
+//!
+//! To change a setting: `settings.rt`, `specs/Questions.antt`, `specs/Defaults.antt`; for the run `ecma_state`:
+//! `settings.rt`, `specs/TokenAt.antt` or `specs/Mode.antt`; `Lexer::new`. Prove `ecma_settings`, `ecma_state`,
+//! `ecma_dispatch`, `ecma_stream`.
 #![tactic(auto)]
 
 pub mod context;

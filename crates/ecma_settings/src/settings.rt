@@ -75,7 +75,7 @@ impl Default for Syntax {
     }
 }
 
-/// What a text in this language may hold: each answer is an option's value, or the same for every text.
+/// What a text in this language may hold: each is an option's value, or the same for every text.
 impl Syntax {
     /// Whether a class may have `accessor` fields.
     pub fn auto_accessors(self) -> bool
@@ -261,8 +261,8 @@ pub enum NumberRule {
     /// any decimal run may hold separators.
     #[serde(rename = "crate")]
     Crate,
-    /// That of ECMA-262 (12.9.3). Behind no number a name may begin or a decimal digit follow, and a decimal integer run that
-    /// begins with `0` and goes on holds no separator.
+    /// That of ECMA-262 (12.9.3). No number may have a name or a decimal digit right behind it, and decimal digits that start
+    /// with a `0`, if there are several, have no separator.
     #[serde(rename = "standard")]
     Standard,
 }

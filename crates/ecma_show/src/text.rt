@@ -35,7 +35,7 @@ fn width_of(alloc: Global, text: &[u8]) -> Result<usize, AllocError>
 ///
 /// # Errors
 ///
-/// `AllocError` where there is no memory.
+/// `AllocError` where allocation fails.
 pub fn show(
     alloc: Global,
     text: &str,

@@ -17,15 +17,15 @@ use ecma_stream::lexer::Lexer;
 use ecma_token::TokenAndSpan;
 use std::alloc::AllocError;
 
-/// Reads the next token, as [`read_by`] answers it, into a slot that is kept, and says whether a slash was read again. Our
+/// Reads the next token, as [`read_by`] returns it, into a slot that is kept, and says whether a slash was read again. Our
 /// own.
 ///
 /// The caller knows what that of [`read_by`] does.
 ///
 /// # Errors
 ///
-/// `AllocError` where there is no memory; each later read answers the same. Which token the slot then holds is not said: that
-/// which stood in it, or the slash.
+/// `AllocError` where allocation fails; each later read returns the same. Which token the slot then holds is not said: that
+/// which was in it, or the slash.
 #[inline]
 pub fn read_telling<'a>(
     lexer: &mut Lexer<'a>,
@@ -49,7 +49,7 @@ pub fn read_telling<'a>(
 
 /// The next token, or nothing at the end, with no parser to say what a slash is: where `/` or `/=` was read and the slash
 /// is among those that begin regular expressions, it is read again, and the token of the expression, or that which says
-/// what is wrong with it, is answered in its place. [`Slashes::ByRole`] and [`Slashes::Numbered`], which ask for the tokens
+/// what is wrong with it, is returned in its place. [`Slashes::ByRole`] and [`Slashes::Numbered`], which ask for the tokens
 /// before, name no slash here ([`read_deciding`](crate::read_deciding)). Our own.
 ///
 /// The caller knows that no slash is read again ([`Lexer::reads_again`]), and that the places ascend
@@ -57,7 +57,7 @@ pub fn read_telling<'a>(
 ///
 /// # Errors
 ///
-/// `AllocError` where there is no memory; each later read answers the same.
+/// `AllocError` where allocation fails; each later read returns the same.
 pub fn read_by<'a>(
     lexer: &mut Lexer<'a>,
     slashes: Slashes,
@@ -90,7 +90,7 @@ pub fn read_by<'a>(
 ///
 /// # Errors
 ///
-/// `AllocError` where there is no memory; each later read answers the same.
+/// `AllocError` where allocation fails; each later read returns the same.
 pub fn add_steps_by(
     steps: &mut Vec<Step>,
     lexer: &mut Lexer,

@@ -23,16 +23,16 @@ use std::alloc::{AllocError, Global};
 
 /// The next token, or nothing at the end, with no parser to say what a slash is: where `/` or `/=` was read and an
 /// expression was allowed before it ([`Lexer::expr_allowed`]), it is read again as a regular expression, whose token, or
-/// that which says what is wrong with it, is answered in its place.
+/// that which says what is wrong with it, is returned in its place.
 ///
 /// The flag is the lexer's own and knows no grammar: behind `}` of a function expression, behind a block in front of a
-/// division (`{} /42`) and behind a name that is elsewhere a keyword (`yield`) a division is told as an expression. Our own.
+/// division (`{} /42`) and behind a name that is elsewhere a keyword (`yield`) a division is read as an expression. Our own.
 ///
 /// The caller knows that no slash is read again ([`Lexer::reads_again`]).
 ///
 /// # Errors
 ///
-/// `AllocError` where there is no memory; each later read answers the same.
+/// `AllocError` where allocation fails; each later read returns the same.
 pub fn read_by_flag<'a>(lexer: &mut Lexer<'a>) -> Result<Option<TokenAndSpan<'a>>, AllocError>
     requires no_reread { lexer.old.reread ≡ None }
     // It answers what these steps of the run answer last, and leads where they do, from any session.
@@ -58,7 +58,7 @@ pub fn read_by_flag<'a>(lexer: &mut Lexer<'a>) -> Result<Option<TokenAndSpan<'a>
 ///
 /// # Errors
 ///
-/// `AllocError` where there is no memory; each later read answers the same.
+/// `AllocError` where allocation fails; each later read returns the same.
 pub fn add_steps_to_end(steps: &mut Vec<Step>, lexer: &mut Lexer) -> Result<(), AllocError>
     requires no_reread { lexer.old.reread ≡ None }
     ensures steps { (s : Session) → state_of s ≡ lexer_state lexer.old → OnOk result (steps.new.items ≡ steps.old.items ++ steps_to_end s) }
@@ -74,7 +74,7 @@ pub fn add_steps_to_end(steps: &mut Vec<Step>, lexer: &mut Lexer) -> Result<(), 
 ///
 /// # Errors
 ///
-/// `AllocError` where there is no memory.
+/// `AllocError` where allocation fails.
 pub fn steps_by_flag(
     alloc: Global,
     settings: &Settings,

@@ -168,7 +168,7 @@ impl<'a> Decider<'a> {
     ///
     /// # Errors
     ///
-    /// `AllocError` where there is no memory for what the last token opens. Nothing is then changed.
+    /// `AllocError` where what the last token opens can't be allocated. Nothing is then changed.
     pub fn expects_operand(&mut self, is_assign: bool) -> Result<bool, AllocError>
         ensures told { IfOk result (λ expects. expects ≡ expected_by (known_to self.old) is_assign) }
         ensures follows { known_to self.new ≡ known_to self.old }
@@ -184,7 +184,7 @@ impl<'a> Decider<'a> {
     ///
     /// # Errors
     ///
-    /// `AllocError` where there is no memory for the frames.
+    /// `AllocError` where allocation fails for the frames.
     pub fn copy(&self) -> Result<Decider<'a>, AllocError>
         ensures copy { IfOk result (λ copy. copy ≡ self.now) }
         ensures free { HasRoom self.now.track → IsOk result }
@@ -206,7 +206,7 @@ impl<'a> Decider<'a> {
     ///
     /// # Errors
     ///
-    /// `AllocError` where there is no memory for it. Nothing is then changed.
+    /// `AllocError` where it can't be allocated. Nothing is then changed.
     #[inline]
     pub(crate) fn catch_up(&mut self) -> Result<(), AllocError>
         ensures follows { known_to self.new ≡ known_to self.old }

@@ -18,7 +18,7 @@ pub fn texts_are_read_out()
 {}
 
 /// The steps by which a text is read, in a context in which errors are not ignored, are plain and take no error: so the run
-/// is clean exactly where it leaves nothing wrong, and `canonical` answers that it is not for nothing but errors.
+/// is clean exactly where it leaves nothing wrong, and `canonical` returns `NotClean` only for errors.
 pub fn texts_are_read_plainly()
     ensures { TextsAreReadPlainly }
 {}

@@ -105,16 +105,16 @@ fn read_knowing<'a>(
     Ok(again)
 }
 
-/// Reads the next token into a slot that is kept, where a decider says which slashes are read again, and answers whether one
-/// was. The token of the expression, or that which says what is wrong with it, stands in the place of its slash. Our own.
+/// Reads the next token into a slot that is kept, where a decider says which slashes are read again, and returns whether one
+/// was. The token of the expression, or that which says what is wrong with it, is in the place of its slash. Our own.
 ///
 /// The caller knows that no slash is read again ([`Lexer::reads_again`]), and that the places ascend
 /// ([`ascend`](crate::ascend)). The decider was made for the lexer's text, and took part in each of its reads.
 ///
 /// # Errors
 ///
-/// `AllocError` where there is no memory. Where it was wanted by the decider, nothing is changed, so that the read may be
-/// tried again. Where it was wanted by the lexer, each later read answers the same; the decider decides what it did before
+/// `AllocError` where allocation fails. Where it failed in the decider, nothing is changed, so that the read may be
+/// tried again. Where it failed in the lexer, each later read returns the same; the decider decides what it did before
 /// the read, and which token the slot then holds is not said.
 #[inline]
 pub fn read_deciding<'a>(
@@ -231,7 +231,7 @@ pub(crate) fn add_steps_deciding(
 ///
 /// # Errors
 ///
-/// `AllocError` where there is no memory.
+/// `AllocError` where allocation fails.
 pub fn steps_by(
     alloc: Global,
     settings: &Settings,

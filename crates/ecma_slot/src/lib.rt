@@ -1,6 +1,7 @@
 //! The slot that a token is read into.
 //!
-//! An arm of the lexer writes its token there at once, so that no token is moved.
+//! An arm of the lexer writes its token there at once, so that no token is moved. Only parts that may own memory are
+//! dropped.
 #![tactic(auto)]
 
 pub mod slot;

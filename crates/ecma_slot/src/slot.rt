@@ -42,7 +42,7 @@ fn clear(slot: &mut Option<TokenAndSpan>)
     *slot = None;
 }
 
-/// Forgets a token that owns no memory, so that nothing is lost, and none of its parts is asked what to let go of.
+/// Forgets a token that owns nothing, so that nothing is lost, and none of its parts is asked what to let go of.
 #[inline(always)]
 fn forget(left: Option<TokenAndSpan>)
     requires { IfSome left (λ token. token_owns_nothing token.token ≡ true) }

@@ -84,7 +84,7 @@ impl<'a> ErrorList<'a> {
     ///
     /// # Errors
     ///
-    /// The error itself where there is no memory for it. The list is then unchanged.
+    /// The error itself where it can\'t be allocated. The list is then unchanged.
     pub fn push(&mut self, error: Error<'a>) -> Result<(), Error<'a>>
         ensures ok { OnOk result (self.new ≡ self.old ++ error.entry ∷ []) }
         ensures err { OnErr result (self.new ≡ self.old) }
@@ -100,7 +100,7 @@ impl<'a> ErrorList<'a> {
     ///
     /// # Errors
     ///
-    /// `AllocError` where there is no memory for them. Both lists are then unchanged.
+    /// `AllocError` where allocation fails for them. Both lists are then unchanged.
     pub fn append(&mut self, other: &mut ErrorList<'a>) -> Result<(), AllocError>
         ensures ok { OnOk result (self.new ≡ self.old ++ other.old) }
         ensures moved { OnOk result (other.new ≡ []) }
@@ -118,7 +118,7 @@ impl<'a> ErrorList<'a> {
     ///
     /// # Errors
     ///
-    /// `AllocError` where there is no memory for them.
+    /// `AllocError` where allocation fails for them.
     pub fn copy(&self, alloc: Global) -> Result<ErrorList<'a>, AllocError>
         ensures { IfOk result (λ copy. map error_view copy ≡ map error_view self.now) }
     {

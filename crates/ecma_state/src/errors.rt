@@ -49,7 +49,7 @@ impl<'a> ErrorLists<'a> {
     ///
     /// # Errors
     ///
-    /// `AllocError` where there is no memory for them.
+    /// `AllocError` where allocation fails for them.
     pub fn copy(&self, alloc: Global) -> Result<ErrorLists<'a>, AllocError>
         ensures { IfOk result (λ copy. errors_view copy ≡ errors_view self.now) }
     {
@@ -63,7 +63,7 @@ impl<'a> ErrorLists<'a> {
     ///
     /// # Errors
     ///
-    /// The error itself where there is no memory for it. Nothing is then changed.
+    /// The error itself where it can\'t be allocated. Nothing is then changed.
     fn take_recorded(&mut self, context: &Context, error: Error<'a>) -> Result<(), Error<'a>>
         ensures ok { OnOk result (errors_view self.new ≡ dispose.disposed (errors_view self.old) (error_view error.entry) (dispose.of_recorded context.now)) }
         ensures err { OnErr result (self.new ≡ self.old) }
@@ -81,7 +81,7 @@ impl<'a> ErrorLists<'a> {
     ///
     /// # Errors
     ///
-    /// The error itself where there is no memory for it. Nothing is then changed.
+    /// The error itself where it can\'t be allocated. Nothing is then changed.
     pub fn take_module_mode(&mut self, context: &Context, error: Error<'a>) -> Result<(), Error<'a>>
         ensures ok { OnOk result (errors_view self.new ≡ dispose.disposed (errors_view self.old) (error_view error.entry) (dispose.of_module_mode context.now)) }
         ensures err { OnErr result (self.new ≡ self.old) }
@@ -99,7 +99,7 @@ impl<'a> ErrorLists<'a> {
     ///
     /// # Errors
     ///
-    /// The error itself where there is no memory for it. Nothing is then changed.
+    /// The error itself where it can\'t be allocated. Nothing is then changed.
     pub fn take_fault(
         &mut self,
         context: &Context,
@@ -118,7 +118,7 @@ impl<'a> ErrorLists<'a> {
         }
     }
 
-    /// Takes in faults in order, or, where memory is refused, a beginning of them.
+    /// Takes in faults in order, or, where allocation fails, a beginning of them.
     fn take_faults(
         &mut self,
         context: &Context,
@@ -157,7 +157,7 @@ impl<'a> ErrorLists<'a> {
     ///
     /// # Errors
     ///
-    /// `AllocError` where there is no memory for them. Nothing is then changed.
+    /// `AllocError` where allocation fails for them. Nothing is then changed.
     pub fn take_read(
         &mut self,
         context: &Context,
@@ -194,7 +194,7 @@ impl<'a> ErrorLists<'a> {
     ///
     /// # Errors
     ///
-    /// `AllocError` where there is no memory for the errors that waited. Nothing is then changed.
+    /// `AllocError` where allocation fails for the errors that waited. Nothing is then changed.
     pub fn enter(&mut self, context: &Context) -> Result<(), AllocError>
         ensures ok { OnOk result (errors_view self.new ≡ dispose.with_context context.now (errors_view self.old)) }
         ensures err { OnErr result (self.new ≡ self.old) }

@@ -9,7 +9,7 @@ use ecma_place::{BytePos, Span};
 use ecma_syntax::{AssignOp, BinOpToken};
 use ecma_token::{TokenAndSpan, TokenKind};
 
-/// What is kept of a token that was given.
+/// What is kept of a token that was read.
 #[derive(Debug, Clone, Copy, PartialEq, Eq)]
 pub struct Kept {
     pub kind: TokenKind,
@@ -46,13 +46,13 @@ impl Kept {
 /// What a lexer keeps of its answers.
 #[derive(Debug, Clone, Copy, PartialEq, Eq)]
 pub struct Seen {
-    /// Whether no token but a shebang was given.
+    /// Whether no token but a shebang was read.
     pub first: bool,
-    /// The token that was given last.
+    /// The token that was read last.
     pub last: Option<Kept>,
     /// The flag of the last answer, also where that was the end.
     pub flag: bool,
-    /// Whether the last answer was the end.
+    /// Whether the last read was the end.
     pub ended: bool,
 }
 
@@ -85,7 +85,7 @@ impl Seen {
         }
     }
 
-    /// Takes in a token that is given.
+    /// Takes in a token that is read.
     #[inline(always)]
     pub(crate) fn give(&mut self, token: Kept)
         ensures { self.new ≡ seen_behind self.old token.flag (Some token) }
@@ -104,14 +104,14 @@ impl Seen {
         self.ended = true;
     }
 
-    /// The kind of the token that was given last.
+    /// The kind of the token that was read last.
     pub fn previous(self) -> Option<TokenKind>
         ensures { result ≡ previous self }
     {
         self.last.map(|token| token.kind)
     }
 
-    /// Where the slash is that was answered last, if the last answer was one.
+    /// Where the slash is that was read last, if the last answer was one.
     pub fn last_slash(self) -> Option<BytePos>
         ensures { result ≡ last_slash self }
     {
@@ -121,7 +121,7 @@ impl Seen {
         }
     }
 
-    /// The flag of the token that was given last; false where there is none.
+    /// The flag of the token that was read last; false where there is none.
     pub(crate) fn previous_flag(self) -> bool
         ensures { result ≡ flag_of self.last }
     {

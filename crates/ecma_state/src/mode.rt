@@ -17,9 +17,9 @@ pub struct Mode {
     pub context: Context,
     /// The innermost context.
     pub top: Option<TokenContext>,
-    /// Whether no token but a shebang was given.
+    /// Whether no token but a shebang was read.
     pub first: bool,
-    /// Whether no token at all was given, so that a shebang is allowed.
+    /// Whether no token at all was read, so that a shebang is allowed.
     pub shebang_allowed: bool,
     /// The kind of the token before.
     pub previous: Option<TokenKind>,

@@ -16,7 +16,7 @@ use ecma_token::TokenKind;
 use std::alloc::{AllocError, Global};
 use std::marker::Model;
 
-/// What a lexer keeps between two reads: what encloses the place that is read, and what was answered before it.
+/// What a lexer keeps between two reads: what encloses the place that is read, and what was read before it.
 #[derive(Drop)]
 pub struct State {
     pub contexts: TokenContexts,
@@ -115,7 +115,7 @@ impl State {
         }
     }
 
-    /// The places that the comments of a read go by, which answers a token or the end.
+    /// The places that the comments of a read go by, which finds a token or the end.
     pub fn around(&self, answer: Option<Kept>) -> Around
         ensures { result ≡ state.around_of self.now answer }
     {
@@ -247,11 +247,11 @@ impl State {
         Ok(())
     }
 
-    /// Takes in a token that is answered. Fewer than 128 contexts do not allocate.
+    /// Takes in a token that is read. Fewer than 128 contexts do not allocate.
     ///
     /// # Errors
     ///
-    /// `AllocError` where there is no memory for one more context. Nothing is then changed.
+    /// `AllocError` where allocation fails for one more context. Nothing is then changed.
     #[inline(always)]
     pub fn take_token(&mut self, token: Kept) -> Result<(), AllocError>
         ensures ok { OnOk result (self.new ≡ state.behind_answer self.old token.flag (Some token)) }
@@ -268,7 +268,7 @@ impl State {
     ///
     /// # Errors
     ///
-    /// `AllocError` where there is no memory for one more context. Nothing is then changed.
+    /// `AllocError` where allocation fails for one more context. Nothing is then changed.
     pub fn take(&mut self, answer: Option<Kept>, end_flag: bool) -> Result<(), AllocError>
         ensures ok { OnOk result (self.new ≡ state.behind_answer self.old end_flag answer) }
         ensures err { OnErr result (self.new ≡ self.old) }

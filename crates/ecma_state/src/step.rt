@@ -16,7 +16,7 @@ pub enum Step {
     SetContexts(TokenContexts),
     /// Takes the innermost context away.
     PopContext,
-    /// Has the next reads begin at the slash that was answered last.
+    /// Has the next reads begin at the slash that was read last.
     Reread,
     /// Takes that back.
     Withdraw,

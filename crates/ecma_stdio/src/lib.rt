@@ -1,10 +1,13 @@
-//! Programs from standard input to standard output: the words of the command line, reading all of a text, writing one
-//! text or the line of a fault, texts in one line, numbers, and the exit code.
+//! Standard input and output of programs.
 //!
-//! `command_line` has the words and their numbers, and the exit code; `input` reads all, within a number of turns,
-//! and judges whether it is a text; `output` writes, counts what went out, and answers with what was made or with the
-//! line of a fault; `escaped` writes bytes so that they are in one line; `decimal` writes numbers straight into what
-//! is written; `fault` has the statuses and their lines.
+//! `command_line` has the words, their numbers, and the exit code; `input` reads all, within a number of turns, and
+//! judges whether it is a text; `output` writes, counts what went out, and writes what was made or the line of a fault;
+//! `escaped` writes bytes so that they are in one line; `decimal` writes numbers straight into what is written; `fault`
+//! has the statuses and their lines.
+//!
+//! Promised: `words` are the arguments but the first, `number` reads a number, `exit_code` is the status
+//! (`exit_without_words` 5, without memory for the words); `read_all` returns all that the reader had, `text_of` the
+//! text or its fault, `send` and `answer` how much went out; `push_escaped` adds the bytes of its definition.
 //!
 //! `proofs/Runs.antt` has the lemmas of a loop that adds bytes in runs, between those that something else is written
 //! for; `ecma_html` and `ecma_report` cite them where they escape.

@@ -40,7 +40,7 @@ fn reread_in(head: &[u8; 90]) -> Option<BytePos>
     }
 }
 
-/// The token that was given last, where there is one.
+/// The token that was read last, where there is one.
 fn kept_in(head: &[u8; 90]) -> Kept
     ensures { result ≡ stored.kept_in head.now }
 {
@@ -110,7 +110,7 @@ fn checkpoint_in(alloc: Global, head: &[u8; 90], inner: &[u8]) -> Result<Checkpo
 ///
 /// # Errors
 ///
-/// `AllocError` where there is no memory for the contexts, or for as many bytes again.
+/// `AllocError` where allocation fails for the contexts, or for as many bytes again.
 pub fn decode(alloc: Global, bytes: &[u8]) -> Result<Option<Checkpoint>, AllocError>
     ensures some { IfOk result (λ c. IfSome c (λ c. stored.stored c ≡ bytes.now)) }
     ensures none { IfOk result (λ c. c ≡ None → (d : CheckpointValue) → stored.IsStorable d → stored.stored d ≡ bytes.now → ⊥) }

@@ -1,7 +1,8 @@
-//! Checkpoints as bytes and as data of serde, to be kept outside of a program.
+//! Checkpoints as bytes, and as data of serde.
 //!
-//! `to_bytes.rt`, `from_bytes.rt` and `kinds.rt` have the bytes (`specs/Stored.antt`), `serial.rt` the data of serde.
-//! Bytes from outside give a checkpoint or none; whether it is one of a text is asked of `Checkpoint::fits`.
+//! [`encode`] and [`decode`] keep a checkpoint outside of a program. `to_bytes.rt`, `from_bytes.rt` and `kinds.rt` have
+//! the bytes (`specs/Stored.antt`), `serial.rt` the data of serde. Promised: bytes from outside are a checkpoint or
+//! none; whether it is one of a text is asked of `Checkpoint::fits`.
 #![tactic(auto)]
 
 mod code;

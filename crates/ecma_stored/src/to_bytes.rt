@@ -159,7 +159,7 @@ fn push_contexts(out: &mut Vec<u8>, contexts: &TokenContexts) -> Result<(), Allo
 ///
 /// # Errors
 ///
-/// `AllocError` where there is no memory for the bytes, and as of [`TokenContexts::copy`].
+/// `AllocError` where allocation fails for the bytes, and as of [`TokenContexts::copy`].
 pub fn encode(alloc: Global, from: &Checkpoint) -> Result<Vec<u8>, AllocError>
     ensures bytes { IfOk result (λ bytes. bytes.items ≡ stored.stored from.now) }
     ensures storable { IfOk result (λ _. stored.IsStorable from.now) }

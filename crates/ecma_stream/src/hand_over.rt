@@ -13,7 +13,7 @@ use std::alloc::AllocError;
 pub trait HandsOver<'a> {
     ghost shown: { Self → LexerState };
 
-    /// The comments, where the last answer was the end and memory was never refused. None is kept then.
+    /// The comments, where the last read was the end and no allocation failed. None is kept then.
     fn take_comments(&mut self) -> Option<CommentsBuffer<'a>>
         ensures { MatchOption result
             ((has_comments (shown self.old) ≡ false) × (shown self.new ≡ shown self.old))
@@ -26,13 +26,13 @@ pub trait HandsOver<'a> {
         ensures { shown self.new ≡ state_with_comments comments.entry.comments (shown self.old) };
 }
 
-/// Hands the comments of a lexer over to a store, in order, once the end was answered; whether it was. Each leads the token
+/// Hands the comments of a lexer over to a store, in order, once the end was read; whether it was. Each leads the token
 /// that starts at its place, or trails the one that ends there. No comment is kept then, so that a second call adds none.
-/// Where the last answer was not the end, or memory was refused before, nothing is done.
+/// Where the last read was not the end, or an allocation failed before, it does nothing.
 ///
 /// # Errors
 ///
-/// `AllocError` where the store has no memory for a comment. Those before it were handed over, and it and those behind it are
+/// `AllocError` where the store can't allocate for a comment. Those before it were handed over, and it and those behind it are
 /// kept, in order.
 pub fn hand_comments<'a, L: HandsOver<'a>, C: Comments<'a>>(
     lexer: &mut L,

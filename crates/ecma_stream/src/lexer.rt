@@ -127,9 +127,9 @@ impl<'a> Lexer<'a> {
         Lexer::with_settings(alloc, &settings, input)
     }
 
-    /// Whether a line terminator comes before the last token, or, where the last answer was the end, before that.
+    /// Whether a line terminator comes before the last token, or, where the last read was the end, before that.
     ///
-    /// Before any answer there is none.
+    /// Before any read there is none.
     pub fn had_line_break_before_last(&self) -> bool
         ensures { result ≡ self.now.state.seen.flag }
     {
@@ -157,7 +157,7 @@ impl<'a> Lexer<'a> {
         self.state.expr_allowed
     }
 
-    /// The place of the last answer, where that was `/` or `/=`. None where memory was refused.
+    /// The place of the token read last, if that is `/` or `/=`. None after an allocation failure.
     pub fn last_slash(&self) -> Option<BytePos>
         ensures { result ≡ slash_answered (lexer_state self.now) }
     {
@@ -170,7 +170,7 @@ impl<'a> Lexer<'a> {
     /// Has each read begin at this slash, until this is called again: it is read again as a regular expression, with the
     /// slash's flag, and its token takes the place of the slash.
     ///
-    /// `start` is `None`, which has reads go on behind what was read last, or the answer of [`Lexer::last_slash`].
+    /// `start` is `None`, which has reads go on behind what was read last, or what [`Lexer::last_slash`] returned.
     pub fn set_next_regexp(&mut self, start: Option<BytePos>)
         requires { MayReread start (lexer_state self.old) }
         ensures { lexer_state self.new ≡ state_rereading start (lexer_state self.old) }
@@ -183,7 +183,7 @@ impl<'a> Lexer<'a> {
     ///
     /// # Errors
     ///
-    /// `AllocError` where there is no memory for errors, comments, or more than 128 contexts.
+    /// `AllocError` where allocation fails for errors, comments, or more than 128 contexts.
     pub fn copy(&self) -> Result<Lexer<'a>, AllocError>
         ensures same { IfOk result (λ copy. lexer_state copy ≡ lexer_state self.now) }
     {
@@ -214,7 +214,7 @@ impl<'a> Lexer<'a> {
         self.reread.is_some()
     }
 
-    /// Takes the innermost context away, and answers whether there was one.
+    /// Takes the innermost context away, and returns whether there was one.
     pub fn pop_context(&mut self) -> bool
         ensures some { result ≡ is_some (innermost self.old.state.contexts) }
         ensures after { lexer_state self.new ≡ state_with_contexts (drop 1 self.old.state.contexts) (lexer_state self.old) }
@@ -222,7 +222,7 @@ impl<'a> Lexer<'a> {
         self.state.contexts.pop().is_some()
     }
 
-    /// The errors, the comments, and whether the last answer was the end.
+    /// The errors, the comments, and whether the last read was the end.
     pub fn into_parts(self) -> (ErrorLists<'a>, Vec<BufferedComment<'a>>, bool)
         ensures errors { errors_view result.0 ≡ (lexer_state self.entry).errors }
         ensures comments { result.1.items ≡ self.entry.comments }
@@ -290,7 +290,7 @@ impl<'a> Lexer<'a> {
     }
 
     /// Takes in what a read finds, behind which the cursor then is: the comments are attached, the errors are recorded, wait
-    /// or are dropped, and the contexts change. Where memory is refused, comments and errors may have been added.
+    /// or are dropped, and the contexts change. Where allocation fails, comments and errors may have been added.
     fn take_besides(
         &mut self,
         behind: StringInput<'a>,
@@ -320,7 +320,7 @@ impl<'a> Lexer<'a> {
         Ok(())
     }
 
-    /// Takes in what a read finds, behind which the cursor then is. Nothing is changed where memory is refused.
+    /// Takes in what a read finds, behind which the cursor then is. Nothing is changed where allocation fails.
     fn take_in(
         &mut self,
         behind: StringInput<'a>,
@@ -342,7 +342,7 @@ impl<'a> Lexer<'a> {
         taken
     }
 
-    /// Takes in a token that was found with nothing else to report: the contexts change. Nothing does where memory is refused.
+    /// Takes in a token that was found with nothing else to report: the contexts change. Nothing does where allocation fails.
     #[inline(always)]
     fn take_plain(&mut self, token: Kept) -> Result<(), AllocError>
         requires { IsAnswer self.old (Some token) }
@@ -370,7 +370,7 @@ impl<'a> Lexer<'a> {
         Ok(())
     }
 
-    /// Reads without asking whether memory was refused before.
+    /// Reads without asking whether an allocation failed before.
     #[inline(always)]
     fn next_answer(&mut self) -> Result<Option<TokenAndSpan<'a>>, AllocError>
         ensures answer { IfOk result (λ answer. option_map spanned_view answer ≡ (reading_of (lexer_state self.old)).found) }
@@ -384,7 +384,7 @@ impl<'a> Lexer<'a> {
         Ok(answer)
     }
 
-    /// Reads into a slot that is kept: what [`Lexer::read`] answers takes the place of what is in it. Where tokens are
+    /// Reads into a slot that is kept: what [`Lexer::read`] returns takes the place of what is in it. Where tokens are
     /// kept this is the cheaper of the two, since the token is made in its place. Our own.
     ///
     /// # Errors
@@ -419,7 +419,7 @@ impl<'a> Lexer<'a> {
     ///
     /// # Errors
     ///
-    /// `AllocError` where there is no memory. Nothing is then changed, but that each later read answers the same, until the
+    /// `AllocError` where allocation fails. Nothing is then changed, but that each later read returns the same, until the
     /// lexer goes back to a checkpoint of before.
     #[inline(always)]
     pub fn read(&mut self) -> Result<Option<TokenAndSpan<'a>>, AllocError>
@@ -429,7 +429,7 @@ impl<'a> Lexer<'a> {
         // The same of what a lexer shows.
         ensures answer { IfOk result (λ answer. option_map spanned_view answer ≡ (reading_of (lexer_state self.old)).found) }
         ensures after { OnOk result (lexer_state self.new ≡ state_behind (lexer_state self.old) (reading_of (lexer_state self.old))) }
-        // Once the end was answered, it is answered again, where no slash is read again.
+        // Once the end was read, it is returned again, where no slash is read again.
         ensures again { self.old.reread ≡ None → IfOk result (λ answer. answer ≡ None → (reading_of (lexer_state self.new)).found ≡ None) }
         ensures refused { self.old.refused ≡ true → (result ≡ Err alloc_error) × (self.new ≡ self.old) }
         ensures refusal { OnErr result (self.new ≡ record self.old { refused = true }) }
@@ -460,8 +460,8 @@ impl<'a> Iterator for Lexer<'a> {
 
     ghost remaining = { items_left };
 
-    /// What [`Lexer::read`] answers. A refusal of memory comes once, and nothing behind it. Where no slash is read again
-    /// it ends within twice the bytes that are left and two items, and gives nothing behind its end.
+    /// What [`Lexer::read`] returns. `AllocError` comes once at most, and nothing behind it. Where no slash is read again
+    /// it ends within twice the bytes that are left and two items, and returns nothing behind its end.
     fn next(&mut self) -> Option<Result<TokenAndSpan<'a>, AllocError>> {
         if self.refused {
             return None;

@@ -40,7 +40,7 @@ pub trait Tokens<'a> {
     ///
     /// # Errors
     ///
-    /// `AllocError` where there is no memory for the errors that waited. Nothing is then changed.
+    /// `AllocError` where allocation fails for the errors that waited. Nothing is then changed.
     fn set_ctx(&mut self, ctx: Context) -> Result<(), AllocError>
         ensures ok { OnOk result (state self.new ≡ state_in ctx (state self.old)) }
         ensures err { OnErr result (state self.new ≡ state self.old) }
@@ -69,7 +69,7 @@ pub trait Tokens<'a> {
 
     /// Has each read begin at this slash, until this is called again, or go on behind what was read last.
     ///
-    /// `start` is `None` or the place of the slash that was answered last.
+    /// `start` is `None` or the place of the slash that was read last.
     fn set_next_regexp(&mut self, start: Option<BytePos>)
         requires { MayReread start (state self.old) }
         ensures { state self.new ≡ state_rereading start (state self.old) };
@@ -92,7 +92,7 @@ pub trait Tokens<'a> {
     ///
     /// # Errors
     ///
-    /// The error itself where there is no memory for it. Nothing is then changed.
+    /// The error itself where it can't be allocated. Nothing is then changed.
     fn add_error(&mut self, error: Error<'a>) -> Result<(), Error<'a>>
         ensures ok { OnOk result (state self.new ≡ state_with_error (error_view error.entry) (state self.old)) }
         ensures err { OnErr result (state self.new ≡ state self.old) }
@@ -103,7 +103,7 @@ pub trait Tokens<'a> {
     ///
     /// # Errors
     ///
-    /// The error itself where there is no memory for it. Nothing is then changed.
+    /// The error itself where it can't be allocated. Nothing is then changed.
     fn add_module_mode_error(&mut self, error: Error<'a>) -> Result<(), Error<'a>>
         ensures ok { OnOk result (state self.new ≡ state_with_module_mode_error (error_view error.entry) (state self.old)) }
         ensures err { OnErr result (state self.new ≡ state self.old) }

@@ -83,7 +83,7 @@ impl Class {
 ///
 /// # Errors
 ///
-/// `AllocError` where there is no memory.
+/// `AllocError` where allocation fails.
 pub fn token_classes(alloc: Global, kept: &[Kept]) -> Result<Vec<Option<Class>>, AllocError>
     ensures { IfOk result (λ v. v.items ≡ style.token_classes kept.now) }
 {

@@ -1,7 +1,8 @@
-//! What the parts of a text are to a reader, as a stylesheet or a terminal's colours name it: the classes of tokens, by their kinds and
-//! the token before, and those of the pieces that cover a text.
+//! Classes of the parts of a text: what a stylesheet or a terminal's colours name.
 //!
-//! `class.rt` has the classes and tells that of a token; `pieces.rt` gives each piece its own.
+//! `class.rt` has the classes, and that of a token, by its kind and the token before; `pieces.rt` has those of the
+//! pieces that cover a text. Promised: `piece_classes` returns the class of each piece, and `token_classes` of each
+//! token, as `specs/` define them.
 #![tactic(auto)]
 
 mod class;

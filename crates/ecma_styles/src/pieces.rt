@@ -35,7 +35,7 @@ pub fn taken_behind(class: PieceClass, classes: &[Option<Class>], taken: usize) 
 ///
 /// # Errors
 ///
-/// `AllocError` where there is no memory.
+/// `AllocError` where allocation fails.
 pub fn piece_classes(
     alloc: Global,
     classes: &[Option<Class>],

@@ -1,7 +1,7 @@
 //! What holds of every word and operator: each call does nothing, and its contract is the law.
 ghost use Rattle.ecma_word.specs.Laws.{WordsReadBack, WordsKeepTheirText, WordsAreLookedUp, OperatorsKeepTheirText};
 
-/// Reading a word's text gives the word back, unless it is an other name with a text of the table of words.
+/// Reading a word's text returns the word, unless it is an other name with a text of the table of words.
 pub fn words_read_back()
     ensures { WordsReadBack }
 {}

@@ -1,6 +1,6 @@
-//! Settings, context flags, words and operators.
+//! Facade of settings, words and operators.
 //!
-//! It shows `ecma_settings` and `ecma_word`, with laws. Call [`Syntax`]'s questions to ask what a language has, and
+//! It passes on `ecma_settings` and `ecma_word`, with laws. Call [`Syntax`]'s questions to ask what a language has, and
 //! set flags in a [`Context`]; nothing here allocates.
 #![tactic(auto)]
 

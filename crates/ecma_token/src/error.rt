@@ -53,7 +53,7 @@ pub enum SyntaxError<'a> {
     InvalidStrEscape,
     /// An escape whose brace nothing closes (ECMA-262, 12.9.4).
     InvalidUnicodeEscape,
-    /// An escape that has not the form that is wanted.
+    /// An escape of the wrong form.
     BadCharacterEscapeSequence {
         expected: &'static str,
     },
@@ -304,7 +304,7 @@ impl<'a> SyntaxError<'a> {
         }
     }
 
-    /// The same, where it holds no memory at all.
+    /// The same, where it owns nothing.
     fn copy_unowned(&self) -> SyntaxError<'a>
         requires { IsTrue (can_own_nothing self.now) }
         ensures { kind_view result ≡ kind_view self.now }

@@ -1,10 +1,15 @@
-//! Tokens, their kinds, and what can be wrong with a text.
+//! Tokens, their kinds, and errors.
 //!
-//! This is what the lexer gives: [`Token`], [`TokenAndSpan`] and [`Error`]. The parser's errors with fixed messages
-//! are in `ecma_fixed`, beside the chain; `names.rt` has a constant of `SyntaxError` for each. Tokens and errors hold
-//! each other through boxes, so their copies, and their texts, are proved together; contracts see them through a view
-//! that forgets boxes and spare capacity and nothing else. The tables of `specs/` (questions, messages, debug texts)
-//! are the whole contract.
+//! The lexer returns [`Token`], [`TokenAndSpan`] and [`Error`]. Match on a token, or ask its [`TokenKind`];
+//! `Error::kind` and `SyntaxError::msg` are what is wrong, in words. Promised: questions, messages and debug texts are
+//! the tables of `specs/`; a copy looks like its source, and allocates only for what is owned.
+//!
+//! The parser's errors with fixed messages are in `ecma_fixed`; `names.rt` has a constant of `SyntaxError` for each.
+//! Tokens and errors hold each other through boxes, so their copies and texts are proved together; contracts see them
+//! through a view without boxes and spare capacity.
+//!
+//! To change a message: `message.rt`, `specs/Messages.antt`, or `ecma_fixed`: `fixed.rt`, `specs/Fixed.antt`; rows that
+//! quote it: `ecma_refusals/stdout` and tests (`rows_tests` counts its bytes). Prove `ecma_token`.
 #![tactic(auto)]
 
 pub mod error;

@@ -91,7 +91,7 @@ impl<'a> SyntaxError<'a> {
     }
 }
 
-// Two texts and what stands round them.
+// Two texts and what is round them.
 fn write_pair<W: fmt::Write>(
     f: &mut fmt::Formatter<W>,
     before: &str,

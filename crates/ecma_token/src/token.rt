@@ -99,18 +99,18 @@ pub enum Token<'a> {
         radix: Radix,
         digits: Atom<'a>,
     },
-    /// A name in a JSX tag; the lexer never gives it.
+    /// A name in a JSX tag; the lexer never reads it.
     JSXName {
         name: Atom<'a>,
     },
-    /// Text between JSX tags; the lexer never gives it.
+    /// Text between JSX tags; the lexer never reads it.
     JSXText {
         value: Atom<'a>,
         raw: Atom<'a>,
     },
-    /// `<` of a JSX tag; the lexer never gives it.
+    /// `<` of a JSX tag; the lexer never reads it.
     JSXTagStart,
-    /// `>` of a JSX tag; the lexer never gives it.
+    /// `>` of a JSX tag; the lexer never reads it.
     JSXTagEnd,
     /// A line that begins with `#!` at the very start; its text is what follows these.
     Shebang(Atom<'a>),

@@ -1,8 +1,9 @@
 //! Words and operators: a word is the row of its text in one table.
 //!
-//! The table has 81 rows (`specs/Table.antt`): 35 keywords, 3 literal words, 43 known names; any other text is a name
-//! that borrows it. `table.rt` lays the rows out by length and first letter, `short_words.rt` by a perfect hash of
-//! the first 16 bytes; both are proved to give the table's answer. `operator.rt` has the operators.
+//! Call `Word::from_str` for the word of a text; any text that is in no row is a name that borrows it. The table has 81
+//! rows (`specs/Table.antt`): 35 keywords, 3 literal words, 43 known names. `short_words.rt` finds a word of 2 to 10
+//! bytes by a perfect hash of its length and three of its bytes, proved to return the table's row. `operator.rt` has
+//! the operators.
 #![tactic(auto)]
 
 pub mod keyword;

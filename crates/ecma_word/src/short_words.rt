@@ -54,7 +54,7 @@ const NONE: Row = Row {
     kind: WordKind::Ident(IdentKind::Other),
 };
 
-// Each word stands at the place that `place_of` works out.
+// Each word is at the place that `place_of` works out.
 static ROWS: [Row; 256] = [
     known!(b"from\0\0\0\0\0\0\0\0\0\0\0\0", 4, From),
     NONE,
@@ -324,7 +324,7 @@ fn rows() -> &'static [Row; 256]
     &ROWS
 }
 
-// Where a word of 2 to 10 bytes would stand: no two words of the table have the same place.
+// Where a word of 2 to 10 bytes would be: no two words of the table have the same place.
 #[inline(always)]
 fn place_of(text: &[u8; 16], length: u32) -> usize
     requires { (2 ≤ length) × (length ≤ 10) }
@@ -350,8 +350,8 @@ fn same_front(left: &[u8; 16], right: &[u8; 16], length: u32) -> bool
     (differ | 0x10000).trailing_zeros() >= length
 }
 
-/// What the word is that the first `length` of these 16 bytes spell; what follows them doesn't matter. It takes no
-/// memory, and compares with one row at most.
+/// What the word is that the first `length` of these 16 bytes spell; what follows them doesn't matter. It does not
+/// allocate, and compares with one row at most.
 ///
 /// Our own, for speed.
 #[inline(always)]

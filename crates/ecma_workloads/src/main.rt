@@ -1,4 +1,4 @@
-//! Jobs that users of the lexer wait for, over texts that a number gives: `NAME SEED` does one, and writes a digest of all its
+//! Jobs that users wait for, over texts that a number gives: `NAME SEED` does one, and writes a digest of all its
 //! results; with no words each is done in its small form.
 #![tactic(auto)]
 

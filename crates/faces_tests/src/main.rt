@@ -1,4 +1,4 @@
-//! Tests of the crates that show a text to people: they see of them what any caller sees.
+//! Tests of `ecma`, HTML and imports.
 #![tactic(auto)]
 
 #[cfg(test)]

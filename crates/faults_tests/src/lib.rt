@@ -1,4 +1,4 @@
-//! Tests of `ecma_faults`: they see of it what any caller sees.
+//! Tests of `ecma_faults`.
 #![tactic(auto)]
 
 #[cfg(test)]

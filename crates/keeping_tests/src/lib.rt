@@ -1,4 +1,4 @@
-//! Rows of the calls that a lexer keeps comments and errors by.
+//! Tests of kept comments and errors.
 #![tactic(auto)]
 
 #[cfg(test)]

@@ -1,4 +1,4 @@
-//! Rows of texts: what the lexer reads of each, as any caller sees it.
+//! Tests of texts: what the lexer reads of each.
 #![tactic(auto)]
 
 #[cfg(test)]

@@ -1,4 +1,4 @@
-//! Tests of the work of the programs: they see of it what any caller sees.
+//! Tests of `ecma_lex` and `ecma_bench`.
 #![tactic(auto)]
 
 #[cfg(test)]

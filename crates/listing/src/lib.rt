@@ -1,4 +1,4 @@
-//! The listing of a text, as a lexer reads it, for rows of tests.
+//! What a lexer reads of a text, for rows of tests.
 #![tactic(auto)]
 
 pub mod listing;

@@ -1,4 +1,4 @@
-//! Listings: what a text comes to, read by a lexer or played by steps, as rows of tests hold it.
+//! What a text comes to, read by a lexer or played by steps, for rows of tests.
 #![tactic(auto)]
 
 pub mod commands;

@@ -1,4 +1,4 @@
-//! Tests of the imports and exports that tokens tell.
+//! Tests of `ecma_modules`.
 #![tactic(auto)]
 
 #[cfg(test)]

@@ -1,4 +1,4 @@
-//! Tests of `ecma_place`: they see of it what any caller sees.
+//! Tests of `ecma_place`.
 #![tactic(auto)]
 
 #[cfg(test)]

@@ -1,4 +1,4 @@
-//! Tests of `ecma_print`: they see of it what any caller sees.
+//! Tests of `ecma_print`.
 #![tactic(auto)]
 
 #[cfg(test)]

@@ -1,7 +1,7 @@
-//! The other calls of the lexer that allocate, played: what a parser has it keep, many comments, lists of steps, and pieces.
+//! Other calls to refuse memory in: what a parser has a lexer keep, many comments, lists of steps, and pieces.
 //!
-//! `kept` adds errors, comments and contexts, `shared` so many comments that copies share them, `whole` plays lists
-//! of steps, `cover` covers texts with pieces.
+//! `kept` adds errors, comments and contexts, `shared` so many comments that copies share them, `whole` plays lists of
+//! steps, `cover` covers texts with pieces.
 #![tactic(auto)]
 
 pub mod cover;

@@ -1,5 +1,4 @@
-//! `replay` in its plain form, which tests compare it with: a lexer with the tokens that it keeps, and saves that are copies of
-//! both.
+//! `replay` by copies alone, which tests compare it with.
 //!
 //! A player is a lexer with the tokens that it keeps (`player.rt`), and each save and each way back copies all of it
 //! (`runner.rt`, `specs/Copies.antt`). It meets the same contract; no caller needs it, and `replay_tests` plays the

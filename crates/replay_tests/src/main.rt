@@ -1,4 +1,4 @@
-//! Tests of steps that are replayed, and of the pieces that cover a text.
+//! Tests of replayed steps and of pieces.
 #![tactic(auto)]
 
 #[cfg(test)]

@@ -1,4 +1,4 @@
-//! Rows of lexers that go on from a checkpoint over the rest of a text, and of checkpoints that are stored.
+//! Tests of going on from checkpoints, and of stored ones.
 #![tactic(auto)]
 
 #[cfg(test)]

@@ -1,4 +1,4 @@
-//! Tests of what is expected behind tokens: which slashes begin regular expressions.
+//! Tests of `ecma_roles`.
 #![tactic(auto)]
 
 #[cfg(test)]

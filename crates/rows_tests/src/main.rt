@@ -1,4 +1,4 @@
-//! Tests of rows of numbers: they see of the library what any caller sees.
+//! Tests of `ecma_rows`.
 #![tactic(auto)]
 
 #[cfg(test)]

@@ -1,4 +1,4 @@
-//! Tests of `ecma_scan`: they see of it what any caller sees.
+//! Tests of `ecma_scan`.
 #![tactic(auto)]
 
 #[cfg(test)]

@@ -1,4 +1,4 @@
-//! Tests of `ecma_show`: they see of it what any caller sees.
+//! Tests of `ecma_show`.
 #![tactic(auto)]
 
 #[cfg(test)]

@@ -1,4 +1,4 @@
-//! Tests of the state between two reads: contexts, what is asked of it, and lists of errors.
+//! Tests of `ecma_state`: contexts, questions, lists of errors.
 #![tactic(auto)]
 
 #[cfg(test)]

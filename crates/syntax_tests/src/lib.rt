@@ -1,4 +1,4 @@
-//! Tests of `ecma_syntax`: they see of it what any caller sees.
+//! Tests of `ecma_syntax`.
 #![tactic(auto)]
 
 #[cfg(test)]

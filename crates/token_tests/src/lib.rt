@@ -1,4 +1,4 @@
-//! Tests of `ecma_token`: they see of it what any caller sees.
+//! Tests of `ecma_token`.
 #![tactic(auto)]
 
 #[cfg(test)]

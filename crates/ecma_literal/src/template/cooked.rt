@@ -37,7 +37,7 @@ fn push_verbatim(cooked: &mut String, input: &mut StringInput) -> Result<(), All
     cooked.push_str(input.slice(start, input.cur_pos()))
 }
 
-/// Moves over template text, up to a back quote, `${` or the end, and answers what it means.
+/// Moves over template text, up to a back quote, `${` or the end, and returns what it means.
 pub(super) fn cook_text(alloc: Global, input: &mut StringInput) -> Result<String, AllocError>
     ensures { IfOk result (λ s. string_bytes s ≡ encode_utf8_all (templates.cooked_text (pieces templates.template_cutter tt (rest input.old)))) }
 {

@@ -13,13 +13,13 @@ use ecma_place::{CharExt, StringInput};
 /// A piece of template text.
 #[derive(Clone, Copy)]
 pub(super) enum Piece {
-    /// A character that stands for itself.
+    /// A character that is its own value.
     Plain(char),
     /// A line terminator that is no CR.
     Break(char),
     /// A CR, and whether LF follows it.
     Return(bool),
-    /// An escape, by what it stands for.
+    /// An escape, by what it means.
     Escaped(Meaning),
 }
 

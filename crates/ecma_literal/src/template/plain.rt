@@ -1,4 +1,4 @@
-//! What stands in a template, where it means what is written. Our own, for speed.
+//! What is in a template, where it means what is written. Our own, for speed.
 ghost use Rattle.std.specs.Prelude.{◌≡◌, ℕ, true};
 ghost use Rattle.std.specs.List.{list_all};
 ghost use Rattle.ecma_place.specs.Cursor.{rest};
@@ -12,7 +12,7 @@ use crate::template::{is_at_mark, read_mark};
 use ecma_place::{Atom, StringInput};
 use ecma_token::Token;
 
-/// What stands at the cursor in a template, where it means what is written.
+/// What is at the cursor in a template, where it means what is written.
 #[derive(Drop)]
 pub enum PlainTemplate<'a> {
     /// The token: text with neither an escape nor a CR, or the back quote or `${` behind such. With it, whether a line
@@ -28,7 +28,7 @@ pub enum PlainTemplate<'a> {
 /// is written: its token is what [`scan_template`](crate::scan_template) finds, with nothing else to report but the flag,
 /// which says whether a line terminator is in the text.
 ///
-/// `after_template` says that the last token was template text. Text that meets the end is passed too, and told of without
+/// `after_template` says that the last token was template text. Text that meets the end is passed too, and reported without
 /// a token: the error is from the last back quote that opened a template to the end. Where an escape or a CR is in the text
 /// the cursor stays. Does not allocate: both what is written and what it means borrow from the source.
 #[inline(always)]

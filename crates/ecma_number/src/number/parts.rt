@@ -75,7 +75,7 @@ fn prefix(input: &StringInput) -> Option<(Radix, char)>
     Some((radix, letter))
 }
 
-/// Moves behind the `n` of a big integer, where it follows a run with a digit, and answers whether it does.
+/// Moves behind the `n` of a big integer, where it follows a run with a digit, and returns whether it does.
 fn read_suffix(input: &mut StringInput, run: &str, radix: Radix) -> bool
     ensures value { result ≡ numbers.is_big radix run.now (rest input.old) }
     ensures moved { input.new ≡ passed (length (numbers.suffix_of (numbers.is_big radix run.now (rest input.old)))) input.old }
@@ -95,7 +95,7 @@ fn read_fraction<'a>(input: &mut StringInput<'a>) -> WrittenFraction<'a>
     }
 }
 
-/// Moves behind a sign, where one comes next, and answers its text.
+/// Moves behind a sign, where one comes next, and returns its text.
 fn read_sign<'a>(input: &mut StringInput<'a>) -> &'a str
     ensures text { result.now ≡ numbers.sign (rest input.old) }
     ensures moved { input.new ≡ passed (length (numbers.sign (rest input.old))) input.old }
@@ -200,7 +200,7 @@ fn read_radixed<'a>(input: &mut StringInput<'a>, radix: Radix, letter: char) -> 
     }
 }
 
-/// Moves behind the number at the cursor, and answers its parts.
+/// Moves behind the number at the cursor, and returns its parts.
 pub(super) fn read_parts<'a>(input: &mut StringInput<'a>) -> WrittenNumber<'a>
     ensures value { number_of result ≡ numbers.number_parts (rest input.old) }
     ensures moved { input.new ≡ passed (length (numbers.number_text (numbers.number_parts (rest input.old)))) input.old }

@@ -22,7 +22,7 @@ fn is_decimal(b: u8) -> bool
     b.is_ascii_digit()
 }
 
-/// How many decimal digits the bytes begin with, and their value. There is no answer where that may not fit 64 bits; that
+/// How many decimal digits the bytes begin with, and their value. `None` where that may not fit 64 bits; that
 /// of 18 digits does.
 #[inline(always)]
 fn leading_value(bytes: &[u8]) -> Option<(usize, u64)>
@@ -118,13 +118,13 @@ fn plain_extent(bytes: &[u8]) -> Option<(usize, Option<u128>)>
     }
 }
 
-/// Moves behind the number at the cursor and answers its token, where it is plain: decimal digits with no zero before
+/// Moves behind the number at the cursor and returns its token, where it is plain: decimal digits with no zero before
 /// others, whose value fits 64 bits, then perhaps a point and digits, if any, and behind them an ASCII character with which
 /// neither a name begins nor an escape (ECMA-262 DecimalLiteral, 12.9.3). By each rule
 /// [`scan_number`](crate::scan_number) finds the same token, with nothing else to report.
 ///
-/// Each such number with at most 18 digits before its point is answered. Of any other, and of one that ends the text,
-/// there is no answer, and the cursor is where it was.
+/// Each such number with at most 18 digits before its point is read. Of any other, and of one that ends the text,
+/// it returns `None`, and the cursor is where it was.
 ///
 /// The cursor is at a digit, or at a point and a digit. Nothing is allocated.
 #[inline(always)]

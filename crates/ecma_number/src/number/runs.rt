@@ -35,7 +35,7 @@ fn is_in_run(c: char, radix: Radix) -> bool
     is_digit(c, radix) || c == '_'
 }
 
-/// Moves behind the run at the cursor, as many characters as there are, and answers its text.
+/// Moves behind the run at the cursor, as many characters as there are, and returns its text.
 #[tactic(auto, using(ecma_place::proofs::RunLemmas::runs, ecma_grammar::proofs::RunReading::run_reading))]
 pub(super) fn read_run<'a>(input: &mut StringInput<'a>, radix: Radix) -> &'a str
     ensures text { result.now ≡ numbers.run_of radix (rest input.old) }

@@ -1,4 +1,4 @@
-//! The arms of a read, which give what comes behind white space: words, punctuators of one character, and all else of which
+//! The arms of a read, which read what comes behind white space: words, punctuators of one character, and all else of which
 //! there is nothing else to report.
 ghost use Rattle.std.specs.Prelude.{◌≡◌, ◌<◌, ◌≤◌, true, false, None, Some, [], length, IfNone, IfOk, IfSome, IsOk, OnOk, OnErr};
 ghost use Rattle.ecma_token.specs.View.{spanned_view};
@@ -72,7 +72,7 @@ impl<'a> Lexer<'a> {
         Ok(())
     }
 
-    /// Puts the cursor back, since nothing was given.
+    /// Puts the cursor back, since nothing was read.
     #[inline(always)]
     pub(super) fn go_before(&mut self, before: BytePos)
         requires place { HasPlace self.old.input before.0 }

@@ -82,8 +82,8 @@ impl<'a> Lexer<'a> {
     /// Goes back to a checkpoint: of the errors and the comments the first are kept, as many as there were. It does not
     /// allocate, and takes as long as it takes to let go of the others.
     ///
-    /// Where no errors and no comments were taken since, all that was read behind the checkpoint is undone, also a refusal of
-    /// memory. Those that were taken are not given back, and such as came behind them may stay in their places. The answer is
+    /// Where no errors and no comments were taken since, all that was read behind the checkpoint is undone, also an
+    /// allocation failure. Those that were taken do not come back, and such as came behind them may stay in their places. It returns
     /// `false`, and nothing is changed, where there are fewer than there were, as where the lexer went further back in
     /// between, and where the checkpoint doesn't fit this lexer's text.
     ///
@@ -108,7 +108,7 @@ impl<'a> Lexer<'a> {
     /// contexts and start place, and with no errors and no comments.
     ///
     /// Only the text of `input` matters, not the place in it: it may be the rest of the text that the checkpoint was made in,
-    /// from the slash on that may be read again, where there is one, else from the checkpoint's place on. The answer is `None` where
+    /// from the slash on that may be read again, where there is one, else from the checkpoint's place on. It returns `None` where
     /// the checkpoint does not fit the text ([`Checkpoint::fits`]). It does not allocate where at most 128 contexts are open. Our
     /// own.
     ///

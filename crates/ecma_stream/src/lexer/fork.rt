@@ -134,7 +134,7 @@ impl<'a> Lexer<'a> {
         }
     }
 
-    /// Reads into the slot without asking whether memory was refused before.
+    /// Reads into the slot without asking whether an allocation failed before.
     // What most tokens need is done here and in the arm that is called last, so that neither keeps room for the rest.
     #[inline(never)]
     pub(super) fn next_into(

@@ -51,7 +51,7 @@ impl<'a> Lexer<'a> {
         Ok(())
     }
 
-    /// Reads what stands in a template at the cursor, with an escape or a CR in it.
+    /// Reads what is in a template at the cursor, with an escape or a CR in it.
     // A call of its own, so that the room for what is scanned is kept there alone.
     #[inline(never)]
     fn scanned_text_into(&mut self, slot: &mut Option<TokenAndSpan<'a>>) -> Result<(), AllocError>
@@ -73,7 +73,7 @@ impl<'a> Lexer<'a> {
         }
     }
 
-    /// Reads what stands in a template at the cursor.
+    /// Reads what is in a template at the cursor.
     #[inline(never)]
     fn template_into(&mut self, slot: &mut Option<TokenAndSpan<'a>>) -> Result<(), AllocError>
         requires none { self.old.reread ≡ None }
@@ -98,7 +98,7 @@ impl<'a> Lexer<'a> {
         }
     }
 
-    /// Reads what is at the cursor where `plain_gap` answers nothing: what stands in a template, else a name that begins past
+    /// Reads what is at the cursor where `plain_gap` returns `None`: what is in a template, else a name that begins past
     /// ASCII, or what has more to report than a token.
     #[inline(never)]
     pub(super) fn text_into(
