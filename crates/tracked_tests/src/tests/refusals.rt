@@ -34,10 +34,7 @@ fn saved<'a>(tracked: &Tracked<'a>) -> Result<TrackedCheckpoint, AllocError> {
 }
 
 /// Goes back, once more where memory was refused.
-fn went_back<'a>(
-    tracked: &mut Tracked<'a>,
-    here: &TrackedCheckpoint,
-) -> Result<bool, AllocError> {
+fn went_back<'a>(tracked: &mut Tracked<'a>, here: &TrackedCheckpoint) -> Result<bool, AllocError> {
     match tracked.rewind(here) {
         Ok(went) => Ok(went),
         Err(_) => tracked.rewind(here),

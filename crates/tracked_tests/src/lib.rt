@@ -1,5 +1,0 @@
-//! Tests of `ecma_tracked`.
-#![tactic(auto)]
-
-#[cfg(test)]
-mod tests;
