@@ -1,5 +1,5 @@
 //! Rows of what is imported and exported.
-ghost use Rattle.std.specs.Prelude.{◌≡◌, ◌++◌, ◌<◌, ◌^◌, List, [], length, map, option_map, ℕ, IfOk, OnOk};
+ghost use Rattle.std.specs.Prelude.{◌≡◌, ◌++◌, ◌<◌, ◌^◌, List, [], false, length, map, option_map, ℕ, IfOk, OnOk};
 ghost use Rattle.ecma_token.specs.View.{spanned_view};
 ghost use Rattle.ecma_module_table.specs.declared.rows.ModuleOptions.{ModuleOptions};
 ghost use Rattle.ecma_modules.specs.Modules.{exports_of, gathered, imports_of};
@@ -209,7 +209,8 @@ pub(crate) fn write_imports<'a, W: Write>(
         (import_rows look name text (imports_of (rows.module_options look.asked) (kept_by named.entry look text)))) }
 {
     let module = read_module(report, named, out)?;
-    push_imports(report, &module.imports, out)
+    push_imports(report, &module.imports, out)?;
+    Ok(())
 }
 
 /// Writes a row for each export, and tells of errors.
@@ -224,5 +225,6 @@ pub(crate) fn write_exports<'a, W: Write>(
         (export_rows look name text (exports_of (rows.module_options look.asked) (kept_by named.entry look text)))) }
 {
     let module = read_module(report, named, out)?;
-    push_exports(report, &module.exports, out)
+    push_exports(report, &module.exports, out)?;
+    Ok(())
 }

@@ -1,4 +1,8 @@
+use Rattle.std.proofs.Common.{subst}
+use Rattle.std.specs.Prelude.{flat_map}
+use Rattle.std.proofs.lemmas.List.{take_all}
 use Rattle.ecma_report.specs.Modules.{export_row}
+use Rattle.ecma_report.specs.Reports.{Adds}
 use Rattle.ecma_report.proofs.ModuleLemmas.{row-added}
 use Rattle.ecma_report.proofs.ReportLemmas.{adds-none, stays-of, stays-on, stays-same}
 use Rattle.ecma_report.proofs.imports.push_exports.Goals as goal
@@ -22,3 +26,8 @@ exports-preserved g c =
           (c.in_ok-push_export.ensures.added ask file bytes (stays-of ask file bytes begun here stays of))
           c.in_ok-pass_on.ensures.adds,
     )
+
+pub returns : goal.returns
+returns g c = λ ask file bytes of.
+    subst (λ rows. Adds (g.W.Write.contents c.args.out.now) (g.W.Write.contents c.exports.out) c.args.report.now.out.items c.exports.report.out.items (flat_map (export_row ask file bytes) rows))
+    (take_all c.exports.export-index c.args.exports.now c.exports-test.false) (c.exports.invariant.1 ask file bytes of)

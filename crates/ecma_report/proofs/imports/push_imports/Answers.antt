@@ -1,4 +1,8 @@
+use Rattle.std.proofs.Common.{subst}
+use Rattle.std.specs.Prelude.{flat_map}
+use Rattle.std.proofs.lemmas.List.{take_all}
 use Rattle.ecma_report.specs.Modules.{import_row}
+use Rattle.ecma_report.specs.Reports.{Adds}
 use Rattle.ecma_report.proofs.ModuleLemmas.{row-added}
 use Rattle.ecma_report.proofs.ReportLemmas.{adds-none, stays-of, stays-on, stays-same}
 use Rattle.ecma_report.proofs.imports.push_imports.Goals as goal
@@ -22,3 +26,8 @@ imports-preserved g c =
           (c.in_ok-push_import.ensures.added ask file bytes (stays-of ask file bytes begun here stays of))
           c.in_ok-pass_on.ensures.adds,
     )
+
+pub returns : goal.returns
+returns g c = λ ask file bytes of.
+    subst (λ rows. Adds (g.W.Write.contents c.args.out.now) (g.W.Write.contents c.imports.out) c.args.report.now.out.items c.imports.report.out.items (flat_map (import_row ask file bytes) rows))
+    (take_all c.imports.import-index c.args.imports.now c.imports-test.false) (c.imports.invariant.1 ask file bytes of)
