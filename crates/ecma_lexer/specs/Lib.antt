@@ -41,6 +41,9 @@ pub use Rattle.ecma_classes.specs.Classes
 pub use Rattle.ecma_pieces.specs.Covered
 pub use Rattle.ecma_slashes.specs.ByFlag
 pub use Rattle.ecma_slashes.specs.Rereads
+pub use Rattle.ecma_tracked.specs.Marks
+pub use Rattle.ecma_tracked.specs.Runs
+pub use Rattle.ecma_tracked.specs.States
 pub use Rattle.ecma_place.specs.Atom
 pub use Rattle.ecma_place.specs.Cursor
 pub use Rattle.ecma_place.specs.Text

@@ -20,3 +20,4 @@ pub use ecma_slashes::laws::{
     rereads_count_met, runs_by_rule_are_runs, runs_by_rule_end, texts_are_read_out,
     texts_are_read_plainly,
 };
+pub use ecma_tracked::laws as tracked;

@@ -1,9 +1,9 @@
 //! Facade of the lexer layer: the lexer, lists of steps, and the laws of both.
 //!
-//! Begin with [`tokenize`] for all tokens of a text, [`Reader`] for a loop over them, [`Lexer`] under a parser,
-//! [`replay`] for a list of steps, [`canonical`] for canonical texts, [`classes_of_steps`] for pieces that cover a
-//! text. docs/GUIDE.md has examples, docs/GUARANTEES.md what is promised of each call. The calls in `laws` do nothing:
-//! their contracts are what holds of every run.
+//! Begin with [`tokenize`] for all tokens of a text, [`Reader`] for a loop over them, [`Tracked`] to look ahead without a
+//! parser, [`Lexer`] under one, [`replay`] for a list of steps, [`canonical`] for canonical texts, [`classes_of_steps`]
+//! for pieces that cover a text. docs/GUIDE.md has examples, docs/GUARANTEES.md what is promised of each call. The calls
+//! in `laws` do nothing: their contracts are what holds of every run.
 #![tactic(auto)]
 
 pub mod laws;
@@ -34,3 +34,4 @@ pub use ecma_stream::{
 };
 pub use ecma_syntax as syntax;
 pub use ecma_token as token;
+pub use ecma_tracked::{Tracked, TrackedCheckpoint};

@@ -1,13 +1,11 @@
 //! What is read of a text, and what is expected in it. What is expected of slashes is what ECMA-262 and TypeScript's grammar
 //! say, as their parsers do.
-use super::rows::{TOKENS, opened, tokens, write_token};
-use ecma_state::ErrorList;
+use super::rows::{TOKENS, opened, tokens, write_some, write_token};
 use ecma_stream::Tokens;
 use ecma_syntax::Context;
 use ecma_tracked::Tracked;
 use listing::listing::{MODULE, PLAIN, Settings, TS};
-use std::alloc::{AllocError, Global};
-use std::process::Abort;
+use std::alloc::AllocError;
 use std::test::Fail;
 
 /// What a text is read by, the text, and its tokens with a space between them.
@@ -108,27 +106,23 @@ fn items_are_the_tokens(rt: HostRuntime) -> Result<(), Fail> {
     Ok(())
 }
 
-/// How many errors are recorded of a text that is read in strict code behind its first token.
-fn strict_errors<'a>(alloc: Global, text: &'a str) -> Result<ErrorList<'a>, AllocError> {
-    let mut tracked = opened(alloc, PLAIN, text)?;
-    tracked.read()?;
+/// Reads a token, has strict code begin behind it, and reads the others.
+fn write_strict(out: &mut String, text: &str, tracked: &mut Tracked) -> Result<(), AllocError> {
+    write_some(out, text, tracked, 1)?;
     let context = Context {
         strict: true,
         ..tracked.lexer().ctx()
     };
     tracked.set_ctx(context)?;
-    for _ in 0..TOKENS {
-        if tracked.read()?.is_none() {
-            break;
-        }
-    }
-    Ok(tracked.into_lexer().take_errors())
+    write_some(out, text, tracked, TOKENS)?;
+    Ok(())
 }
 
-/// An octal number (ECMA-262, 12.9.3.1) is refused in strict code.
 #[test]
-fn flags_count_from_where_they_are_set(rt: HostRuntime) -> Result<(), Fail> {
-    let errors = strict_errors(rt.alloc(), "01 + 02 / 03")?;
-    assert_eq!(rt; errors.len(), 2);
+fn flags_are_set_between_tokens(rt: HostRuntime) -> Result<(), Fail> {
+    let text = "a = /b/ / c";
+    let mut out = String::new(rt.alloc());
+    write_strict(&mut out, text, &mut opened(rt.alloc(), PLAIN, text)?)?;
+    assert_eq!(rt; out.as_str(), "a = /b/ / c");
     Ok(())
 }

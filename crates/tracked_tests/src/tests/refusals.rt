@@ -5,21 +5,20 @@ use ecma_token::TokenAndSpan;
 use ecma_tracked::{Tracked, TrackedCheckpoint};
 use listing::listing::{COLLECTING, PLAIN, Settings, TS};
 use std::alloc::{AllocError, Global};
-use std::process::Abort;
 use std::test::Fail;
 
 /// More tokens than any text has.
-const TOKENS: usize = 600;
+const TOKENS: u64 = 600;
 
-/// A text, how many tokens it has, and where the last of them begins. Escapes, errors and comments take memory, and so do many
-/// contexts and frames.
-type Row = (Settings, &'static str, usize, u32);
+/// A text, and a thousand for each of its tokens, with the place of the last. Escapes, errors and comments take memory, and so
+/// do many contexts and frames.
+type Row = (Settings, &'static str, u64);
 
 const TEXTS: &[Row] = &[
-    (PLAIN, "a = '\\x61' / 0_1 / /\\u{61}/u / b", 9, 31),
-    (TS, "x! / `\\x61${y / 2}` / /[/]/g", 14, 22),
-    (COLLECTING, "/*a*/ b /*c*/ / /*d*/ e", 3, 22),
-    (PLAIN, DEEP, 143, 147),
+    (PLAIN, "a = '\\x61' / 0_1 / /\\u{61}/u / b", 9_031),
+    (TS, "x! / `\\x61${y / 2}` / /[/]/g", 14_022),
+    (COLLECTING, "/*a*/ b /*c*/ / /*d*/ e", 3_022),
+    (PLAIN, DEEP, 143_147),
 ];
 
 const DEEP: &str =
@@ -55,25 +54,25 @@ fn read_through<'a>(tracked: &mut Tracked<'a>) -> Result<Option<TokenAndSpan<'a>
     }
 }
 
-/// How many tokens there are, and where the last begins.
-#[derive(Clone, Copy, PartialEq, Eq, Debug)]
-struct Found {
-    count: usize,
-    last: u32,
+/// Where the next token begins; behind the end the greatest place.
+fn next_place(tracked: &mut Tracked) -> Result<u32, AllocError> {
+    match read_through(tracked)? {
+        Some(token) => Ok(token.span.lo.0),
+        None => Ok(u32::MAX),
+    }
 }
 
-fn found(tracked: &mut Tracked) -> Result<Found, AllocError> {
-    let mut found = Found { count: 0, last: 0 };
+/// A thousand for each token, with the place of the last.
+fn sum_all(tracked: &mut Tracked) -> Result<u64, AllocError> {
+    let mut sum = 0;
     for count in 1..TOKENS {
-        let Some(token) = read_through(tracked)? else {
+        let place = next_place(tracked)?;
+        if place == u32::MAX {
             break;
-        };
-        found = Found {
-            count,
-            last: token.span.lo.0,
-        };
+        }
+        sum = 1000 * count + u64::from(place);
     }
-    Ok(found)
+    Ok(sum)
 }
 
 /// Before the first token, asked for once more where memory was refused.
@@ -84,23 +83,22 @@ fn begun<'a>(alloc: Global, settings: Settings, text: &'a str) -> Result<Tracked
     }
 }
 
-fn check(rt: &impl Abort, alloc: Global, row: Row) -> Result<(), Fail> {
-    let (settings, text, count, last) = row;
-    let found = found(&mut begun(alloc, settings, text)?)?;
-    assert_eq!(rt; found, Found { count, last });
-    Ok(())
+fn sum_of(alloc: Global, settings: Settings, text: &str) -> Result<u64, AllocError> {
+    sum_all(&mut begun(alloc, settings, text)?)
 }
 
 #[test]
 fn refusals_are_undone(rt: HostRuntime) -> Result<(), Fail> {
     for row in TEXTS {
-        check(&rt, rt.alloc(), *row)?;
+        let (settings, text, expected) = *row;
+        let sum = sum_of(rt.alloc(), settings, text)?;
+        assert_eq!(rt; sum, expected);
     }
     Ok(())
 }
 
-/// Behind what was expected the same comes, whether memory was refused or not.
-fn asked_twice(tracked: &mut Tracked) -> Result<bool, AllocError> {
+/// Whether an operand is expected, asked once more where memory was refused.
+fn asked(tracked: &mut Tracked) -> Result<bool, AllocError> {
     match tracked.expects_operand(false) {
         Ok(expects) => Ok(expects),
         Err(_) => tracked.expects_operand(false),
@@ -115,26 +113,32 @@ fn copied<'a>(tracked: &Tracked<'a>) -> Result<Tracked<'a>, AllocError> {
     }
 }
 
-/// How many tokens a text has, of each of which a copy reads the next.
-fn read_by_copies(alloc: Global, settings: Settings, text: &str) -> Result<usize, AllocError> {
-    let mut tracked = begun(alloc, settings, text)?;
+/// Where the token begins that a copy reads next.
+fn copied_place(tracked: &Tracked) -> Result<u32, AllocError> {
+    next_place(&mut copied(tracked)?)
+}
+
+/// Before how many tokens an operand is expected, each of which a copy reads too.
+fn count_expected(tracked: &mut Tracked) -> Result<u64, AllocError> {
     let mut expected = 0;
-    for _ in 0..TOKENS {
-        if asked_twice(&mut tracked)? {
+    for _ in 1..TOKENS {
+        if asked(tracked)? {
             expected += 1;
         }
-        let mut copy = copied(&tracked)?;
-        if read_through(&mut copy)?.is_none() {
+        let place = copied_place(tracked)?;
+        if next_place(tracked)? != place {
+            return Err(AllocError);
+        }
+        if place == u32::MAX {
             break;
         }
-        tracked = copy;
     }
     Ok(expected)
 }
 
 #[test]
 fn refused_questions_may_be_asked_again(rt: HostRuntime) -> Result<(), Fail> {
-    let expected = read_by_copies(rt.alloc(), PLAIN, DEEP)?;
+    let expected = count_expected(&mut begun(rt.alloc(), PLAIN, DEEP)?)?;
     assert_eq!(rt; expected, 142);
     Ok(())
 }
