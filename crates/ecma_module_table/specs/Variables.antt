@@ -200,6 +200,11 @@ row stage.Value v seen p = value p
 row stage.Target v seen p = behind_target seen.depth v.braces p
 row stage.PatternEnd v seen p = behind_pattern seen.depth v.braces p
 
+-- there is no declaration
+abbrev pub is_off : VariableStage → Bool
+is_off stage.Off = true
+is_off s = false
+
 -- one bit more, which comes last; the first of 64 goes
 abbrev pub pushed : ℕ → Bool → ℕ
 pushed bits bit = (bits % 9_223_372_036_854_775_808) * 2 + (if bit then 1 else 0)

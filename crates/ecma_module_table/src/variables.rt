@@ -427,6 +427,14 @@ impl Variables {
         }
     }
 
+    /// Whether there is no declaration.
+    #[inline]
+    pub fn is_off(&self) -> bool
+        ensures { result ≡ specs.is_off self.now.stage }
+    {
+        matches!(self.stage, Stage::Off)
+    }
+
     #[tactic(auto, unfolding(crate::specs::Variables::row))]
     fn row(self, seen: VariableSeen, part: Part) -> Row
         ensures { result ≡ specs.row self.stage self seen part }

@@ -1,3 +1,4 @@
 pub mod GoOnLemmas
+pub mod PassLemmas
 pub mod PlaceLemmas
 pub mod ScanLemmas

@@ -1,5 +1,5 @@
 -- What is known of a text behind some of its tokens
-use Rattle.std.specs.Prelude.{ℕ, ◌-◌, ◌==◌, ◌&&◌, ◌||◌, Bool, true, false, not, Option, Some, None, option_map, if◌then◌else◌}
+use Rattle.std.specs.Prelude.{ℕ, ◌-◌, ◌≡◌, ◌==◌, ◌&&◌, ◌||◌, Bool, true, false, not, Option, Some, None, option_map, if◌then◌else◌}
 use Rattle.ecma_place.specs.declared.place.BytePos.{BytePos}
 use Rattle.ecma_place.specs.declared.place.Span.{Span}
 use Rattle.ecma_state.specs.declared.kept.Kept.{Kept}
@@ -274,6 +274,58 @@ stepped_from v had_line_break at = stepped_behind (moved had_line_break at v.0) 
 unfoldable pub stepped : Bool → At → Known → Known × Told
 stepped had_line_break at k = stepped_from (behind_variables had_line_break at k) had_line_break at
 
+-- a call begins with a token
+abbrev pub is_paren : Part → Bool
+is_paren part.Paren = true
+is_paren p = false
+
+abbrev pub begins_call : Stage → Part → Bool
+begins_call stage.Import p = is_paren p
+begins_call stage.Inside p = is_paren p
+begins_call stage.PhaseCall p = is_paren p
+begins_call s p = false
+
+abbrev pub opens : Known → At → Bool
+opens k at = begins_call k.stage at.part
+
+-- Tokens that tell nothing
+
+-- the stage behind a token that begins nothing that is looked for, where nothing is read
+abbrev pub quiet_stage : Stage → Part → Option Stage
+quiet_stage stage.Nothing (part.Word word.Import) = None
+quiet_stage stage.Nothing (part.Word word.Export) = None
+quiet_stage stage.Nothing (part.Word word.Declare) = None
+quiet_stage stage.Nothing (part.Word word.Require) = None
+quiet_stage stage.Nothing part.Member = Some stage.Member
+quiet_stage stage.Nothing p = Some stage.Nothing
+quiet_stage stage.Member part.Member = None
+quiet_stage stage.Member p = Some stage.Nothing
+quiet_stage s p = None
+
+abbrev pub with_stage : Stage → Known → Known
+with_stage s k =
+    record {
+      stage = s;
+      statement = k.statement;
+      variables = k.variables;
+      depth = k.depth;
+      tokens = k.tokens;
+      imports = k.imports;
+      exports = k.exports;
+      last = k.last;
+      is_behind_operand = k.is_behind_operand;
+      is_facade = k.is_facade;
+      has_module_syntax = k.has_module_syntax;
+      options = k.options;
+    }
+
+abbrev pub nothing_told : Told
+nothing_told = record { import = None; export = None }
+
+-- a token of this kind leads to a stage, and neither changes nor tells anything else, and begins no call
+abbrev pub Passes : Stage → Part → Known → Type 0
+Passes s p k = (had_line_break : Bool) (at : At) → at.part ≡ p → (stepped had_line_break at k ≡ (with_stage s k, nothing_told)) × (opens k at ≡ false)
+
 -- with what a token is to the next one
 abbrev pub behind : Kept → At → Known → Known
 behind token at k =
@@ -291,20 +343,6 @@ behind token at k =
       has_module_syntax = k.has_module_syntax;
       options = k.options;
     }
-
--- a call begins with a token
-abbrev pub is_paren : Part → Bool
-is_paren part.Paren = true
-is_paren p = false
-
-abbrev pub begins_call : Stage → Part → Bool
-begins_call stage.Import p = is_paren p
-begins_call stage.Inside p = is_paren p
-begins_call stage.PhaseCall p = is_paren p
-begins_call s p = false
-
-abbrev pub opens : Known → At → Bool
-opens k at = begins_call k.stage at.part
 
 -- the call that begins with a parenthesis
 abbrev pub call_of : Known → At → Call

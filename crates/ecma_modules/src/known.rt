@@ -1,11 +1,11 @@
 //! What is known of a text behind some of its tokens.
-ghost use Rattle.std.specs.Prelude.{◌≡◌};
+ghost use Rattle.std.specs.Prelude.{◌≡◌, IfSome};
 ghost use Rattle.ecma_modules.specs.Known as specs;
 ghost use Rattle.ecma_module_table.specs.Parts as parts;
 
 use crate::calls::{At, Call};
 use crate::statement::Statement;
-use ecma_module_table::part::{Part, more};
+use ecma_module_table::part::{Part, Word, more};
 use ecma_module_table::rows::{Export, Form, Import, ImportTold, ModuleOptions, Told};
 use ecma_module_table::stage::{Change, Move, Seen, Stage};
 use ecma_module_table::table::{begun, row};
@@ -111,6 +111,21 @@ fn adds_export(change: Change) -> bool
             | Change::TellDefaultName
             | Change::TellDefaultType
     )
+}
+
+/// The stage behind a token that begins nothing that is looked for, where nothing is read.
+#[inline]
+fn quiet_stage(stage: Stage, part: Part) -> Option<Stage>
+    ensures { result ≡ specs.quiet_stage stage part }
+{
+    match (stage, part) {
+        (Stage::Nothing, Part::Word(Word::Import | Word::Export | Word::Declare | Word::Require)) =>
+            None,
+        (Stage::Nothing, Part::Member) => Some(Stage::Member),
+        (Stage::Member, Part::Member) => None,
+        (Stage::Nothing | Stage::Member, _) => Some(Stage::Nothing),
+        _ => None,
+    }
 }
 
 impl Known {
@@ -306,6 +321,30 @@ impl Known {
                 change,
             ),
         }
+    }
+
+    /// The stage behind a token that tells nothing and changes nothing else, where that is known at once: most tokens, once
+    /// there is something other than imports and exports.
+    #[inline]
+    pub(crate) fn passed(&self, part: Part) -> Option<Stage>
+        ensures { IfSome result (λ stage. specs.Passes stage part self.now) }
+    {
+        if self.is_facade || !self.variables.is_off() {
+            return None;
+        }
+        quiet_stage(self.stage, part)
+    }
+
+    /// Passes a token that leads to a stage and changes nothing else.
+    #[inline]
+    pub(crate) fn pass(&mut self, stage: Stage, token: &Kept, at: At)
+        ensures { self.new ≡ specs.behind token.now at (specs.with_stage stage self.old) }
+    {
+        self.stage = stage;
+        self.depth = at.part.depth_behind(self.depth);
+        self.tokens = more(self.tokens);
+        self.last = token.span;
+        self.is_behind_operand = ends_operand(token.kind);
     }
 
     /// Behind a token, but for what it is to the next one; and what it tells, but for calls.

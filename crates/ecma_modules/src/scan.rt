@@ -1,10 +1,13 @@
 //! A machine that takes the tokens of a text one after another, and tells its imports and exports.
-ghost use Rattle.std.specs.Prelude.{◌≡◌, length, IfOk, OnErr, OnOk};
+ghost use Rattle.std.specs.Prelude.{◌≡◌, [], length, IfOk, IfSome, OnErr, OnOk};
+ghost use Rattle.ecma_modules.specs.Known.{Passes};
 ghost use Rattle.ecma_modules.specs.Scans as scans;
 
 use crate::calls::{At, Calls};
 use crate::known::Known;
+use ecma_module_table::part::Part;
 use ecma_module_table::rows::{ImportTold, ModuleOptions, Told};
+use ecma_module_table::stage::Stage;
 use ecma_state::Kept;
 use std::alloc::{AllocError, Global};
 use std::marker::Model;
@@ -50,6 +53,18 @@ impl Scan {
         Ok(Some(ImportTold::Begun(call.row(at.span.hi))))
     }
 
+    /// The stage behind a token that tells nothing and changes nothing else, where that is known at once.
+    #[inline]
+    fn quiet_stage(&self, part: Part) -> Option<Stage>
+        ensures passes { IfSome result (λ stage. Passes stage part self.now.known) }
+        ensures none { IfSome result (λ stage. self.now.calls ≡ []) }
+    {
+        if self.calls.count() > 0 {
+            return None;
+        }
+        self.known.passed(part)
+    }
+
     /// Takes one token more, and tells what it makes complete. It allocates only where a call of `import` begins.
     ///
     /// # Errors
@@ -61,6 +76,13 @@ impl Scan {
         ensures err { OnErr result (self.new ≡ self.old) }
     {
         let at = self.known.at(*token);
+        if let Some(stage) = self.quiet_stage(at.part) {
+            self.known.pass(stage, token, at);
+            return Ok(Told {
+                import: None,
+                export: None,
+            });
+        }
         let call = self.step_calls(at)?;
         let (known, told) = self.known.step(token.flag, at);
         self.known = known.behind(*token, at);
