@@ -1,34 +1,12 @@
 //! Errors: those that are tokens, and those that are recorded beside the tokens.
 ghost use Rattle.std.specs.Prelude.{◌<◌, ◌^◌, length};
-ghost use Rattle.ecma_reader.specs.Readers.{IsReady};
 
 use crate::{START, settings};
 use ecma_lexer::place::Spanned;
 use ecma_lexer::syntax::Context;
-use ecma_lexer::token::{Error, Token, TokenAndSpan};
-use ecma_lexer::{LineStarts, Reader, Slashes};
+use ecma_lexer::token::Error;
+use ecma_lexer::{LineStarts, Slashes, read_out};
 use std::io;
-
-/// Writes the error of a token that is one.
-fn write_if_error(rt: &HostRuntime, lines: &LineStarts, found: &TokenAndSpan) -> io::Result<()> {
-    match &found.token {
-        Token::Error(error) => write_error(rt, lines, error),
-        _ => Ok(()),
-    }
-}
-
-/// Writes the errors of the tokens that a reader has left.
-fn write_tokens(rt: &HostRuntime, lines: &LineStarts, reader: &mut Reader) -> io::Result<()>
-    requires { IsReady reader.old }
-{
-    let mut slot = None;
-    'tokens: while reader.read_into(&mut slot)? {
-        if let Some(found) = &slot {
-            write_if_error(rt, lines, found)?;
-        }
-    }
-    Ok(())
-}
 
 /// Writes an error with its line and column.
 fn write_error(rt: &HostRuntime, lines: &LineStarts, error: &Error) -> io::Result<()> {
@@ -37,8 +15,8 @@ fn write_error(rt: &HostRuntime, lines: &LineStarts, error: &Error) -> io::Resul
     println!(rt; "{}:{} {}", at.line, at.column, message.as_str())
 }
 
-/// Writes the errors that were recorded.
-fn write_recorded(rt: &HostRuntime, lines: &LineStarts, errors: &[Error]) -> io::Result<()> {
+/// Writes errors in a row.
+fn write_list(rt: &HostRuntime, lines: &LineStarts, errors: &[Error]) -> io::Result<()> {
     for error in errors {
         write_error(rt, lines, error)?;
     }
@@ -56,8 +34,7 @@ pub(crate) fn list_errors(rt: &HostRuntime, text: &str) -> io::Result<()>
     };
     let (alloc, settings) = (rt.alloc(), settings(false));
     let lines = LineStarts::of(alloc, text.as_bytes())?;
-    let mut reader = Reader::new(alloc, &settings, context, text, START, Slashes::ByRole)?;
-    write_tokens(rt, &lines, &mut reader)?;
-    let left = reader.finish();
-    write_recorded(rt, &lines, left.errors.as_slice())
+    let read = read_out(alloc, &settings, context, text, START, Slashes::ByRole)?;
+    write_list(rt, &lines, &read.refusals)?;
+    write_list(rt, &lines, read.gathered.errors.as_slice())
 }
