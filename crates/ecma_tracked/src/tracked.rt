@@ -224,10 +224,11 @@ impl<'a> Tracked<'a> {
         ensures goes { GoesBack (checkpoint_of (lexer_state self.now.lexer)) (lexer_state self.now.lexer) }
         ensures within { IsWithin self.now.lexer.input }
     {
+        let refused = self.refused;
         Ok(TrackedCheckpoint {
             place: self.lexer.checkpoint()?,
             decider: self.decider.copy()?,
-            refused: self.refused,
+            refused,
         })
     }
 

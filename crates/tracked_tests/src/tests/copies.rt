@@ -1,5 +1,6 @@
 //! Copies.
 use super::rows::{TOKENS, opened, tokens, write_some};
+use ecma_tracked::Tracked;
 use listing::listing::{PLAIN, Settings, TS};
 use std::alloc::{AllocError, Global};
 use std::test::Fail;
@@ -14,6 +15,31 @@ const TEXTS: &[(Settings, &str)] = &[
     (PLAIN, "a = 0_1 / /b"),
 ];
 
+/// Reads a token.
+fn pass(tracked: &mut Tracked) -> Result<(), AllocError> {
+    tracked.read()?;
+    Ok(())
+}
+
+/// Writes what a copy reads to the end, behind the making of which the other goes on.
+fn write_copy(out: &mut String, text: &str, tracked: &mut Tracked) -> Result<(), AllocError> {
+    let mut copy = tracked.copy()?;
+    pass(tracked)?;
+    write_some(out, text, &mut copy, TOKENS)?;
+    Ok(())
+}
+
+/// Writes so many tokens, and those behind them as a copy reads them.
+fn write_both(
+    out: &mut String,
+    text: &str,
+    tracked: &mut Tracked,
+    before: usize,
+) -> Result<(), AllocError> {
+    write_some(out, text, tracked, before)?;
+    write_copy(out, text, tracked)
+}
+
 /// The tokens of a text, the first of them read by a tracked lexer, the others by a copy of it.
 fn gone_on(
     alloc: Global,
@@ -22,11 +48,7 @@ fn gone_on(
     before: usize,
 ) -> Result<String, AllocError> {
     let mut out = String::new(alloc);
-    let mut tracked = opened(alloc, settings, text)?;
-    write_some(&mut out, text, &mut tracked, before)?;
-    let mut copy = tracked.copy()?;
-    tracked.read()?;
-    write_some(&mut out, text, &mut copy, TOKENS)?;
+    write_both(&mut out, text, &mut opened(alloc, settings, text)?, before)?;
     Ok(out)
 }
 
@@ -42,6 +64,27 @@ fn a_copy_goes_on(rt: HostRuntime) -> Result<(), Fail> {
     Ok(())
 }
 
+/// Reads to the end.
+fn pass_all(tracked: &mut Tracked) -> Result<(), AllocError> {
+    for _ in 0..TOKENS {
+        pass(tracked)?;
+    }
+    Ok(())
+}
+
+/// Writes so many tokens, has a copy read to the end, and writes the others.
+fn write_beside(
+    out: &mut String,
+    text: &str,
+    tracked: &mut Tracked,
+    before: usize,
+) -> Result<(), AllocError> {
+    write_some(out, text, tracked, before)?;
+    pass_all(&mut tracked.copy()?)?;
+    write_some(out, text, tracked, TOKENS)?;
+    Ok(())
+}
+
 /// The tokens of a text behind a copy that was read to its end.
 fn left_alone(
     alloc: Global,
@@ -50,10 +93,7 @@ fn left_alone(
     before: usize,
 ) -> Result<String, AllocError> {
     let mut out = String::new(alloc);
-    let mut tracked = opened(alloc, settings, text)?;
-    write_some(&mut out, text, &mut tracked, before)?;
-    write_some(&mut String::new(alloc), text, &mut tracked.copy()?, TOKENS)?;
-    write_some(&mut out, text, &mut tracked, TOKENS)?;
+    write_beside(&mut out, text, &mut opened(alloc, settings, text)?, before)?;
     Ok(out)
 }
 

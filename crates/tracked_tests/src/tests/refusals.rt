@@ -120,10 +120,10 @@ fn copied_place(tracked: &Tracked) -> Result<u32, AllocError> {
 
 /// Before how many tokens an operand is expected, each of which a copy reads too.
 fn count_expected(tracked: &mut Tracked) -> Result<u64, AllocError> {
-    let mut expected = 0;
+    let mut expected: u64 = 0;
     for _ in 1..TOKENS {
         if asked(tracked)? {
-            expected += 1;
+            expected = expected.saturating_add(1);
         }
         let place = copied_place(tracked)?;
         if next_place(tracked)? != place {
