@@ -145,11 +145,11 @@ quiet-passes k p s other none quiet =
     let off = off-is k.variables.stage none in
     ⊎_elim
     (λ e. passes-at k stage.Nothing s p e off other
-        (λ b at is. nothing-passes b k.has_module_syntax at k s (ap (λ q. quiet_stage stage.Nothing q) is ∙ ap (λ st. quiet_stage st p) (sym e) ∙ quiet))
-        (λ q. refl))
+    (λ b at is. nothing-passes b k.has_module_syntax at k s (ap (λ q. quiet_stage stage.Nothing q) is ∙ ap (λ st. quiet_stage st p) (sym e) ∙ quiet))
+    (λ q. refl))
     (λ e. passes-at k stage.Member s p e off other
-        (λ b at is. member-passes b k.has_module_syntax at k s (ap (λ q. quiet_stage stage.Member q) is ∙ ap (λ st. quiet_stage st p) (sym e) ∙ quiet))
-        (λ q. refl))
+    (λ b at is. member-passes b k.has_module_syntax at k s (ap (λ q. quiet_stage stage.Member q) is ∙ ap (λ st. quiet_stage st p) (sym e) ∙ quiet))
+    (λ q. refl))
     (two-stages k.stage s p quiet)
 
 pub quiet-if : (k : Known) (p : Part) (next : Option Stage) → k.is_facade ≡ false → variables.is_off k.variables.stage ≡ true → next ≡ quiet_stage k.stage p → IfSome next (λ s. Passes s p k)

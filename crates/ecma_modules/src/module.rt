@@ -97,18 +97,30 @@ impl Gathering {
         }
     }
 
-    /// Takes one token more.
-    ///
-    /// # Errors
-    ///
-    /// `AllocError` where there is no memory for a row or a call that begins. What is then gathered is not said.
-    pub fn take(&mut self, token: &Kept) -> Result<(), AllocError>
+    /// Takes one token more, which tells something.
+    #[inline(never)]
+    fn take_told(&mut self, token: &Kept) -> Result<(), AllocError>
         ensures { OnOk result (self.new ≡ modules.gathered_with self.old token.now) }
     {
         let told = self.scan.step(token)?;
         take_told(&mut self.imports, told.import)?;
         take_export(&mut self.exports, told.export)?;
         Ok(())
+    }
+
+    /// Takes one token more.
+    ///
+    /// # Errors
+    ///
+    /// `AllocError` where there is no memory for a row or a call that begins. What is then gathered is not said.
+    #[inline]
+    pub fn take(&mut self, token: &Kept) -> Result<(), AllocError>
+        ensures { OnOk result (self.new ≡ modules.gathered_with self.old token.now) }
+    {
+        if self.scan.pass(token) {
+            return Ok(());
+        }
+        self.take_told(token)
     }
 
     /// What all tokens import and export, behind the last of them.

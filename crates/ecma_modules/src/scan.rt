@@ -1,6 +1,6 @@
 //! A machine that takes the tokens of a text one after another, and tells its imports and exports.
-ghost use Rattle.std.specs.Prelude.{◌≡◌, [], length, IfOk, IfSome, OnErr, OnOk};
-ghost use Rattle.ecma_modules.specs.Known.{Passes};
+ghost use Rattle.std.specs.Prelude.{◌≡◌, [], false, length, IfOk, IfSome, IsTrue, OnErr, OnOk};
+ghost use Rattle.ecma_modules.specs.Known.{Passes, nothing_told};
 ghost use Rattle.ecma_modules.specs.Scans as scans;
 
 use crate::calls::{At, Calls};
@@ -65,6 +65,39 @@ impl Scan {
         self.known.passed(part)
     }
 
+    /// Takes one token more where that tells nothing, as of most tokens is known at once.
+    #[inline]
+    pub(crate) fn pass(&mut self, token: &Kept) -> bool
+        ensures passed { IsTrue result → (self.new ≡ scans.scanned self.old token.now) × (scans.told self.old token.now ≡ nothing_told) }
+        ensures stays { result ≡ false → self.new ≡ self.old }
+    {
+        let at = self.known.at(*token);
+        match self.quiet_stage(at.part) {
+            Some(stage) => {
+                self.known.pass(stage, token, at);
+                true
+            }
+            None => false,
+        }
+    }
+
+    /// Takes one token more, whatever it tells. Its large values are made only where they are needed.
+    #[inline(never)]
+    fn step_fully(&mut self, token: &Kept) -> Result<Told, AllocError>
+        ensures scan { OnOk result (self.new ≡ scans.scanned self.old token.now) }
+        ensures told { IfOk result (λ told. told ≡ scans.told self.old token.now) }
+        ensures err { OnErr result (self.new ≡ self.old) }
+    {
+        let at = self.known.at(*token);
+        let call = self.step_calls(at)?;
+        let (known, told) = self.known.step(token.flag, at);
+        self.known = known.behind(*token, at);
+        Ok(Told {
+            import: call.or(told.import),
+            export: told.export,
+        })
+    }
+
     /// Takes one token more, and tells what it makes complete. It allocates only where a call of `import` begins.
     ///
     /// # Errors
@@ -75,21 +108,13 @@ impl Scan {
         ensures told { IfOk result (λ told. told ≡ scans.told self.old token.now) }
         ensures err { OnErr result (self.new ≡ self.old) }
     {
-        let at = self.known.at(*token);
-        if let Some(stage) = self.quiet_stage(at.part) {
-            self.known.pass(stage, token, at);
+        if self.pass(token) {
             return Ok(Told {
                 import: None,
                 export: None,
             });
         }
-        let call = self.step_calls(at)?;
-        let (known, told) = self.known.step(token.flag, at);
-        self.known = known.behind(*token, at);
-        Ok(Told {
-            import: call.or(told.import),
-            export: told.export,
-        })
+        self.step_fully(token)
     }
 
     /// Tells what the end of the text makes complete, but for calls that are open. It is meant to be called once, behind the
