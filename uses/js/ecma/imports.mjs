@@ -76,12 +76,6 @@ class Scan {
         let hasOther = false;
         for (let i = 0, depth = 0; i < count;) {
             const role = ROLES[rows[3 * i + 2] & KIND];
-            // Most tokens have none.
-            if (role === 0) {
-                hasOther = true;
-                i++;
-                continue;
-            }
             if (role === IMPORT && !this.isMember(i)) {
                 i = this.importAt(i, depth);
                 continue;
