@@ -1,5 +1,5 @@
 //! A lexer together with what decides its slashes.
-ghost use Rattle.std.specs.Prelude.{◌≡◌, ◌+◌, ◌<◌, ◌^◌, ◌↔◌, Err, alloc_error, false, is_some, length, option_map, true, IfOk, IsOk, IsTrue, Ok, OnOk, OnErr};
+ghost use Rattle.std.specs.Prelude.{◌≡◌, ◌+◌, ◌<◌, ◌^◌, ◌↔◌, Err, alloc_error, false, is_some, length, option_map, true, IfOk, IsOk, IsTrue, OnOk, OnErr};
 ghost use Rattle.std.specs.Str.{chars};
 ghost use Rattle.ecma_place.specs.Cursor.{IsWithin};
 ghost use Rattle.ecma_token.specs.View.{spanned_view};
@@ -133,8 +133,7 @@ impl<'a> Tracked<'a> {
         self.lexer.set_ctx(context)
     }
 
-    /// Whether a slash that comes next, with or without `=` behind it, begins a regular expression: so is any token the
-    /// beginning of an operand there, or goes on behind one.
+    /// Whether an operand is expected next, so that a slash there, with or without `=` behind it, begins a regular expression.
     ///
     /// # Errors
     ///

@@ -91,8 +91,7 @@ fn checkpoints_are_gone_to_in_any_order(rt: HostRuntime) -> Result<(), Fail> {
     Ok(())
 }
 
-/// Behind a function as an expression a division comes, and a regular expression behind one as a statement; behind the
-/// checkpoint it is as in its text.
+/// Whether it goes back to a checkpoint of a longer text.
 fn went_to_other(alloc: Global) -> Result<bool, AllocError> {
     let mut other = opened(alloc, PLAIN, "a b c d e f")?;
     for _ in 0..5 {
