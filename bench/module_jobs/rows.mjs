@@ -52,12 +52,13 @@ export function textOf(file) {
 
 let built = process.env.ROWS;
 
-/** Builds the program in a checkout of links beside this one, which has its crate besides. */
+/** Builds the program in a copy of the crates, which has its crate besides: some kits refuse links out of a repository. */
 function program() {
     if (built) return built;
     const folder = fs.mkdtempSync(path.join(os.tmpdir(), 'modules-'));
+    fs.mkdirSync(path.join(folder, '.git'));
+    fs.cpSync(path.join(TOP, 'crates'), path.join(folder, 'crates'), { recursive: true, filter: (from) => path.basename(from) !== 'out' });
     fs.mkdirSync(path.join(folder, 'crates', CRATE, 'src'), { recursive: true });
-    for (const crate of fs.readdirSync(path.join(TOP, 'crates'))) fs.symlinkSync(path.join(TOP, 'crates', crate), path.join(folder, 'crates', crate));
     fs.writeFileSync(path.join(folder, 'crates.txt'), `${fs.readFileSync(path.join(TOP, 'crates.txt'), 'utf8')}${CRATE}: ${USES}\n`);
     fs.copyFileSync(path.join(HERE, 'program.txt'), path.join(folder, 'crates', CRATE, 'src', 'main.rt'));
     const file = path.join(folder, 'program');
