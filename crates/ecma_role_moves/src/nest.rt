@@ -1,5 +1,5 @@
 //! A stack of frames, and what they keep.
-ghost use Rattle.std.specs.Prelude.{◌≡◌, ◌+◌, ◌≤◌, [], IfOk, IsOk, OnOk, length, slice_get};
+ghost use Rattle.std.specs.Prelude.{◌≡◌, ◌+◌, ◌≤◌, [], IfOk, IsOk, OnOk, length, nat_le, slice_get};
 ghost use Rattle.ecma_role_moves.specs.Nest as nests;
 
 use ecma_role_table::frame::{Around, Frame, FrameKind, Kinds};
@@ -143,8 +143,17 @@ impl Nest {
         (None, None)
     }
 
+    /// Whether there is room for one frame more.
+    #[inline]
+    pub fn has_room(&self) -> bool
+        ensures { result ≡ nat_le 1 self.now.room }
+    {
+        1 <= self.frames.capacity() - self.frames.len()
+    }
+
     /// One frame more.
-    pub(crate) fn push(&mut self, kind: FrameKind)
+    #[inline]
+    pub fn push(&mut self, kind: FrameKind)
         requires { 1 ≤ self.old.room }
         ensures nest { self.new.nest ≡ nests.pushed kind self.old.nest }
         ensures room { self.new.room + 1 ≡ self.old.room }
@@ -158,7 +167,8 @@ impl Nest {
     }
 
     /// The innermost frame goes, where there is one.
-    pub(crate) fn pop(&mut self)
+    #[inline]
+    pub fn pop(&mut self)
         ensures nest { self.new.nest ≡ nests.popped self.old.nest }
         ensures room { self.old.room ≤ self.new.room }
     {

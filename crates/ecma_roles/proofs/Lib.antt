@@ -1,5 +1,6 @@
+pub mod FastLemmas
+pub mod FastWordLemmas
 pub mod RankLemmas
 pub mod RowRanks
-pub mod SettledLemmas
 pub mod TrackLemmas
 pub mod TrackedLemmas

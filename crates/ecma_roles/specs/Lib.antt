@@ -1,5 +1,5 @@
+pub mod Fast
 pub mod Rank
-pub mod Settled
 pub mod Slashes
 pub mod Track
 pub use Rattle.ecma_role_table.specs.Frames

@@ -9,8 +9,9 @@
 //! `RankLemmas.antt`), so that eight readings are enough.
 #![tactic(auto)]
 
+mod fast;
+mod fast_word;
 pub mod laws;
-mod settled;
 mod slash;
 pub mod track;
 

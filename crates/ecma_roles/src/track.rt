@@ -1,12 +1,14 @@
 //! A track of tokens.
-ghost use Rattle.std.specs.Prelude.{◌≡◌, ◌+◌, ◌≤◌, IfOk, IsOk, OnOk, OnErr, Some};
+ghost use Rattle.std.specs.Prelude.{◌≡◌, ◌+◌, ◌≤◌, IfOk, IsOk, OnOk, OnErr, Some, true, false};
+ghost use Rattle.ecma_token.specs.Kinds.{token_kind};
+ghost use Rattle.ecma_role_table.specs.Parts.{part_of};
 ghost use Rattle.ecma_role_moves.specs.Nest as nests;
 ghost use Rattle.ecma_role_moves.specs.Nest.{IsShallow};
 ghost use Rattle.ecma_role_moves.specs.Moves.{turned_to};
 ghost use Rattle.ecma_roles.specs.Slashes as slashes;
 ghost use Rattle.ecma_roles.specs.Track as tracks;
 
-use crate::settled::settled;
+use crate::fast::take;
 use crate::slash::expects_operand;
 use ecma_role_moves::nest::Nest;
 use ecma_role_moves::perform::perform;
@@ -15,6 +17,7 @@ use ecma_role_table::moves::Turn;
 use ecma_role_table::part::{Name, Part, PartKind, Reserved, Sign};
 use ecma_role_table::state::State;
 use ecma_role_table::table::{Seen, row};
+use ecma_token::Token;
 use std::alloc::{AllocError, Global};
 use std::marker::Model;
 
@@ -163,6 +166,22 @@ impl Track {
         }
     }
 
+    /// Takes one token more into account where that is known without the table, and says whether it is; else nothing is
+    /// changed. It does not allocate.
+    #[inline(always)]
+    pub fn pass(&mut self, token: &Token, had_line_break: bool) -> bool
+        ensures passed { result ≡ true → self.new ≡ tracks.stepped self.old (part_of (token_kind token.now) had_line_break) }
+        ensures left { result ≡ false → self.new ≡ self.old }
+    {
+        match take(&mut self.nest, self.state, token, had_line_break) {
+            Some(state) => {
+                self.state = state;
+                true
+            }
+            None => false,
+        }
+    }
+
     /// Takes one token more into account. It does not allocate where at most 64 frames enclose the place.
     ///
     /// # Errors
@@ -173,10 +192,6 @@ impl Track {
         ensures err { OnErr result (self.new ≡ self.old) }
         ensures free { IsShallow self.old.nest → IsOk result }
     {
-        if let Some(state) = settled(&self.nest, self.state, part.kind) {
-            self.state = state;
-            return Ok(());
-        }
         self.nest.reserve(2 * MOST_READS)?;
         self.state = read(&mut self.nest, self.state, self.typescript, *part);
         Ok(())

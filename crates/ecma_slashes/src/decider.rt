@@ -1,5 +1,5 @@
 //! What decides which slashes begin regular expressions, as far as a text is read.
-ghost use Rattle.std.specs.Prelude.{◌≡◌, [], None, Some, option_map, OnErr, OnOk, IfOk, IsOk};
+ghost use Rattle.std.specs.Prelude.{◌≡◌, Bool, [], None, Some, option_map, OnErr, OnOk, IfOk, IsOk};
 ghost use Rattle.ecma_token.specs.View.{spanned_view};
 ghost use Rattle.ecma_role_table.specs.declared.part.Part.{Part};
 ghost use Rattle.ecma_state.specs.Session.{Session};
@@ -7,7 +7,7 @@ ghost use Rattle.ecma_syntax.specs.declared.context.Context.{Context};
 ghost use Rattle.ecma_slashes.specs.Alone as alone;
 ghost use Rattle.ecma_slashes.specs.Known as knowledge;
 ghost use Rattle.ecma_slashes.specs.Known.{awaiting, expected_by, known_behind};
-ghost use Rattle.ecma_slashes.specs.Rereads.{Decides, HasRoom, MayName, asks_nothing, known_to, rule_of, says};
+ghost use Rattle.ecma_slashes.specs.Rereads.{Decides, HasRoom, MayName, asks_nothing, by_role, known_to, rule_of, says};
 ghost use Rattle.ecma_slashes.specs.Roles as roles;
 
 use crate::slashes::Slashes;
@@ -56,6 +56,7 @@ fn is_assign(slot: &Option<TokenAndSpan>) -> bool
 }
 
 /// What is seen of the token.
+#[inline(never)]
 fn part_of(token: &TokenAndSpan) -> Part
     ensures { result ≡ roles.part_in (spanned_view token.now) }
 {
@@ -215,12 +216,26 @@ impl<'a> Decider<'a> {
         ensures err { OnErr result (self.new ≡ self.old) }
         ensures free { HasRoom self.old.track → IsOk result }
     {
-        if let Some(part) = self.last {
-            if let Some(track) = &mut self.track {
-                track.step(&part)?;
-            }
-            self.last = None;
+        match self.last {
+            Some(part) => self.take_last(part),
+            None => Ok(()),
         }
+    }
+
+    /// Takes the last token into account, which is this one.
+    #[inline(never)]
+    fn take_last(&mut self, part: Part) -> Result<(), AllocError>
+        requires { self.old.last ≡ Some part }
+        ensures follows { known_to self.new ≡ known_to self.old }
+        ensures caught_up { OnOk result (self.new.last ≡ None) }
+        ensures slashes { self.new.slashes ≡ self.old.slashes }
+        ensures err { OnErr result (self.new ≡ self.old) }
+        ensures free { HasRoom self.old.track → IsOk result }
+    {
+        if let Some(track) = &mut self.track {
+            track.step(&part)?;
+        }
+        self.last = None;
         Ok(())
     }
 
@@ -240,6 +255,23 @@ impl<'a> Decider<'a> {
         }
     }
 
+    /// Takes a token into account where the track does so at once, else keeps what is seen of it.
+    #[inline(always)]
+    #[tactic(auto, using(ecma_token::proofs::KindLemmas::kind_of_token_view))]
+    fn follow(&mut self, token: &TokenAndSpan)
+        requires caught_up { self.old.last ≡ None }
+        requires by_role { rule_of self.old.slashes ≡ by_role }
+        ensures follows { (again : Bool) → known_to self.new ≡ known_behind (known_to self.old) again (Some (roles.part_in (spanned_view token.now))) }
+        ensures slashes { self.new.slashes ≡ self.old.slashes }
+    {
+        if let Some(track) = &mut self.track {
+            if track.pass(&token.token, token.had_line_break) {
+                return;
+            }
+        }
+        self.last = Some(part_of(token));
+    }
+
     /// Takes in what was read, a token in whose place none is read again; a slash was read again for it or not.
     #[inline]
     pub(crate) fn pass(&mut self, slot: &Option<TokenAndSpan>, again: bool)
@@ -251,9 +283,9 @@ impl<'a> Decider<'a> {
             return;
         };
         match self.slashes {
-            Slashes::ByFlag | Slashes::At(_) => {}
-            Slashes::ByRole => self.last = Some(part_of(token)),
+            Slashes::ByRole => self.follow(token),
             Slashes::Numbered(_) => self.count(again),
+            Slashes::ByFlag | Slashes::At(_) => {}
         }
     }
 }
