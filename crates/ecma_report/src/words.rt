@@ -107,6 +107,8 @@ pub struct Asked {
     pub colours: bool,
     /// Whether imports have a row for each `require("x")` of CommonJS.
     pub commonjs: bool,
+    /// Whether rows of tokens tell their values.
+    pub values: bool,
 }
 
 impl Asked {
@@ -130,6 +132,7 @@ impl Asked {
                 _ => colours,
             },
             commonjs: matches.get_flag("commonjs"),
+            values: matches.get_flag("values"),
         }
     }
 
@@ -206,6 +209,10 @@ const FLAGS: &[(&str, &str)] = &[
     (
         "commonjs",
         "With imports, write a line for each string that require of CommonJS is called with too",
+    ),
+    (
+        "values",
+        "With tokens, write what each means too: what strings stand for, names without escapes, numbers",
     ),
     ("json", "Write one JSON object a line"),
     ("lines", "Write line:column beside byte places"),

@@ -62,6 +62,7 @@ fn report_tokens(
         columns: Columns::Bytes,
         colours: false,
         commonjs: false,
+        values: false,
     };
     let start = BytePos(0);
     let settings = options.settings(true);
