@@ -109,6 +109,8 @@ pub struct Asked {
     pub commonjs: bool,
     /// Whether rows of tokens tell their values.
     pub values: bool,
+    /// Whether HTML is a whole page.
+    pub page: bool,
 }
 
 impl Asked {
@@ -133,6 +135,7 @@ impl Asked {
             },
             commonjs: matches.get_flag("commonjs"),
             values: matches.get_flag("values"),
+            page: matches.get_flag("page"),
         }
     }
 
@@ -213,6 +216,10 @@ const FLAGS: &[(&str, &str)] = &[
     (
         "values",
         "With tokens, write what each means too: what strings stand for, names without escapes, numbers",
+    ),
+    (
+        "page",
+        "With html, write a whole page: with a stylesheet, light and dark, and line numbers",
     ),
     ("json", "Write one JSON object a line"),
     ("lines", "Write line:column beside byte places"),

@@ -63,6 +63,7 @@ fn report_tokens(
         colours: false,
         commonjs: false,
         values: false,
+        page: false,
     };
     let start = BytePos(0);
     let settings = options.settings(true);

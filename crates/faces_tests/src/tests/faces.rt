@@ -634,6 +634,7 @@ fn asked(face: Face) -> Asked {
         colours: false,
         commonjs: false,
         values: false,
+        page: false,
     }
 }
 

@@ -170,6 +170,7 @@ fn asked(json: bool, lines: bool) -> Asked {
         colours: false,
         commonjs: false,
         values: false,
+        page: false,
     }
 }
 
