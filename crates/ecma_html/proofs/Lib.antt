@@ -1,1 +1,2 @@
 pub mod MarkupLemmas
+pub mod PageLemmas

@@ -141,12 +141,20 @@ pieces-back before source (s ∷ ss) =
     ∙ ap (at Inside) (append_assoc before (shown own) (shown (bytes_of source ss)) ∙ ap (λ more. before ++ more) (sym (shown-append own (bytes_of source ss))))
 
 -- right behind the tag that opens the element a line feed is passed
-html-back : (source : List ℕ) (pieces : List Styled) → unmark (html_of source pieces) ≡ shown (bytes_of source pieces)
-html-back source pieces =
-    ap (λ u. u.text)
-    (fold-append read_byte (at Outside []) open_tag (pieces_html source pieces ++ close_tag)
+html-read : (source : List ℕ) (pieces : List Styled) → fold read_byte (at Outside []) (html_of source pieces) ≡ at Outside (shown (bytes_of source pieces))
+html-read source pieces =
+    fold-append read_byte (at Outside []) open_tag (pieces_html source pieces ++ close_tag)
     ∙ fold-append read_byte (at Inside []) (pieces_html source pieces) close_tag
-    ∙ ap (λ u. fold read_byte u close_tag) (pieces-back [] source pieces))
+    ∙ ap (λ u. fold read_byte u close_tag) (pieces-back [] source pieces)
+
+html-back : (source : List ℕ) (pieces : List Styled) → unmark (html_of source pieces) ≡ shown (bytes_of source pieces)
+html-back source pieces = ap (λ u. u.text) (html-read source pieces)
+
+-- no tag is open behind it, and what was read is what is left of it
+pub html-closed : (source html : List ℕ) (pieces : List Styled) → html ≡ html_of source pieces → fold read_byte (at Outside []) html ≡ at Outside (unmark html)
+html-closed source html pieces is =
+    let read : fold read_byte (at Outside []) html ≡ at Outside (shown (bytes_of source pieces)) = ap (fold read_byte (at Outside [])) is ∙ html-read source pieces in
+    read ∙ ap (λ u. at Outside u.text) (sym read)
 
 styled-bytes : (source : List ℕ) (classes : List (Option Class)) (pieces : List Piece) → bytes_of source (styled classes pieces) ≡ joined 0 source pieces
 styled-bytes source classes [] = refl

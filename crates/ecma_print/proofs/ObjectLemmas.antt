@@ -7,7 +7,9 @@ use Rattle.serde_json.specs.Written.{compact_text}
 use Rattle.ecma_place.specs.declared.place.Span.{Span}
 use Rattle.ecma_positions.specs.declared.position.Position.{Position}
 use Rattle.ecma_print.specs.Rows as row_specs
-use Rattle.ecma_print.specs.Rows.{ImportView, MoreView, attributes_text, before_text, behind_text, flag_text, import_end_text, line_break_text, members, phase_name, text_data}
+use Rattle.ecma_print.specs.Rows.{ImportView, MoreView, attributes_text, before_text, behind_text, flag_text, import_end_text, line_break_text, members, phase_name, text_data, value_in}
+use Rattle.ecma_print.specs.Values as value_specs
+use Rattle.ecma_print.specs.Values.{ValueView, digits_text, flags_text}
 
 -- a piece that was added before others
 pub behind : (before middle after piece rest : List ℕ) → middle ≡ before ++ piece → after ≡ middle ++ rest → after ≡ before ++ (piece ++ rest)
@@ -16,7 +18,9 @@ behind before middle after piece rest first others = others ∙ ap (λ front. fr
 abbrev pub parts : List ℕ → Position → Span → List ℕ → List ℕ → MoreView → List ℕ
 parts file at span kind text more =
     (codes "{\"column\":" ++ decimal at.column)
+    ++ (digits_text (value_in more)
     ++ ((codes ",\"file\":" ++ quoted file)
+    ++ (flags_text (value_in more)
     ++ ((codes ",\"hi\":" ++ decimal span.hi.0)
     ++ ((codes ",\"kind\":" ++ quoted kind)
     ++ ((codes ",\"line\":" ++ decimal at.line)
@@ -25,7 +29,7 @@ parts file at span kind text more =
     ++ (before_text more
     ++ ((codes ",\"text\":" ++ quoted text)
     ++ (behind_text more
-    ++ codes "}")))))))))
+    ++ codes "}")))))))))))
 
 -- three pieces before others
 pieces-before : (a b c rest : List ℕ) → (a ++ (b ++ c)) ++ rest ≡ a ++ (b ++ (c ++ rest))
@@ -84,12 +88,29 @@ import-object file at span kind text i =
     ap (import_front file at span kind) (pieces-before (codes ",\"phase\":" ++ quoted (phase_name i.phase)) (codes ",\"statement_hi\":" ++ decimal i.statement.hi.0) (codes ",\"statement_lo\":" ++ decimal i.statement.lo.0) (import_back text i))
     ∙ end-object file at span kind text i.phase i.statement i.is_type i.attributes
 
+-- of a token with its value
+valued-object : (file : List ℕ) (at : Position) (span : Span) (kind text : List ℕ) (flag : Bool) (v : ValueView) → parts file at span kind text (row_specs.valued flag v) ≡ compact_text (object (members file at span kind text (row_specs.valued flag v)))
+unfolding escape_byte
+valued-object file at span kind text true value_specs.no_value = refl
+valued-object file at span kind text false value_specs.no_value = refl
+valued-object file at span kind text true (value_specs.text_value value) = refl
+valued-object file at span kind text false (value_specs.text_value value) = refl
+valued-object file at span kind text true value_specs.null_value = refl
+valued-object file at span kind text false value_specs.null_value = refl
+valued-object file at span kind text true (value_specs.number_value radix digits None) = refl
+valued-object file at span kind text false (value_specs.number_value radix digits None) = refl
+valued-object file at span kind text true (value_specs.number_value radix digits (Some n)) = refl
+valued-object file at span kind text false (value_specs.number_value radix digits (Some n)) = refl
+valued-object file at span kind text true (value_specs.expression_value pattern flags) = refl
+valued-object file at span kind text false (value_specs.expression_value pattern flags) = refl
+
 pub parts-object : (file : List ℕ) (at : Position) (span : Span) (kind text : List ℕ) (more : MoreView) → parts file at span kind text more ≡ compact_text (object (members file at span kind text more))
 unfolding escape_byte
 parts-object file at span kind text row_specs.nothing = refl
 parts-object file at span kind text row_specs.message = refl
 parts-object file at span kind text (row_specs.line_break true) = refl
 parts-object file at span kind text (row_specs.line_break false) = refl
+parts-object file at span kind text (row_specs.valued flag v) = valued-object file at span kind text flag v
 parts-object file at span kind text (row_specs.beside_token side token) = refl
 parts-object file at span kind text (row_specs.imported i) = import-object file at span kind text i
 parts-object file at span kind text (row_specs.exported (Some local) true) = refl

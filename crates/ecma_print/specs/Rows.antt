@@ -9,8 +9,9 @@ use Rattle.ecma_positions.specs.declared.position.Position.{Position}
 use Rattle.ecma_stdio.specs.Escaped.{escaped}
 use Rattle.ecma_print.specs.declared.row.Imported.{Imported}
 use Rattle.ecma_print.specs.declared.row.More.{More}
-use Rattle.ecma_print.specs.declared.row.More.TheVariants.{Nothing, LineBreak, Message, Beside, Import, Export}
+use Rattle.ecma_print.specs.declared.row.More.TheVariants.{Nothing, LineBreak, Valued, Message, Beside, Import, Export}
 use Rattle.ecma_print.specs.declared.row.Row.{Row}
+use Rattle.ecma_print.specs.Values.{ValueView, no_value, digits_text, flags_text, form_text, value_field, value_text, value_view, with_digits, with_flags, with_form, with_value}
 
 abbrev pub needs_escape : ℕ → Bool
 needs_escape byte = nat_lt byte 32 || (byte == 34 || byte == 92)
@@ -26,6 +27,7 @@ pub record ImportView : Type 0 where
 pub data MoreView : Type 0 where
   nothing : MoreView
   line_break : Bool → MoreView
+  valued : Bool → ValueView → MoreView
   message : MoreView
   beside_token : List ℕ → BytePos → MoreView
   imported : ImportView → MoreView
@@ -42,15 +44,22 @@ import_view i = record { phase = text_behind i.phase; is_type = i.is_type; state
 abbrev pub more_view : More → MoreView
 more_view Nothing = nothing
 more_view (LineBreak flag) = line_break flag
+more_view (Valued flag value) = valued flag (value_view value)
 more_view Message = message
 more_view (Beside side token) = beside_token side.now token
 more_view (Import i) = imported (import_view i)
 more_view (Export local is_type) = exported (text_behind local) is_type
 
+-- the value of a token, where it is told
+abbrev pub value_in : MoreView → ValueView
+value_in (valued flag value) = value
+value_in _ = no_value
+
 -- A row as a JSON object.
 
 abbrev pub with_line_break : MoreView → Members → Members
 with_line_break (line_break flag) behind = member (codes "line_break_before") (boolean flag) behind
+with_line_break (valued flag value) behind = member (codes "line_break_before") (boolean flag) behind
 with_line_break _ behind = behind
 
 -- the phase up to which a module is brought
@@ -68,6 +77,7 @@ abbrev pub with_before_text : MoreView → Members → Members
 with_before_text (beside_token side token) behind = member (codes "side") (string side) behind
 with_before_text (imported i) behind = with_statement i behind
 with_before_text (exported (Some local) is_type) behind = member (codes "local") (string local) behind
+with_before_text (valued flag value) behind = with_form value behind
 with_before_text _ behind = behind
 
 abbrev pub with_attributes : Option Span → Members → Members
@@ -78,13 +88,16 @@ abbrev pub with_behind_text : MoreView → Members → Members
 with_behind_text (beside_token side token) behind = member (codes "token") (number (unsigned token.0)) behind
 with_behind_text (imported i) behind = member (codes "type") (boolean i.is_type) (with_attributes i.attributes behind)
 with_behind_text (exported local is_type) behind = member (codes "type") (boolean is_type) behind
+with_behind_text (valued flag value) behind = with_value value behind
 with_behind_text _ behind = behind
 
 -- its members, in the order of their names
 abbrev pub members : List ℕ → Position → Span → List ℕ → List ℕ → MoreView → Members
 members file at span kind text more =
     member (codes "column") (number (unsigned at.column))
+    (with_digits (value_in more)
     (member (codes "file") (string file)
+    (with_flags (value_in more)
     (member (codes "hi") (number (unsigned span.hi.0))
     (member (codes "kind") (string kind)
     (member (codes "line") (number (unsigned at.line))
@@ -92,7 +105,7 @@ members file at span kind text more =
     (member (codes "lo") (number (unsigned span.lo.0))
     (with_before_text more
     (member (codes "text") (string text)
-    (with_behind_text more no_members)))))))))
+    (with_behind_text more no_members)))))))))))
 
 abbrev pub row_data : List ℕ → Position → Row → Data
 row_data file at row = object (members file at row.span row.kind.now row.text.now (more_view row.more))
@@ -109,6 +122,7 @@ flag_text false = codes "false"
 
 abbrev pub line_break_text : MoreView → List ℕ
 line_break_text (line_break flag) = codes ",\"line_break_before\":" ++ flag_text flag
+line_break_text (valued flag value) = codes ",\"line_break_before\":" ++ flag_text flag
 line_break_text _ = []
 
 abbrev pub statement_text : ImportView → List ℕ
@@ -121,6 +135,7 @@ abbrev pub before_text : MoreView → List ℕ
 before_text (beside_token side token) = codes ",\"side\":" ++ quoted side
 before_text (imported i) = statement_text i
 before_text (exported (Some local) is_type) = codes ",\"local\":" ++ quoted local
+before_text (valued flag value) = form_text value
 before_text _ = []
 
 abbrev pub attributes_text : Option Span → List ℕ
@@ -134,6 +149,7 @@ abbrev pub behind_text : MoreView → List ℕ
 behind_text (beside_token side token) = codes ",\"token\":" ++ decimal token.0
 behind_text (imported i) = import_end_text i
 behind_text (exported local is_type) = codes ",\"type\":" ++ flag_text is_type
+behind_text (valued flag value) = value_text value
 behind_text _ = []
 
 -- What comes before the text of a row in its line.
@@ -160,11 +176,15 @@ abbrev pub local_text : Option (List ℕ) → List ℕ
 local_text (Some local) = between (escaped local)
 local_text None = codes " - "
 
+abbrev pub flag_field : Bool → List ℕ
+flag_field true = codes " lf "
+flag_field false = codes " - "
+
 abbrev pub more_text : MoreView → List ℕ
 more_text nothing = codes " "
 more_text message = codes " "
-more_text (line_break true) = codes " lf "
-more_text (line_break false) = codes " - "
+more_text (line_break flag) = flag_field flag
+more_text (valued flag value) = flag_field flag ++ (value_field value ++ codes " ")
 more_text (beside_token side token) = beside side token
 more_text (imported i) = mark i
 more_text (exported local is_type) = local_text local

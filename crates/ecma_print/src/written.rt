@@ -1,100 +1,16 @@
 //! What is written of a row: a JSON object, as `serde_json` writes one, or what comes before the text of a row in its line.
-ghost use Rattle.std.specs.Prelude.{◌≡◌, ◌∷◌, ◌++◌, ◌<◌, decimal, map, OnOk};
-ghost use Rattle.std.specs.Char.{digit_char};
-ghost use Rattle.json.specs.Print.{escape, escape_byte, quoted};
+ghost use Rattle.std.specs.Prelude.{◌≡◌, ◌∷◌, ◌++◌, codes, decimal, map, OnOk};
 ghost use Rattle.serde_json.specs.Written.{compact_text};
 ghost use Rattle.ecma_print.specs.Rows as row_specs;
+ghost use Rattle.ecma_print.specs.Values as value_specs;
 
-use crate::row::{Imported, More, Row};
+use crate::members::{push_bytes_member, push_flag_member, push_number_member, push_text_member};
+use crate::row::{Imported, More, Row, Value};
+use crate::values::{push_digits, push_field, push_flags, push_form, push_value};
 use ecma_place::{BytePos, Span};
 use ecma_positions::Position;
 use ecma_stdio::{push_escaped, push_number};
 use std::alloc::AllocError;
-
-/// Whether a byte of a JSON string has to be written as an escape.
-fn needs_escape(byte: u8) -> bool
-    ensures { result ≡ row_specs.needs_escape byte }
-{
-    byte < b' ' || byte == b'"' || byte == b'\\'
-}
-
-/// The hexadecimal digit of a number below 16.
-fn hex_digit(number: u8) -> u8
-    requires { number < 16 }
-    ensures { result ≡ digit_char number }
-{
-    if number < 10 {
-        b'0' + number
-    } else {
-        b'a' - 10 + number
-    }
-}
-
-/// Adds a byte as JSON strings have it.
-#[tactic(auto, unfolding(json::specs::Print::escape_byte))]
-fn push_escape(out: &mut Vec<u8>, byte: u8) -> Result<(), AllocError>
-    ensures { OnOk result (out.new.items ≡ out.old.items ++ escape_byte byte) }
-{
-    match byte {
-        b'"' => out.extend_from_slice(b"\\\""),
-        b'\\' => out.extend_from_slice(b"\\\\"),
-        8 => out.extend_from_slice(b"\\b"),
-        12 => out.extend_from_slice(b"\\f"),
-        b'\n' => out.extend_from_slice(b"\\n"),
-        b'\r' => out.extend_from_slice(b"\\r"),
-        b'\t' => out.extend_from_slice(b"\\t"),
-        0..=31 => out.extend_from_slice(&[
-            b'\\',
-            b'u',
-            b'0',
-            b'0',
-            hex_digit(byte / 16),
-            hex_digit(byte % 16),
-        ]),
-        _ => Ok(out.push(byte)?),
-    }
-}
-
-/// Adds bytes as JSON strings have them. What lies between two escapes goes in at once.
-fn push_inside(out: &mut Vec<u8>, bytes: &[u8]) -> Result<(), AllocError>
-    ensures { OnOk result (out.new.items ≡ out.old.items ++ escape bytes.now) }
-{
-    let mut done = 0;
-    for (place, byte) in bytes.iter().enumerate() {
-        if needs_escape(*byte) {
-            out.extend_from_slice(&bytes[done..place])?;
-            push_escape(out, *byte)?;
-            done = place + 1;
-        }
-    }
-    out.extend_from_slice(&bytes[done..])
-}
-
-/// Adds a member of a JSON object that is a number, behind what comes before it.
-fn push_number_member(out: &mut Vec<u8>, before: &[u8], number: usize) -> Result<(), AllocError>
-    ensures { OnOk result (out.new.items ≡ out.old.items ++ (before.now ++ decimal number)) }
-{
-    out.extend_from_slice(before)?;
-    push_number(out, number)
-}
-
-/// Adds a member of a JSON object that is a string of these bytes, behind what comes before it.
-fn push_bytes_member(out: &mut Vec<u8>, before: &[u8], bytes: &[u8]) -> Result<(), AllocError>
-    ensures { OnOk result (out.new.items ≡ out.old.items ++ (before.now ++ quoted bytes.now)) }
-{
-    out.extend_from_slice(before)?;
-    out.push(b'"')?;
-    push_inside(out, bytes)?;
-    out.push(b'"')?;
-    Ok(())
-}
-
-/// Adds a member of a JSON object that is a string, behind what comes before it.
-fn push_text_member(out: &mut Vec<u8>, before: &[u8], text: &str) -> Result<(), AllocError>
-    ensures { OnOk result (out.new.items ≡ out.old.items ++ (before.now ++ quoted text.now)) }
-{
-    push_bytes_member(out, before, text.as_bytes())
-}
 
 /// Adds a whole text of a file as a JSON object.
 ///
@@ -110,15 +26,13 @@ pub fn push_text_object(out: &mut Vec<u8>, file: &str, bytes: &[u8]) -> Result<(
     Ok(())
 }
 
-/// Adds a member of a JSON object that is a truth value, behind what comes before it.
-fn push_flag_member(out: &mut Vec<u8>, before: &[u8], flag: bool) -> Result<(), AllocError>
-    ensures { OnOk result (out.new.items ≡ out.old.items ++ (before.now ++ row_specs.flag_text flag)) }
+/// The value of a token, where it is told.
+fn value_in(more: More) -> Value
+    ensures { value_specs.value_view result ≡ row_specs.value_in (row_specs.more_view more.entry) }
 {
-    out.extend_from_slice(before)?;
-    if flag {
-        out.extend_from_slice(b"true")
-    } else {
-        out.extend_from_slice(b"false")
+    match more {
+        More::Valued { value, .. } => value,
+        _ => Value::Nothing,
     }
 }
 
@@ -127,7 +41,11 @@ fn push_line_break(out: &mut Vec<u8>, more: More) -> Result<(), AllocError>
     ensures { OnOk result (out.new.items ≡ out.old.items ++ row_specs.line_break_text (row_specs.more_view more.entry)) }
 {
     match more {
-        More::LineBreak(flag) => push_flag_member(out, b",\"line_break_before\":", flag),
+        More::LineBreak(flag)
+        | More::Valued {
+            line_break: flag,
+            ..
+        } => { push_flag_member(out, b",\"line_break_before\":", flag) }
         _ => Ok(()),
     }
 }
@@ -164,6 +82,7 @@ fn push_before_text(out: &mut Vec<u8>, more: More) -> Result<(), AllocError>
             local: Some(local),
             ..
         } => push_text_member(out, b",\"local\":", local),
+        More::Valued { value, .. } => push_form(out, value),
         _ => Ok(()),
     }
 }
@@ -197,6 +116,7 @@ fn push_behind_text(out: &mut Vec<u8>, more: More) -> Result<(), AllocError>
         More::Beside { token, .. } => push_number_member(out, b",\"token\":", token.0 as usize),
         More::Import(import) => push_import_end(out, import),
         More::Export { is_type, .. } => push_flag_member(out, b",\"type\":", is_type),
+        More::Valued { value, .. } => push_value(out, value),
         _ => Ok(()),
     }
 }
@@ -214,8 +134,11 @@ pub fn push_object(
 ) -> Result<(), AllocError>
     ensures { OnOk result (out.new.items ≡ out.old.items ++ compact_text (row_specs.row_data file.now position row.entry)) }
 {
+    let value = value_in(row.more);
     push_number_member(out, b"{\"column\":", position.column)?;
+    push_digits(out, value)?;
     push_text_member(out, b",\"file\":", file)?;
+    push_flags(out, value)?;
     push_number_member(out, b",\"hi\":", row.span.hi.0 as usize)?;
     push_text_member(out, b",\"kind\":", row.kind)?;
     push_number_member(out, b",\"line\":", position.line)?;
@@ -289,14 +212,34 @@ fn push_local(out: &mut Vec<u8>, local: Option<&str>) -> Result<(), AllocError>
     Ok(out.push(b' ')?)
 }
 
+/// Adds whether a line terminator comes before a token, between spaces.
+fn push_break(out: &mut Vec<u8>, flag: bool) -> Result<(), AllocError>
+    ensures { OnOk result (out.new.items ≡ out.old.items ++ row_specs.flag_field flag) }
+{
+    if flag {
+        out.extend_from_slice(b" lf ")
+    } else {
+        out.extend_from_slice(b" - ")
+    }
+}
+
+/// Adds whether a line terminator comes before a token, and its value, between spaces.
+fn push_valued(out: &mut Vec<u8>, flag: bool, value: Value) -> Result<(), AllocError>
+    ensures { OnOk result (out.new.items ≡ out.old.items ++ (row_specs.flag_field flag ++ (value_specs.value_field (value_specs.value_view value.entry) ++ codes " "))) }
+{
+    push_break(out, flag)?;
+    push_field(out, value)?;
+    Ok(out.push(b' ')?)
+}
+
 /// Adds what is told of a row besides what all rows have, between spaces.
 fn push_more(out: &mut Vec<u8>, more: More) -> Result<(), AllocError>
     ensures { OnOk result (out.new.items ≡ out.old.items ++ row_specs.more_text (row_specs.more_view more.entry)) }
 {
     match more {
         More::Nothing | More::Message => Ok(out.push(b' ')?),
-        More::LineBreak(true) => out.extend_from_slice(b" lf "),
-        More::LineBreak(false) => out.extend_from_slice(b" - "),
+        More::LineBreak(flag) => push_break(out, flag),
+        More::Valued { line_break, value } => push_valued(out, line_break, value),
         More::Beside { side, token } => push_beside(out, side, token),
         More::Import(import) => push_mark(out, import),
         More::Export { local, .. } => push_local(out, local),

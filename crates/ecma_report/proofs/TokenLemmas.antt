@@ -15,8 +15,8 @@ module _ (ask : Look) (file text : List ℕ) where
       → token_rows ask file text previous (ts ++ us) ≡ token_rows ask file text previous ts ++ token_rows ask file text (kind_behind previous ts) us
   rows-on previous [] us = refl
   rows-on previous (t ∷ ts) us =
-      ap (λ l. token_row ask file text previous (kept_of t) ++ l) (rows-on (Some (kept_of t).kind) ts us)
-      ∙ sym (append_assoc (token_row ask file text previous (kept_of t)) (token_rows ask file text (Some (kept_of t).kind) ts) (token_rows ask file text (kind_behind previous (t ∷ ts)) us))
+      ap (λ l. token_row ask file text previous t ++ l) (rows-on (Some (kept_of t).kind) ts us)
+      ∙ sym (append_assoc (token_row ask file text previous t) (token_rows ask file text (Some (kept_of t).kind) ts) (token_rows ask file text (kind_behind previous (t ∷ ts)) us))
 
   kind-on : (previous : Option TokenKind) (ts us : List SpannedView) → kind_behind previous (ts ++ us) ≡ kind_behind (kind_behind previous ts) us
   kind-on previous [] us = refl

@@ -3,12 +3,11 @@ use Rattle.std.specs.Prelude.{ℕ, List, [], ◌∷◌, ◌++◌, Option, Some, 
 use Rattle.ecma_token.specs.View.{SpannedView}
 use Rattle.ecma_token.specs.declared.kind.TokenKind.{TokenKind}
 use Rattle.ecma_state.specs.Session.{Session, kept_of}
-use Rattle.ecma_state.specs.declared.kept.Kept.{Kept}
 use Rattle.ecma_options.specs.Begin.{begin}
 use Rattle.ecma_styles.specs.Styles.{class_name, class_of}
 use Rattle.ecma_styles.specs.declared.«class».Class.{Class}
-use Rattle.ecma_print.specs.Rows.{line_break}
 use Rattle.ecma_report.specs.Rows.{Look, part_at, row_of}
+use Rattle.ecma_report.specs.Values.{told}
 use Rattle.ecma_report.specs.declared.words.Asked.{Asked}
 
 -- the class of a token, or that it is a punctuator
@@ -20,13 +19,13 @@ name_of None = codes "punctuator"
 abbrev pub kind_name : TokenKind → Option TokenKind → List ℕ
 kind_name kind previous = name_of (class_of kind previous)
 
-abbrev pub token_row : Look → List ℕ → List ℕ → Option TokenKind → Kept → List ℕ
-token_row l file text previous k = row_of l file text (kind_name k.kind previous) k.span (line_break k.flag) (part_at text k.span)
+abbrev pub token_row : Look → List ℕ → List ℕ → Option TokenKind → SpannedView → List ℕ
+token_row l file text previous t = row_of l file text (kind_name (kept_of t).kind previous) t.span (told l.asked.values t) (part_at text t.span)
 
 -- the rows of tokens, one behind the other
 abbrev pub token_rows : Look → List ℕ → List ℕ → Option TokenKind → List SpannedView → List ℕ
 token_rows l file text previous [] = []
-token_rows l file text previous (t ∷ ts) = token_row l file text previous (kept_of t) ++ token_rows l file text (Some (kept_of t).kind) ts
+token_rows l file text previous (t ∷ ts) = token_row l file text previous t ++ token_rows l file text (Some (kept_of t).kind) ts
 
 -- the kind of the last of them
 abbrev pub kind_behind : Option TokenKind → List SpannedView → Option TokenKind

@@ -8,11 +8,13 @@ ghost use Rattle.ecma_report.specs.Reports.{Adds, IsOf, Stays, writes_errors};
 ghost use Rattle.ecma_report.specs.Slashes.{rule_at};
 ghost use Rattle.ecma_report.specs.Tokens as rows;
 ghost use Rattle.ecma_report.specs.Tokens.{begun, kind_behind, token_rows};
-ghost use Rattle.ecma_report.specs.Rows.{Look};
+ghost use Rattle.ecma_report.specs.Rows.{Look, row_of};
+ghost use Rattle.ecma_print.specs.Rows.{more_view};
 
 use crate::faults::{keep_error, tell_found};
 use crate::report::{More, Report, Row, Stop};
 use crate::slashes::{open, tell_unmet};
+use crate::values::told;
 use crate::words::Named;
 use ecma_faults::in_order;
 use ecma_reader::Reader;
@@ -32,21 +34,22 @@ fn kind_name(kind: TokenKind, previous: Option<TokenKind>) -> &'static str
     }
 }
 
-/// Adds the row of a token, behind one of that kind or none.
-fn push_token(
+/// Adds the row of a token, behind one of that kind or none, with its text and what is told of it besides.
+fn push_token<'t>(
     report: &mut Report,
     previous: Option<TokenKind>,
     token: Kept,
+    text: &'t str,
+    more: More<'t>,
 ) -> Result<(), AllocError>
-    ensures added { (look : Look) (name text : List ℕ) → IsOf look name text report.old
-        → OnOk result (report.new.out.items ≡ report.old.out.items ++ rows.token_row look name text previous token) }
+    ensures added { (look : Look) (name source : List ℕ) → IsOf look name source report.old
+        → OnOk result (report.new.out.items ≡ report.old.out.items ++ row_of look name source (rows.kind_name token.kind previous) token.span (more_view more.entry) text.now) }
     ensures stays { Stays report.old report.new }
 {
-    let text = report.at(token.span);
     report.push_row(Row {
         kind: kind_name(token.kind, previous),
         span: token.span,
-        more: More::LineBreak(token.flag),
+        more,
         text,
     })
 }
@@ -66,7 +69,9 @@ fn push_slot(
         return Ok(previous);
     };
     let own = Kept::of(token);
-    push_token(report, previous, own)?;
+    let text = report.at(own.span);
+    let more = told(report.asked.values, token);
+    push_token(report, previous, own, text, more)?;
     Ok(Some(own.kind))
 }
 

@@ -11,6 +11,8 @@ ghost use Rattle.ecma_slashes.specs.Rereads.{SlashRule, text_steps_by};
 ghost use Rattle.ecma_canonical.specs.Canonical.{GathersPlainly, IsCanon};
 ghost use Rattle.ecma_classes.specs.Classes.{begin};
 ghost use Rattle.ecma_pieces.specs.Covered.{MayBeCovered};
+ghost use Rattle.ecma_html.specs.Unmark.{shown, unmark};
+ghost use Rattle.ecma_report.specs.Html.{html_by};
 
 use crate::faults::tell_found;
 use crate::report::{More, Report, Row, Stop, write_all};
@@ -19,7 +21,7 @@ use crate::words::{Face, Named};
 use ecma_canonical::{Canon, canonical_of_gathered};
 use ecma_classes::{Class, Piece, classes};
 use ecma_faults::{Found, in_order};
-use ecma_html::html_of_gathered;
+use ecma_html::{html_of_gathered, page_of_gathered};
 use ecma_looks::show_text;
 use ecma_reader::{ReadOut, read_out};
 use ecma_replay::Gathered;
@@ -100,11 +102,25 @@ fn write_pieces<W: Write>(report: &mut Report, gathered: &Gathered, out: &mut W)
     push_pieces(report, &pieces, out)
 }
 
+/// The text as HTML, or a whole page of it where that is asked for.
+fn html_asked(report: &Report, gathered: &Gathered) -> Result<Vec<u8>, AllocError>
+    requires fits { length report.now.text.now < 2 ^ 32 }
+    requires covered { MayBeCovered (begin 0 (chars report.now.text.now)) gathered.now.kept.items gathered.now.comments.items }
+    ensures same { IfOk result (λ v. v.items ≡ html_by report.now.asked.page report.now.name.now report.now.text.now gathered.now.kept.items gathered.now.comments.items) }
+    // Whichever it is, it is the text that is left without the markup.
+    ensures back { IfOk result (λ v. unmark v.items ≡ shown report.now.text.now) }
+{
+    if report.asked.page {
+        return page_of_gathered(report.alloc, report.name, report.text, gathered);
+    }
+    html_of_gathered(report.alloc, report.text, gathered)
+}
+
 fn write_html<W: Write>(report: &mut Report, gathered: &Gathered, out: &mut W) -> Result<(), Stop>
     requires fits { length report.old.text.now < 2 ^ 32 }
     requires covered { MayBeCovered (begin 0 (chars report.old.text.now)) gathered.now.kept.items gathered.now.comments.items }
 {
-    let html = html_of_gathered(report.alloc, report.text, gathered)?;
+    let html = html_asked(report, gathered)?;
     write_whole(report, &html, out)
 }
 

@@ -107,6 +107,10 @@ pub struct Asked {
     pub colours: bool,
     /// Whether imports have a row for each `require("x")` of CommonJS.
     pub commonjs: bool,
+    /// Whether rows of tokens tell their values.
+    pub values: bool,
+    /// Whether HTML is a whole page.
+    pub page: bool,
 }
 
 impl Asked {
@@ -130,6 +134,8 @@ impl Asked {
                 _ => colours,
             },
             commonjs: matches.get_flag("commonjs"),
+            values: matches.get_flag("values"),
+            page: matches.get_flag("page"),
         }
     }
 
@@ -206,6 +212,14 @@ const FLAGS: &[(&str, &str)] = &[
     (
         "commonjs",
         "With imports, write a line for each string that require of CommonJS is called with too",
+    ),
+    (
+        "values",
+        "With tokens, write what each means too: what strings stand for, names without escapes, numbers",
+    ),
+    (
+        "page",
+        "With html, write a whole page: with a stylesheet, light and dark, and line numbers",
     ),
     ("json", "Write one JSON object a line"),
     ("lines", "Write line:column beside byte places"),

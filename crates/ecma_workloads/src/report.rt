@@ -62,6 +62,8 @@ fn report_tokens(
         columns: Columns::Bytes,
         colours: false,
         commonjs: false,
+        values: false,
+        page: false,
     };
     let start = BytePos(0);
     let settings = options.settings(true);

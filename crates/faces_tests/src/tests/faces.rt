@@ -218,6 +218,70 @@ const ERRORS: &[Told] = &[
     ),
 ];
 
+/// Rows of tokens with their values: in a line a field of JSON before the text.
+const VALUES: &[Told] = &[
+    (
+        "tokens --values",
+        "if ('a\\x62 c') fo\\u006f;",
+        false,
+        "keyword 0 2 lf \"if\" if\npunctuator 3 4 - - (\nstring 4 13 - \"ab c\" 'a\\\\x62 c'\npunctuator 13 14 - - )\nname 15 23 - \"foo\" fo\\\\u006f\npunctuator 23 24 - - ;\n",
+        "",
+    ),
+    // 2^53 - 1 is the last whole number that is told.
+    (
+        "tokens --values --lines",
+        "0xF_F 9007199254740991 9007199254740992 1e3 1_0n 017",
+        false,
+        "number 1:1 0 5 lf 255 0xF_F\nnumber 1:7 6 22 - 9007199254740991 9007199254740991\nnumber 1:24 23 39 - [10,\"9007199254740992\"] 9007199254740992\nnumber 1:41 40 43 - [10,\"1e3\"] 1e3\nnumber 1:45 44 48 - [10,\"10\"] 1_0n\nnumber 1:50 49 52 - 15 017\n",
+        "",
+    ),
+    // In a template CR and LF stand for LF; a text with an escape that is refused stands for nothing.
+    (
+        "tokens --values",
+        "`a\r\n${b}\\u`",
+        false,
+        "template 0 1 lf - `\ntemplate 1 4 lf \"a\\n\" a\\r\\n\npunctuator 4 6 - - ${\nname 6 7 - \"b\" b\npunctuator 7 8 - - }\ntemplate 8 10 - null \\\\u\ntemplate 10 11 - - `\n",
+        "",
+    ),
+    // An escape of a surrogate stays as it is spelled, also in a pair.
+    (
+        "tokens --values",
+        "'\\ud83d\\ude00' '\\u{1F600}'",
+        false,
+        "string 0 14 lf \"\\\\ud83d\\\\ude00\" '\\\\ud83d\\\\ude00'\nstring 15 26 - \"😀\" '\\\\u{1F600}'\n",
+        "",
+    ),
+    (
+        "tokens --values",
+        "#!x\n/a \"b/gi; null \\",
+        true,
+        "comment 0 3 - - #!x\nregexp 4 12 lf [\"a \\\"b\",\"gi\"] /a \"b/gi\npunctuator 12 13 - - ;\nliteral 14 18 - \"null\" null\nerror 19 20 - - \\\\\n",
+        "a.js:2:16: Expected unicode escape\n",
+    ),
+    (
+        "tokens --values --json",
+        "0b1_1/a/g;",
+        false,
+        "{\"column\":1,\"digits\":\"11\",\"file\":\"a.js\",\"hi\":5,\"kind\":\"number\",\"line\":1,\"line_break_before\":true,\"lo\":0,\"radix\":2,\"text\":\"0b1_1\",\"value\":3}\n{\"column\":6,\"file\":\"a.js\",\"hi\":6,\"kind\":\"punctuator\",\"line\":1,\"line_break_before\":false,\"lo\":5,\"text\":\"/\"}\n{\"column\":7,\"file\":\"a.js\",\"hi\":7,\"kind\":\"name\",\"line\":1,\"line_break_before\":false,\"lo\":6,\"text\":\"a\",\"value\":\"a\"}\n{\"column\":8,\"file\":\"a.js\",\"hi\":8,\"kind\":\"punctuator\",\"line\":1,\"line_break_before\":false,\"lo\":7,\"text\":\"/\"}\n{\"column\":9,\"file\":\"a.js\",\"hi\":9,\"kind\":\"name\",\"line\":1,\"line_break_before\":false,\"lo\":8,\"text\":\"g\",\"value\":\"g\"}\n{\"column\":10,\"file\":\"a.js\",\"hi\":10,\"kind\":\"punctuator\",\"line\":1,\"line_break_before\":false,\"lo\":9,\"text\":\";\"}\n",
+        "",
+    ),
+    (
+        "tokens --values --json",
+        "/a/g,'\\\"',1.5,0x1n,`\\u`",
+        false,
+        "{\"column\":1,\"file\":\"a.js\",\"flags\":\"g\",\"hi\":4,\"kind\":\"regexp\",\"line\":1,\"line_break_before\":true,\"lo\":0,\"pattern\":\"a\",\"text\":\"/a/g\"}\n{\"column\":5,\"file\":\"a.js\",\"hi\":5,\"kind\":\"punctuator\",\"line\":1,\"line_break_before\":false,\"lo\":4,\"text\":\",\"}\n{\"column\":6,\"file\":\"a.js\",\"hi\":9,\"kind\":\"string\",\"line\":1,\"line_break_before\":false,\"lo\":5,\"text\":\"'\\\\\\\"'\",\"value\":\"\\\"\"}\n{\"column\":10,\"file\":\"a.js\",\"hi\":10,\"kind\":\"punctuator\",\"line\":1,\"line_break_before\":false,\"lo\":9,\"text\":\",\"}\n{\"column\":11,\"digits\":\"1.5\",\"file\":\"a.js\",\"hi\":13,\"kind\":\"number\",\"line\":1,\"line_break_before\":false,\"lo\":10,\"radix\":10,\"text\":\"1.5\"}\n{\"column\":14,\"file\":\"a.js\",\"hi\":14,\"kind\":\"punctuator\",\"line\":1,\"line_break_before\":false,\"lo\":13,\"text\":\",\"}\n{\"column\":15,\"digits\":\"1\",\"file\":\"a.js\",\"hi\":18,\"kind\":\"number\",\"line\":1,\"line_break_before\":false,\"lo\":14,\"radix\":16,\"text\":\"0x1n\"}\n{\"column\":19,\"file\":\"a.js\",\"hi\":19,\"kind\":\"punctuator\",\"line\":1,\"line_break_before\":false,\"lo\":18,\"text\":\",\"}\n{\"column\":20,\"file\":\"a.js\",\"hi\":20,\"kind\":\"template\",\"line\":1,\"line_break_before\":false,\"lo\":19,\"text\":\"`\"}\n{\"column\":21,\"file\":\"a.js\",\"hi\":22,\"kind\":\"template\",\"line\":1,\"line_break_before\":false,\"lo\":20,\"text\":\"\\\\u\",\"value\":null}\n{\"column\":23,\"file\":\"a.js\",\"hi\":23,\"kind\":\"template\",\"line\":1,\"line_break_before\":false,\"lo\":22,\"text\":\"`\"}\n",
+        "",
+    ),
+    // Of others than tokens it changes nothing.
+    (
+        "exports --values",
+        "export { a }",
+        false,
+        "export 9 10 a a\n",
+        "",
+    ),
+];
+
 /// Rows of comments.
 const COMMENTS: &[Told] = &[
     (
@@ -508,6 +572,11 @@ fn tokens_are_told(rt: HostRuntime) -> Result<(), Fail> {
 }
 
 #[test]
+fn values_are_told(rt: HostRuntime) -> Result<(), Fail> {
+    assert_told(&rt, rt.alloc(), VALUES)
+}
+
+#[test]
 fn errors_are_told(rt: HostRuntime) -> Result<(), Fail> {
     assert_told(&rt, rt.alloc(), ERRORS)
 }
@@ -564,6 +633,8 @@ fn asked(face: Face) -> Asked {
         columns: Columns::Bytes,
         colours: false,
         commonjs: false,
+        values: false,
+        page: false,
     }
 }
 

@@ -2,7 +2,7 @@
 use ecma_options::Options;
 use ecma_place::{BytePos, Span};
 use ecma_positions::{Columns, LineStarts, Position};
-use ecma_print::row::Imported;
+use ecma_print::row::{Imported, Value};
 use ecma_report::report::{More, Report, Row};
 use ecma_report::words::{Among, Asked, Face};
 use ecma_stdio::push_escaped;
@@ -64,8 +64,12 @@ fn object(alloc: Global, file: &str, position: Position, row: Row) -> Result<Str
     let hi = row.span.hi.0;
     let text = row.text;
     let value = match row.more {
-        // Rows of imports and exports are in the table of rows.
-        More::Nothing | More::Message | More::Import(_) | More::Export { .. } => json!(in alloc; {
+        // Rows of imports, exports and values are in the table of rows.
+        More::Nothing
+        | More::Message
+        | More::Import(_)
+        | More::Export { .. }
+        | More::Valued { .. } => json!(in alloc; {
             "file": file, "kind": kind, "lo": lo, "hi": hi, "line": line, "column": column, "text": text
         }),
         More::LineBreak(flag) => json!(in alloc; {
@@ -96,9 +100,11 @@ fn head(alloc: Global, lines: bool, position: Position, row: Row) -> Result<Stri
     };
     let place = place.as_str();
     match row.more {
-        More::Nothing | More::Message | More::Import(_) | More::Export { .. } => {
-            format!(in alloc; "{kind}{place} {lo} {hi} ")
-        }
+        More::Nothing
+        | More::Message
+        | More::Import(_)
+        | More::Export { .. }
+        | More::Valued { .. } => { format!(in alloc; "{kind}{place} {lo} {hi} ") }
         More::LineBreak(true) => format!(in alloc; "{kind}{place} {lo} {hi} lf "),
         More::LineBreak(false) => format!(in alloc; "{kind}{place} {lo} {hi} - "),
         More::Beside { side, token } => {
@@ -163,6 +169,8 @@ fn asked(json: bool, lines: bool) -> Asked {
         columns: Columns::Bytes,
         colours: false,
         commonjs: false,
+        values: false,
+        page: false,
     }
 }
 
@@ -356,6 +364,15 @@ const ROWS: &[(More, bool, bool, &str)] = &[
         false,
         false,
         "number 8 4294967295 - 1\\n\0\"\n",
+    ),
+    (
+        More::Valued {
+            line_break: true,
+            value: Value::Text("\"\n"),
+        },
+        false,
+        false,
+        "number 8 4294967295 lf \"\\\"\\n\" 1\\n\0\"\n",
     ),
 ];
 

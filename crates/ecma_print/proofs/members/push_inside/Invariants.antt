@@ -2,7 +2,7 @@
 use Rattle.std.proofs.Common.{◌≡◌, ◌++◌, ◌≤◌, take}
 use Rattle.std.specs.Prelude.{slice_range}
 use Rattle.json.specs.Print.{escape}
-use Rattle.ecma_print.proofs.written.push_inside.Given as goal
+use Rattle.ecma_print.proofs.members.push_inside.Given as goal
 
 abbrev pub invariant-loop-place : goal.invariant-loop-place
 invariant-loop-place l =

@@ -3,8 +3,8 @@ use Rattle.std.specs.Prelude.{get_or}
 use Rattle.json.specs.Print.{escape_byte}
 use Rattle.ecma_stdio.proofs.Runs.{passed-on, run-added}
 use Rattle.ecma_print.proofs.EscapedLemmas.{written_as_is}
-use Rattle.ecma_print.proofs.written.push_inside.Goals as goal
-use Rattle.ecma_print.proofs.written.push_inside.Goals.{then-needs_escape+in_ok-extend_from_slice+in_ok-push_escape, else-needs_escape}
+use Rattle.ecma_print.proofs.members.push_inside.Goals as goal
+use Rattle.ecma_print.proofs.members.push_inside.Goals.{then-needs_escape+in_ok-extend_from_slice+in_ok-push_escape, else-needs_escape}
 
 pub loop-place-preserved : goal.loop-place-preserved
 loop-place-preserved c =
