@@ -1,5 +1,6 @@
 -- Rows of imports and exports. Their form is our own choice.
-use Rattle.std.specs.Prelude.{ℕ, ◌+◌, ◌-◌, ◌*◌, ◌==◌, ◌&&◌, ◌||◌, ◌≡◌, Bool, true, false, List, [], ◌∷◌, Option, Some, None, Result, Ok, Err, if◌then◌else◌, length, list_any, map, nat_le, slice_range}
+use Rattle.std.specs.Prelude.{ℕ, ◌+◌, ◌-◌, ◌*◌, ◌==◌, ◌&&◌, ◌||◌, ◌≡◌, Bool, true, false, List, [], ◌∷◌, Option, Some, None, Result, Ok, Err, if◌then◌else◌, length, map, nat_le, slice_range}
+use Rattle.std.specs.List.{list_any}
 use Rattle.ecma_place.specs.declared.place.BytePos.{BytePos}
 use Rattle.ecma_place.specs.declared.place.Span.{Span}
 use Rattle.ecma_state.specs.Session.{kept_of}
@@ -148,26 +149,23 @@ pub record ModuleView : Type 0 where
   pub is_facade : Bool
   pub has_module_syntax : Bool
 
-abbrev pub module_view : Bool → ModuleOptions → List Kept → List ℕ → ModuleView
-module_view met options kept text =
+abbrev pub view_of : Bool → List Import → List Export → Bool → Bool → List ℕ → ModuleView
+view_of met imports exports is_facade has_module_syntax text =
     record {
       met = met;
-      imports = map (import_row text) (imports_of options kept);
-      exports = map (export_row text) (exports_of options kept);
-      is_facade = modules.is_facade options kept;
-      has_module_syntax = modules.has_module_syntax options kept;
+      imports = map (import_row text) imports;
+      exports = map (export_row text) exports;
+      is_facade = is_facade;
+      has_module_syntax = has_module_syntax;
     }
+
+abbrev pub module_view : Bool → ModuleOptions → List Kept → List ℕ → ModuleView
+module_view met options kept text =
+    view_of met (imports_of options kept) (exports_of options kept) (modules.is_facade options kept) (modules.has_module_syntax options kept) text
 
 -- the same, of what was gathered
 abbrev pub view_of_module : Bool → Module → List ℕ → ModuleView
-view_of_module met m text =
-    record {
-      met = met;
-      imports = map (import_row text) m.imports.items;
-      exports = map (export_row text) m.exports.items;
-      is_facade = m.is_facade;
-      has_module_syntax = m.has_module_syntax;
-    }
+view_of_module met m text = view_of met m.imports.items m.exports.items m.is_facade m.has_module_syntax text
 
 abbrev pub module_told : Bool → Result AskedView Status → Result ModuleView Status
 module_told commonjs (Err status) = Err status

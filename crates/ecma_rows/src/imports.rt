@@ -1,5 +1,5 @@
 //! What a text imports and exports, as rows.
-ghost use Rattle.std.specs.Prelude.{◌≡◌, Ok, List, [], map, option_map, IfOk, OnErr, OnOk};
+ghost use Rattle.std.specs.Prelude.{◌≡◌, Ok, [], false, map, option_map, IfOk, OnErr, OnOk};
 ghost use Rattle.ecma_token.specs.View.{spanned_view};
 ghost use Rattle.ecma_module_table.specs.declared.rows.ModuleOptions.{ModuleOptions};
 ghost use Rattle.ecma_modules.specs.Modules.{gathered};
@@ -8,8 +8,7 @@ ghost use Rattle.ecma_slashes.specs.Rereads.{SlashRule};
 ghost use Rattle.ecma_reader.specs.Readers.{HasRead, IsReady, Shows, tokens_by, tokens_found};
 ghost use Rattle.ecma_rows.specs.Asked.{asked_view, judged, place_at};
 ghost use Rattle.ecma_rows.specs.ModuleRows as rows;
-ghost use Rattle.ecma_rows.specs.ModuleRows.{ModuleView, TellsModule, gathered_over, module_told};
-ghost use Rattle.ecma_rows.specs.Told as told;
+ghost use Rattle.ecma_rows.specs.ModuleRows.{TellsModule, gathered_over, module_told};
 ghost use Rattle.ecma_rows.specs.Told.{written};
 
 use crate::bits::{is_commonjs, reading_bits};
@@ -66,7 +65,8 @@ fn gather_tokens(reader: &mut Reader, gathering: &mut Gathering) -> Result<(), A
     requires ready { IsReady reader.old }
     ensures gathered { (rule : SlashRule) (begin : Session) (options : ModuleOptions) → Shows rule begin [] reader.old → gathering.old ≡ gathered options []
         → OnOk result (gathering.new ≡ gathered options (map kept_of (tokens_by rule begin))) }
-    ensures read { (rule : SlashRule) (begin : Session) → Shows rule begin [] reader.old → OnOk result (HasRead rule begin reader.new) }
+    ensures read { (rule : SlashRule) (begin : Session) (options : ModuleOptions) → Shows rule begin [] reader.old → gathering.old ≡ gathered options []
+        → OnOk result (HasRead rule begin reader.new) }
 {
     let mut slot = None;
     'tokens: while reader.read_into(&mut slot)? {
