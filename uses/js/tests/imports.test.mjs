@@ -22,6 +22,12 @@ test('static imports', () => {
     for (const [text, wanted] of rows) assert.deepEqual(seen(text), [wanted], text);
 });
 
+test('dense texts have more rows than there is room for at first', () => {
+    const text = 'import"a";export{b};'.repeat(1000);
+    const [found, names] = imports(text);
+    assert.deepEqual([found.length, found[999].ss, names.length, names[999].s], [1000, 19_980, 1000, 19_997]);
+});
+
 test('places of wide strings are units', () => {
     const text = '/* 𝒳 */ import é, { b } from "é\\u{e9}"; export { é as "𝒳" }; export let c = "é"; import("é", 𝒳); import("𝒳")';
     assert.deepEqual(seen(text), [
