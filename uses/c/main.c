@@ -1,6 +1,6 @@
-/* Tells of the tokens, the comments, the errors or the canonical text of a file: tokens|comments|errors|canonical FILE OPTIONS
-   [PLACE..]. A line has the numbers of a row, that of an error its message too; the last line has the status and the count. It
-   asks for the number of rows first, and gives room for as many. */
+/* Tells of the tokens, the comments, the errors, the imports and exports or the canonical text of a file:
+   tokens|comments|errors|imports|canonical FILE OPTIONS [PLACE..]. A line has the numbers of a row, that of an error its message
+   too; the last line has the status and the count. It asks for the number of rows first, and gives room for as many. */
 #include "ecma.h"
 #include <stdio.h>
 #include <stdlib.h>
@@ -69,6 +69,33 @@ static struct ecma_answer tell_errors(const uint8_t *text, size_t len, uint32_t 
     return told;
 }
 
+/* A line of an import begins with `import`, of an export with `export`, of the text as a whole with `module`. */
+static struct ecma_answer tell_imports(const uint8_t *text, size_t len, uint32_t options, const uint32_t *slashes,
+                                       size_t slashes_len) {
+    struct ecma_module counted = ecma_imports(text, len, options, slashes, slashes_len, NULL, 0, NULL, 0);
+    struct ecma_import *imports = (struct ecma_import *)calloc(counted.imports + 1, sizeof *imports);
+    struct ecma_export *exports = (struct ecma_export *)calloc(counted.exports + 1, sizeof *exports);
+    struct ecma_module told =
+        ecma_imports(text, len, options, slashes, slashes_len, imports, counted.imports, exports, counted.exports);
+    for (size_t i = 0; i < told.imports; i++) {
+        const struct ecma_import *row = &imports[i];
+        printf("import %u %u %u %u %u %u %u %u %u %u %zu %zu\n", (unsigned)row->lo, (unsigned)row->hi,
+               (unsigned)row->statement_lo, (unsigned)row->statement_hi, (unsigned)row->paren, (unsigned)row->attributes_lo,
+               (unsigned)row->attributes_hi, (unsigned)row->form, (unsigned)row->phase, (unsigned)row->flags,
+               row->first_export, row->exports);
+    }
+    for (size_t i = 0; i < told.exports; i++) {
+        const struct ecma_export *row = &exports[i];
+        printf("export %u %u %u %u %u\n", (unsigned)row->lo, (unsigned)row->hi, (unsigned)row->local_lo,
+               (unsigned)row->local_hi, (unsigned)row->flags);
+    }
+    printf("module %u\n", (unsigned)told.flags);
+    free(exports);
+    free(imports);
+    struct ecma_answer answer = {told.imports + told.exports, told.status};
+    return answer;
+}
+
 static struct ecma_answer tell_canonical(const uint8_t *text, size_t len, uint32_t options, const uint32_t *slashes,
                                          size_t slashes_len) {
     struct ecma_answer counted = ecma_canonical(text, len, options, slashes, slashes_len, NULL, 0);
@@ -82,7 +109,7 @@ static struct ecma_answer tell_canonical(const uint8_t *text, size_t len, uint32
 
 int main(int argc, char **argv) {
     if (argc < 4) {
-        fprintf(stderr, "%s tokens|comments|errors|canonical FILE OPTIONS [PLACE..]\n", argv[0]);
+        fprintf(stderr, "%s tokens|comments|errors|imports|canonical FILE OPTIONS [PLACE..]\n", argv[0]);
         return 2;
     }
     size_t len;
@@ -101,6 +128,8 @@ int main(int argc, char **argv) {
         told = tell_comments(bytes, len, options, places, slashes_len);
     } else if (strcmp(argv[1], "errors") == 0) {
         told = tell_errors(bytes, len, options, places, slashes_len);
+    } else if (strcmp(argv[1], "imports") == 0) {
+        told = tell_imports(bytes, len, options, places, slashes_len);
     } else if (strcmp(argv[1], "canonical") == 0) {
         told = tell_canonical(bytes, len, options, places, slashes_len);
     } else {

@@ -155,6 +155,13 @@ EXPORT(uint32_t, ecma_js_canonical)(REQUEST, uint32_t out, uint32_t room) {
     return status_of((ecma_canonical)(ASKED, SLICE(uint8_t, out, room)));
 }
 
+/* How many rows there are, the status and the flags of the text are written to `module`. */
+EXPORT(uint32_t, ecma_js_imports)(REQUEST, uint32_t imports, uint32_t import_rows, uint32_t exports, uint32_t export_rows, uint32_t module) {
+    struct ecma_module *told = (struct ecma_module *)(uintptr_t)module;
+    *told = (ecma_imports)(ASKED, SLICE(struct ecma_import, imports, import_rows), SLICE(struct ecma_export, exports, export_rows));
+    return told->status;
+}
+
 /* Places in bytes become places in units of UTF-16. */
 
 typedef uint64_t __attribute__((aligned(1), may_alias)) eight_bytes;

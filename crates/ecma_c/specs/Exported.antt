@@ -1,11 +1,17 @@
 -- What C is answered.
-use Rattle.std.specs.Prelude.{ℕ, ◌≡◌, ◌⊎◌, List, Result, Ok, Err}
+use Rattle.std.specs.Prelude.{ℕ, ◌+◌, ◌≡◌, ◌⊎◌, Bool, List, Result, Ok, Err, if◌then◌else◌}
 use Rattle.ecma_rows.specs.ErrorRows.{Sourced, TellsErrors}
+use Rattle.ecma_rows.specs.ModuleRows.{ModuleView, TellsModule}
 use Rattle.ecma_rows.specs.Told.{IsTold, Told, count_of, status_number}
 use Rattle.std.specs.declared.alloc.AllocError.{AllocError}
 use Rattle.ecma_rows.specs.declared.errors.ErrorRow.{ErrorRow}
+use Rattle.ecma_rows.specs.declared.imports.ModuleAnswer.{ModuleAnswer}
+use Rattle.ecma_rows.specs.declared.module_rows.ExportRow.{ExportRow}
+use Rattle.ecma_rows.specs.declared.module_rows.ImportRow.{ImportRow}
 use Rattle.ecma_rows.specs.declared.outcome.Answer.{Answer}
+use Rattle.ecma_rows.specs.declared.outcome.Status.{Status}
 use Rattle.ecma_c.specs.declared.EcmaAnswer.{EcmaAnswer}
+use Rattle.ecma_c.specs.declared.EcmaModule.{EcmaModule}
 
 -- an answer with its status as a number
 abbrev pub exported : Answer → EcmaAnswer
@@ -40,3 +46,28 @@ pub record ExportsErrors (told : Told Sourced) (old_rows rows : List ErrorRow) (
 
 abbrev pub ToldErrors : Told Sourced → List ErrorRow → List ErrorRow → List ℕ → List ℕ → EcmaAnswer → Type 0
 ToldErrors told old_rows rows old_bytes bytes answer = (answer ≡ no_memory) ⊎ ExportsErrors told old_rows rows old_bytes bytes answer
+
+-- and of a module
+
+-- 1 where it is a facade, 2 where it has module syntax
+abbrev pub module_flags : Bool → Bool → ℕ
+module_flags facade syntax = (if facade then 1 else 0) + (if syntax then 2 else 0)
+
+abbrev pub exported_module : ModuleAnswer → EcmaModule
+exported_module answer =
+    record { imports = answer.imports; exports = answer.exports; status = status_number answer.status; flags = module_flags answer.is_facade answer.has_module_syntax }
+
+abbrev pub no_module : EcmaModule
+no_module = record { imports = 0; exports = 0; status = 5; flags = 0 }
+
+abbrev pub module_or_none : Result ModuleAnswer AllocError → EcmaModule
+module_or_none (Ok answer) = exported_module answer
+module_or_none (Err e) = no_module
+
+pub record ExportsModule (told : Result ModuleView Status) (old_imports imports : List ImportRow) (old_exports exports : List ExportRow) (answer : EcmaModule) : Type 0 where
+  pub plain : ModuleAnswer
+  pub is : answer ≡ exported_module plain
+  pub tells : TellsModule told old_imports imports old_exports exports plain
+
+abbrev pub ToldModule : Result ModuleView Status → List ImportRow → List ImportRow → List ExportRow → List ExportRow → EcmaModule → Type 0
+ToldModule told old_imports imports old_exports exports answer = (answer ≡ no_module) ⊎ ExportsModule told old_imports imports old_exports exports answer

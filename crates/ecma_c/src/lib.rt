@@ -9,13 +9,15 @@ ghost use Rattle.std.specs.Prelude.{◌≡◌, false, map, true};
 ghost use Rattle.ecma_rows.specs.Asked.{judged, place_at};
 ghost use Rattle.ecma_rows.specs.Canon.{canon_told};
 ghost use Rattle.ecma_rows.specs.ErrorRows.{all_errors};
+ghost use Rattle.ecma_rows.specs.ModuleRows.{is_commonjs, module_told, reading_bits};
 ghost use Rattle.ecma_rows.specs.Rows.{comment_rows, token_rows};
 ghost use Rattle.ecma_rows.specs.Told.{told_by};
-ghost use Rattle.ecma_c.specs.Exported.{Counts, Tells, ToldErrors, exported, exported_or_none};
+ghost use Rattle.ecma_c.specs.Exported as told;
+ghost use Rattle.ecma_c.specs.Exported.{Counts, Tells, ToldErrors, ToldModule, exported, exported_or_none};
 
 use ecma_rows::{
-    Answer, CommentRow, ErrorRow, Status, TokenRow, count_tokens, write_canonical, write_comments,
-    write_errors, write_tokens,
+    Answer, CommentRow, ErrorRow, ExportRow, ImportRow, ModuleAnswer, Status, TokenRow,
+    count_tokens, write_canonical, write_comments, write_errors, write_imports, write_tokens,
 };
 use std::alloc::{AllocError, Global};
 
@@ -45,6 +47,53 @@ impl EcmaAnswer {
             Err(_) => EcmaAnswer {
                 count: 0,
                 status: Status::OutOfMemory.number(),
+            },
+        }
+    }
+}
+
+/// What a call came to that tells of a module: how many rows of imports and of exports there are, the number of its status
+/// ([`Status::number`]), and flags: 1 where there is nothing but imports, and exports that declare nothing, 2 where there is
+/// an import or export, or `import.meta`.
+#[repr(C)]
+#[derive(Clone, Copy, Debug, PartialEq, Eq)]
+pub struct EcmaModule {
+    pub imports: usize,
+    pub exports: usize,
+    pub status: u32,
+    pub flags: u32,
+}
+
+fn module_flags(is_facade: bool, has_module_syntax: bool) -> u32
+    ensures { result ≡ told.module_flags is_facade has_module_syntax }
+{
+    let first = if is_facade { 1 } else { 0 };
+    let second = if has_module_syntax { 2 } else { 0 };
+    first + second
+}
+
+impl EcmaModule {
+    fn of(answer: ModuleAnswer) -> EcmaModule
+        ensures { result ≡ told.exported_module answer }
+    {
+        EcmaModule {
+            imports: answer.imports,
+            exports: answer.exports,
+            status: answer.status.number(),
+            flags: module_flags(answer.is_facade, answer.has_module_syntax),
+        }
+    }
+
+    fn of_told(answer: Result<ModuleAnswer, AllocError>) -> EcmaModule
+        ensures { result ≡ told.module_or_none answer }
+    {
+        match answer {
+            Ok(answer) => EcmaModule::of(answer),
+            Err(_) => EcmaModule {
+                imports: 0,
+                exports: 0,
+                status: Status::OutOfMemory.number(),
+                flags: 0,
             },
         }
     }
@@ -118,4 +167,20 @@ pub extern "C" fn ecma_canonical(
     ensures { Tells (canon_told (judged options (map place_at slashes.now) text.now)) out.old out.new result }
 {
     EcmaAnswer::of_told(write_canonical(alloc, text, options, slashes, out))
+}
+
+/// Writes a row for each import to `imports` and a row for each export to `exports` ([`write_imports`]); status 5 where
+/// allocation fails.
+#[unsafe(no_mangle)]
+pub extern "C" fn ecma_imports(
+    alloc: Global,
+    text: &[u8],
+    options: u32,
+    slashes: &[u32],
+    imports: &mut [ImportRow],
+    exports: &mut [ExportRow],
+) -> EcmaModule
+    ensures { ToldModule (module_told (is_commonjs options) (judged (reading_bits options) (map place_at slashes.now) text.now)) imports.old imports.new exports.old exports.new result }
+{
+    EcmaModule::of_told(write_imports(alloc, text, options, slashes, imports, exports))
 }

@@ -1,7 +1,7 @@
 //! What a run gives as rows of numbers.
 use ecma_rows::{
-    Answer, CommentRow, ErrorRow, TokenRow, count_tokens, write_canonical, write_comments,
-    write_errors, write_tokens,
+    Answer, CommentRow, ErrorRow, ExportRow, ImportRow, TokenRow, count_tokens, write_canonical,
+    write_comments, write_errors, write_imports, write_tokens,
 };
 use std::alloc::{AllocError, Global};
 use std::io;
@@ -12,7 +12,10 @@ const TEXT: &[u8] = b"x = /a/ /*b*/ 1__2 //c\n'\\n' \\u0062reak";
 /// A text that is read cleanly.
 const CLEAN: &[u8] = b"x = /a/ /*b*/ '\\n'";
 
-/// The place of the regular expression of both.
+/// A text with a call of `import` in another, and an export.
+const MODULE: &[u8] = b"y = /a/; import(import('b')); export { c } from 'd'";
+
+/// The place of the regular expression of all.
 const SLASHES: [u32; 1] = [4];
 
 /// Room for what a call tells, which is empty before it.
@@ -21,11 +24,40 @@ struct Rooms {
     tokens: [TokenRow; 6],
     comments: [CommentRow; 2],
     errors: [ErrorRow; 2],
+    imports: [ImportRow; 3],
+    exports: [ExportRow; 1],
     bytes: [u8; 120],
+}
+
+/// Rooms for rows of imports and of exports.
+fn empty_module() -> ([ImportRow; 3], [ExportRow; 1]) {
+    let import = ImportRow {
+        lo: 0,
+        hi: 0,
+        statement_lo: 0,
+        statement_hi: 0,
+        paren: 0,
+        attributes_lo: 0,
+        attributes_hi: 0,
+        form: 0,
+        phase: 0,
+        flags: 0,
+        first_export: 0,
+        exports: 0,
+    };
+    let export = ExportRow {
+        lo: 0,
+        hi: 0,
+        local_lo: 0,
+        local_hi: 0,
+        flags: 0,
+    };
+    ([import; 3], [export])
 }
 
 impl Rooms {
     fn empty() -> Rooms {
+        let (imports, exports) = empty_module();
         Rooms {
             tokens: [TokenRow {
                 lo: 0,
@@ -48,9 +80,26 @@ impl Rooms {
                 message_lo: 0,
                 message_hi: 0,
             }; 2],
+            imports,
+            exports,
             bytes: [0; 120],
         }
     }
+}
+
+fn ask_imports(alloc: Global, rooms: &mut Rooms) -> Result<Answer, AllocError> {
+    let told = write_imports(
+        alloc,
+        MODULE,
+        0,
+        &SLASHES,
+        &mut rooms.imports,
+        &mut rooms.exports,
+    )?;
+    Ok(Answer {
+        status: told.status,
+        count: told.imports,
+    })
 }
 
 /// What is asked for.
@@ -60,6 +109,7 @@ enum Asked {
     Tokens,
     Comments,
     Errors,
+    Imports,
     Canonical,
 }
 
@@ -70,10 +120,12 @@ impl Asked {
             Asked::Tokens => "write_tokens",
             Asked::Comments => "write_comments",
             Asked::Errors => "write_errors",
+            Asked::Imports => "write_imports",
             Asked::Canonical => "write_canonical",
         }
     }
 
+    /// Of imports and exports, how many imports there are.
     fn ask(self, alloc: Global, rooms: &mut Rooms) -> Result<Answer, AllocError> {
         match self {
             Asked::Count => count_tokens(alloc, TEXT, 0, &SLASHES),
@@ -87,6 +139,7 @@ impl Asked {
                 &mut rooms.errors,
                 &mut rooms.bytes,
             ),
+            Asked::Imports => ask_imports(alloc, rooms),
             Asked::Canonical => write_canonical(alloc, CLEAN, 0, &SLASHES, &mut rooms.bytes),
         }
     }
@@ -97,7 +150,7 @@ fn tell_refused(rt: &impl Print, asked: Asked, rooms: &Rooms) -> io::Result<()> 
     let name = asked.name();
     match asked {
         Asked::Count | Asked::Tokens => println!(rt; "refused {name}"),
-        Asked::Comments | Asked::Errors | Asked::Canonical => {
+        Asked::Comments | Asked::Errors | Asked::Imports | Asked::Canonical => {
             let same = *rooms == Rooms::empty();
             println!(rt; "refused {name}: same rooms {same}")
         }
@@ -111,6 +164,7 @@ fn tell_rooms(rt: &impl Print, asked: Asked, rooms: &Rooms) -> io::Result<()> {
         Asked::Tokens => println!(rt; "{:?}", rooms.tokens),
         Asked::Comments => println!(rt; "{:?}", rooms.comments),
         Asked::Errors => println!(rt; "{:?} {:?}", rooms.errors, rooms.bytes),
+        Asked::Imports => println!(rt; "{:?} {:?}", rooms.imports, rooms.exports),
         Asked::Canonical => println!(rt; "{:?}", rooms.bytes),
     }
 }
@@ -134,5 +188,6 @@ pub fn play(rt: &impl Print, alloc: Global) -> io::Result<()> {
     play_call(rt, alloc, Asked::Tokens)?;
     play_call(rt, alloc, Asked::Comments)?;
     play_call(rt, alloc, Asked::Errors)?;
+    play_call(rt, alloc, Asked::Imports)?;
     play_call(rt, alloc, Asked::Canonical)
 }

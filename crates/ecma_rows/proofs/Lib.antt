@@ -4,3 +4,4 @@ pub mod RowLemmas
 pub mod Judging
 pub mod CanonCases
 pub mod ErrorLemmas
+pub mod ModuleLemmas

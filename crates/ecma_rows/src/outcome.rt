@@ -41,6 +41,17 @@ impl Status {
     }
 }
 
+/// The status where rows were written: each place that was named is that of a slash or not, and all rows have room or not.
+pub(crate) fn status_of(is_met: bool, fits: bool) -> Status
+    ensures { result ≡ told.status_of is_met fits }
+{
+    match (is_met, fits) {
+        (false, _) => Status::NoSlash,
+        (true, true) => Status::Done,
+        (true, false) => Status::NoRoom,
+    }
+}
+
 /// What a call came to, and how many rows there are, also where there is no room for all of them.
 #[derive(Clone, Copy, Debug, PartialEq, Eq)]
 pub struct Answer {
@@ -61,11 +72,9 @@ impl Answer {
     pub(crate) fn of_count(is_met: bool, fits: bool, count: usize) -> Answer
         ensures { result ≡ record { status = told.status_of is_met fits; count = count } }
     {
-        let status = match (is_met, fits) {
-            (false, _) => Status::NoSlash,
-            (true, true) => Status::Done,
-            (true, false) => Status::NoRoom,
-        };
-        Answer { status, count }
+        Answer {
+            status: status_of(is_met, fits),
+            count,
+        }
     }
 }

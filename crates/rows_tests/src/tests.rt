@@ -3,5 +3,6 @@
 mod canon;
 mod comments;
 mod errors;
+mod imports;
 mod requests;
 mod tokens;

@@ -103,6 +103,10 @@ export interface ImportSpecifier {
     readonly d: number;
     /** Where the attributes begin (the brace behind `with`, or the second argument of a call); -1: there are none. */
     readonly a: number;
+    /** Of `import defer` and `import source`. */
+    readonly phase: 'defer' | 'source' | undefined;
+    /** Types alone are imported or exported, as TypeScript's `type` says of the whole statement. */
+    readonly type: boolean;
 }
 export interface ExportSpecifier {
     readonly n: string;
@@ -113,6 +117,8 @@ export interface ExportSpecifier {
     /** -1: there is no local name. */
     readonly ls: number;
     readonly le: number;
+    /** It is the name of a type alone, by `type` or `interface` of TypeScript. */
+    readonly type: boolean;
 }
 /** What a module imports and exports. It throws for nothing that a text says. A string in place of options is ignored. */
 export function imports(

@@ -1,11 +1,11 @@
 // A lexer of ECMAScript and TypeScript: tokens, comments, errors, imports and the canonical text of a text.
 import { EcmaError, NOT_CLEAN, NO_ROOM, load, loadSync, memory, room, stringAt, withRows, withText, wordsAt } from './host.mjs';
 import { Kind } from './kinds.mjs';
-import { findImports } from './imports.mjs';
+import { imports } from './imports.mjs';
 import { KIND, LINE_BREAK_BEFORE, RESPELLED, TOKEN_WIDTH } from './rows.mjs';
 import { cook, valueOf } from './values.mjs';
 
-export { EcmaError, Kind, cook, load, loadSync, memory };
+export { EcmaError, Kind, cook, imports, load, loadSync, memory };
 
 /** Room for the rows of all but the densest texts; what is not written takes no memory of the machine. */
 const tokenRoom = (length) => (length >>> 3) * 3 + 64;
@@ -207,32 +207,4 @@ export function canonical(text, options) {
         }
         return status === NOT_CLEAN ? null : stringAt(at, request.number);
     });
-}
-
-const IMPORT_PLACES = ['s', 'e', 'ss', 'se', 'd', 'a', 'ls', 'le'];
-
-/** Makes the places of imports and exports places in units, where the text asks for it; a negative field is no place. */
-function importUnits(request, found) {
-    if (!request.isWide) return;
-    const slots = found.flatMap((it) => IMPORT_PLACES.filter((name) => it[name] >= 0).map((name) => ({ it, name, place: it[name] })));
-    // In ascending order the conversion is one pass over the text.
-    slots.sort((one, other) => one.place - other.place);
-    const at = room(4 * slots.length), places = wordsAt(at, slots.length);
-    slots.forEach(({ place }, i) => (places[i] = place));
-    request.toUnits(at, slots.length, 1, 1);
-    slots.forEach(({ it, name }, i) => (it[name] = places[i]));
-}
-
-/** What a module imports and exports, as es-module-lexer answers it: `[imports, exports, facade, hasModuleSyntax]`. */
-export function imports(text, options) {
-    // es-module-lexer has the name of a file there.
-    const more = typeof options === 'string' ? undefined : options;
-    // Rows stay in bytes: only what is found is converted.
-    const scan = (rows, request) => {
-        const inBytes = (start, end) => stringAt(request.at + start, end - start);
-        const found = findImports(rows, request.isWide ? inBytes : (start, end) => textBetween(text, start, end));
-        importUnits(request, [...found[0], ...found[1]]);
-        return found;
-    };
-    return withRows('ecma_js_tokens', TOKEN_WIDTH, tokenRoom, () => {}, text, { module: true, ...more }, scan);
 }

@@ -22,6 +22,12 @@ test('static imports', () => {
     for (const [text, wanted] of rows) assert.deepEqual(seen(text), [wanted], text);
 });
 
+test('dense texts have more rows than there is room for at first', () => {
+    const text = 'import"a";export{b};'.repeat(1000);
+    const [found, names] = imports(text);
+    assert.deepEqual([found.length, found[999].ss, names.length, names[999].s], [1000, 19_980, 1000, 19_997]);
+});
+
 test('places of wide strings are units', () => {
     const text = '/* 𝒳 */ import é, { b } from "é\\u{e9}"; export { é as "𝒳" }; export let c = "é"; import("é", 𝒳); import("𝒳")';
     assert.deepEqual(seen(text), [
@@ -58,7 +64,7 @@ test('exports', () => {
         ['export class A {}', [['A', 'A', 'A', 'A']]],
         ['export let a = f(1, 2), b, c = [3, 4]', [['a', 'a', 'a', 'a'], ['b', 'b', 'b', 'b'], ['c', 'c', 'c', 'c']]],
         ['export let a = 1\nb, c', [['a', 'a', 'a', 'a']]],
-        ['export const { a } = b', []],
+        ['export const { a, b: [c], ...d } = e', [['a', 'a', 'a', 'a'], ['c', 'c', 'c', 'c'], ['d', 'd', 'd', 'd']]],
     ];
     for (const [text, wanted] of rows) {
         if (text.includes('async')) wanted[0].splice(0, 4, 'default', 'a', 'default', 'a');
@@ -67,9 +73,29 @@ test('exports', () => {
     const typescript = [
         ['export const a: Map<string, number> = b', ['a']],
         ['export const enum A {}', ['A']], ['export enum A {}', ['A']], ['export abstract class A {}', ['A']],
-        ['export type A = B', []], ['export interface A {}', []],
+        ['export type A = B', ['A']], ['export interface A {}', ['A']],
     ];
     for (const [text, wanted] of typescript) assert.deepEqual(exported(text, { typescript: true }).map(([n]) => n), wanted, text);
+});
+
+test('phases, and types alone', () => {
+    const rows = [
+        ['import defer * as a from "b"', [['b', 'defer', false]]], ['import source a from "b"', [['b', 'source', false]]],
+        ['import.defer("a")', [['a', 'defer', false]]], ['import.source("a")', [['a', 'source', false]]],
+        ['import a, { type B } from "c"', [['c', undefined, false]]], ['import type { A } from "b"', [['b', undefined, true]]],
+        ['export type { A } from "b"', [['b', undefined, true]]], ['import a = require("b")', [['b', undefined, false]]],
+        ['declare module "a" {}', []],
+    ];
+    for (const [text, wanted] of rows) assert.deepEqual(imports(text, { typescript: true })[0].map(({ n, phase, type }) => [n, phase, type]), wanted, text);
+    const names = [['export { type A, b }', [['A', true], ['b', false]]], ['export interface A {}', [['A', true]]], ['export class A {}', [['A', false]]]];
+    for (const [text, wanted] of names) assert.deepEqual(imports(text, { typescript: true })[1].map(({ n, type }) => [n, type]), wanted, text);
+});
+
+test('bytes have places in bytes', () => {
+    const text = Buffer.from('/* é */ import "é"; export { é as "\\u{e9}" }');
+    const [[{ n, s, e }], [name]] = imports(text);
+    assert.deepEqual([n, s, e], ['é', 17, 19]);
+    assert.deepEqual([name.n, name.s, name.e, name.ln, name.ls, name.le], ['é', 37, 45, 'é', 31, 33]);
 });
 
 test('facade and module syntax', () => {
@@ -103,5 +129,5 @@ test('long texts take time as they are long', () => {
         imports(text);
         return (performance.now() - begin) / 1000;
     };
-    for (const part of ['import(', 'import {', 'import a ', 'export let a ', 'export {', 'export let a = (', 'import {} ', 'import(é']) assert.ok(seconds(part.repeat(100_000)) < 5, part);
+    for (const part of ['import(', 'import {', 'import a ', 'export let a ', 'export {', 'export let a = (', 'import {} ', 'import(é', 'import(import(é),', 'import "é"; ', 'export {é};']) assert.ok(seconds(part.repeat(100_000)) < 5, part);
 });

@@ -1,5 +1,9 @@
-//! A safe face of the static library for Rust: an iterator over the tokens of a text.
+//! A safe face of the static library for Rust: an iterator over the tokens of a text, and what a text imports and exports.
 use std::fmt;
+
+mod module;
+
+pub use module::{Export, Form, Import, Module, Phase};
 
 /// How a text is read.
 #[derive(Clone, Copy, Debug, Default)]
@@ -104,33 +108,39 @@ pub struct Tokens<'a> {
     rows: std::vec::IntoIter<Row>,
 }
 
-fn checked(answer: Answer) -> Result<usize, Error> {
-    match answer.status {
-        0 => Ok(answer.count),
+fn checked(status: u32) -> Result<(), Error> {
+    match status {
+        0 => Ok(()),
         2 => Err(Error::NoSlash),
         5 => Err(Error::OutOfMemory),
         7 => Err(Error::Refused),
         8 => Err(Error::TooLong),
-        other => unreachable!("a text is UTF-8, and there is room for all tokens: status {other}"),
+        other => unreachable!("a text is UTF-8, and there is room for all rows: status {other}"),
+    }
+}
+
+/// The sum of options, and the places of slashes.
+fn asked(options: Options, slashes: Slashes<'_>) -> (u32, &[u32]) {
+    match slashes {
+        Slashes::ByRole => (options.bits() + 16, &[]),
+        Slashes::ByFlag => (options.bits() + 8, &[]),
+        Slashes::At(places) => (options.bits(), places),
     }
 }
 
 impl<'a> Tokens<'a> {
     /// Reads a text.
     pub fn new(text: &'a str, options: Options, slashes: Slashes) -> Result<Self, Error> {
-        let (bits, places): (u32, &[u32]) = match slashes {
-            Slashes::ByRole => (options.bits() + 16, &[]),
-            Slashes::ByFlag => (options.bits() + 8, &[]),
-            Slashes::At(places) => (options.bits(), places),
-        };
+        let (bits, places) = asked(options, slashes);
         // SAFETY: the calls ask nothing of their caller but that the pointers and lengths are those of slices.
-        let count = checked(unsafe { ecma_count(text.as_ptr(), text.len(), bits, places.as_ptr(), places.len()) })?;
-        let mut rows = vec![Row::default(); count];
+        let counted = unsafe { ecma_count(text.as_ptr(), text.len(), bits, places.as_ptr(), places.len()) };
+        checked(counted.status)?;
+        let mut rows = vec![Row::default(); counted.count];
         // SAFETY: as above; the rows are this function's own.
         let answer = unsafe {
             ecma_tokens(text.as_ptr(), text.len(), bits, places.as_ptr(), places.len(), rows.as_mut_ptr(), rows.len())
         };
-        checked(answer)?;
+        checked(answer.status)?;
         Ok(Tokens { text, rows: rows.into_iter() })
     }
 }
