@@ -1,30 +1,19 @@
 -- What is written of the comments of a text: a line each. The form of the lines is our own choice.
 use Rattle.std.specs.Prelude.{ℕ, true, List, [], ◌∷◌, ◌++◌, Option, codes, decimal, flat_map, option_map}
-use Rattle.ecma_place.specs.declared.comment.CommentKind.{CommentKind}
-use Rattle.ecma_place.specs.declared.comment.CommentKind.TheVariants.{Line, Block}
+use Rattle.ecma_names.specs.Names.{comment_name, side_name}
 use Rattle.ecma_stream.specs.Ending.{comments_of}
 use Rattle.ecma_state.specs.Session.{Session}
 use Rattle.ecma_comments.specs.declared.comments_buffer.BufferedComment.{BufferedComment}
-use Rattle.ecma_comments.specs.declared.comments_buffer.BufferedCommentKind.{BufferedCommentKind}
-use Rattle.ecma_comments.specs.declared.comments_buffer.BufferedCommentKind.TheVariants.{Leading, Trailing}
 use Rattle.ecma_stdio.specs.Escaped.{escaped}
 use Rattle.ecma_lines.specs.Rereads.{session_behind}
 use Rattle.ecma_options.specs.declared.options.Options.{Options}
-
-abbrev pub side_name : BufferedCommentKind → List ℕ
-side_name Leading = codes "leading"
-side_name Trailing = codes "trailing"
-
-abbrev pub form_name : CommentKind → List ℕ
-form_name Line = codes "line"
-form_name Block = codes "block"
 
 -- its side, the place of its token, where it lies and its form, each with a space behind it
 abbrev pub comment_head : BufferedComment → List ℕ
 comment_head c =
     side_name c.kind
     ++ (codes " "
-    ++ (decimal c.pos.0 ++ (codes " " ++ (decimal c.comment.span.lo.0 ++ (codes " " ++ (decimal c.comment.span.hi.0 ++ (codes " " ++ (form_name c.comment.kind ++ codes " "))))))))
+    ++ (decimal c.pos.0 ++ (codes " " ++ (decimal c.comment.span.lo.0 ++ (codes " " ++ (decimal c.comment.span.hi.0 ++ (codes " " ++ (comment_name c.comment.kind ++ codes " "))))))))
 
 -- the line of a comment; what it says stands behind its head
 abbrev pub comment_line : BufferedComment → List ℕ

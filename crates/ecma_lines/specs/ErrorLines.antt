@@ -7,6 +7,8 @@ use Rattle.ecma_stream.specs.Ending.{errors_of, tokens_of}
 use Rattle.ecma_state.specs.Session.{Session}
 use Rattle.ecma_stdio.specs.Escaped.{escaped}
 use Rattle.ecma_token.specs.MessageView.{view_message}
+use Rattle.ecma_faults.specs.Faults.{origin_name}
+use Rattle.ecma_faults.specs.declared.found.Origin.TheVariants.{Token, Recorded, Waiting}
 use Rattle.ecma_lines.specs.Rereads.{session_behind}
 use Rattle.ecma_options.specs.declared.options.Options.{Options}
 
@@ -22,7 +24,7 @@ abbrev pub error_lines : List ℕ → List ErrorView → List ℕ
 error_lines what errors = flat_map (error_line what) errors
 
 abbrev pub token_lines : SpannedView → List ℕ
-token_lines t = error_lines (codes "token") (refusal_of t.token)
+token_lines t = error_lines (origin_name Token) (refusal_of t.token)
 
 -- of a read that found a token or the end
 abbrev pub found_lines : Option SpannedView → List ℕ
@@ -31,7 +33,7 @@ found_lines (Some t) = token_lines t
 
 -- the errors of tokens, in order, and then those that were recorded, and those that wait
 abbrev pub list_lines : lists.Errors → List ℕ
-list_lines errors = error_lines (codes "recorded") errors.recorded ++ error_lines (codes "waiting") errors.waiting
+list_lines errors = error_lines (origin_name Recorded) errors.recorded ++ error_lines (origin_name Waiting) errors.waiting
 
 abbrev pub errors_from : Session → List ℕ
 errors_from s = flat_map token_lines (tokens_of s) ++ list_lines (errors_of s)

@@ -7,9 +7,9 @@ ghost use Rattle.ecma_lines.specs.CommentLines as rows;
 ghost use Rattle.ecma_lines.specs.Rereads.{Lacks};
 
 use crate::rereads::open;
+use ecma_names::{comment_name, side_name};
 use ecma_options::{Options, pass_next};
-use ecma_place::CommentKind;
-use ecma_state::{BufferedComment, BufferedCommentKind};
+use ecma_state::BufferedComment;
 use ecma_stdio::{Fault, push_escaped, push_number, push_pair};
 use ecma_stream::{CommentList, Lexer, hand_comments};
 use std::alloc::{AllocError, Global};
@@ -26,24 +26,6 @@ pub fn take_comments<'a>(
     Ok(comments.into_vec())
 }
 
-fn side_name(kind: BufferedCommentKind) -> &'static str
-    ensures { result.now ≡ rows.side_name kind }
-{
-    match kind {
-        BufferedCommentKind::Leading => "leading",
-        BufferedCommentKind::Trailing => "trailing",
-    }
-}
-
-fn form_name(kind: CommentKind) -> &'static str
-    ensures { result.now ≡ rows.form_name kind }
-{
-    match kind {
-        CommentKind::Line => "line",
-        CommentKind::Block => "block",
-    }
-}
-
 /// Adds its side, the place of its token, where it lies and its form, each with a space behind it.
 fn push_head(out: &mut Vec<u8>, buffered: &BufferedComment) -> Result<(), AllocError>
     ensures { OnOk result (out.new.items ≡ out.old.items ++ rows.comment_head buffered.now) }
@@ -54,7 +36,7 @@ fn push_head(out: &mut Vec<u8>, buffered: &BufferedComment) -> Result<(), AllocE
     push_number(out, buffered.pos.0 as usize)?;
     out.push(b' ')?;
     push_pair(out, span.lo.0, span.hi.0)?;
-    out.extend_from_slice(form_name(buffered.comment.kind).as_bytes())?;
+    out.extend_from_slice(comment_name(buffered.comment.kind).as_bytes())?;
     out.push(b' ')?;
     Ok(())
 }

@@ -1,12 +1,15 @@
 //! What is written of the errors of a text: a line each.
-ghost use Rattle.std.specs.Prelude.{◌≡◌, ◌++◌, ◌^◌, ◌<◌, Some, codes, flat_map, length, map, is_some, IfOk, MatchResult, OnOk};
+ghost use Rattle.std.specs.Prelude.{◌≡◌, ◌++◌, ◌^◌, ◌<◌, Some, flat_map, length, map, is_some, IfOk, MatchResult, OnOk};
 ghost use Rattle.ecma_token.specs.View.{error_view, refusal_of, spanned_view, token_view};
 ghost use Rattle.ecma_state.specs.Run.{reading_of, state_behind};
 ghost use Rattle.ecma_state.specs.Session.{lexer_state};
+ghost use Rattle.ecma_faults.specs.Faults.{origin_name};
+ghost use Rattle.ecma_faults.specs.declared.found.Origin.TheVariants as origin;
 ghost use Rattle.ecma_lines.specs.ErrorLines as rows;
 ghost use Rattle.ecma_lines.specs.Rereads.{Lacks};
 
 use crate::rereads::{ReadAgain, open};
+use ecma_faults::Origin;
 use ecma_options::Options;
 use ecma_place::{Span, Spanned};
 use ecma_stdio::{Fault, push_escaped, push_pair};
@@ -51,10 +54,10 @@ fn push_errors(
 
 /// Adds the line of the error of a token that is one.
 fn push_refusal(alloc: Global, out: &mut Vec<u8>, token: &Token) -> Result<(), AllocError>
-    ensures { OnOk result (out.new.items ≡ out.old.items ++ rows.error_lines (codes "token") (refusal_of (token_view token.now))) }
+    ensures { OnOk result (out.new.items ≡ out.old.items ++ rows.error_lines (origin_name origin.Token) (refusal_of (token_view token.now))) }
 {
     match token {
-        Token::Error(error) => push_error(alloc, out, "token", error),
+        Token::Error(error) => push_error(alloc, out, Origin::Token.name(), error),
         _ => Ok(()),
     }
 }
@@ -79,8 +82,8 @@ fn push_lists(alloc: Global, out: &mut Vec<u8>, lexer: &mut Lexer) -> Result<(),
     ensures { OnOk result (out.new.items ≡ out.old.items ++ rows.list_lines (lexer_state lexer.old).errors) }
 {
     let recorded = lexer.take_errors();
-    push_errors(alloc, out, "recorded", recorded.as_slice())?;
-    push_errors(alloc, out, "waiting", lexer.module_errors())
+    push_errors(alloc, out, Origin::Recorded.name(), recorded.as_slice())?;
+    push_errors(alloc, out, Origin::Waiting.name(), lexer.module_errors())
 }
 
 /// Adds the lines of the errors of these tokens that are one, in order.

@@ -7,68 +7,13 @@ ghost use Rattle.ecma_lines.specs.Lines as rows;
 ghost use Rattle.ecma_lines.specs.Rereads.{AllWithin, Lacks};
 
 use crate::rereads::{ReadAgain, open};
+use ecma_names::kind_name;
 use ecma_options::Options;
 use ecma_state::Kept;
 use ecma_stdio::{Fault, push_escaped, push_pair};
 use ecma_stream::Lexer;
-use ecma_syntax::WordKind;
 use ecma_token::{TokenAndSpan, TokenKind};
 use std::alloc::{AllocError, Global};
-
-fn word_name(kind: WordKind) -> &'static str
-    ensures { result.now ≡ rows.word_name kind }
-{
-    match kind {
-        WordKind::Keyword(_) => "Keyword",
-        WordKind::Null => "Null",
-        WordKind::True => "True",
-        WordKind::False => "False",
-        WordKind::Ident(_) => "Ident",
-    }
-}
-
-/// The name of the variant; of a word, that of its kind.
-fn kind_name(kind: TokenKind) -> &'static str
-    ensures { result.now ≡ rows.kind_name kind }
-{
-    match kind {
-        TokenKind::Word(word) => word_name(word),
-        TokenKind::Arrow => "Arrow",
-        TokenKind::Hash => "Hash",
-        TokenKind::At => "At",
-        TokenKind::Dot => "Dot",
-        TokenKind::DotDotDot => "DotDotDot",
-        TokenKind::Bang => "Bang",
-        TokenKind::LParen => "LParen",
-        TokenKind::RParen => "RParen",
-        TokenKind::LBracket => "LBracket",
-        TokenKind::RBracket => "RBracket",
-        TokenKind::LBrace => "LBrace",
-        TokenKind::RBrace => "RBrace",
-        TokenKind::Semi => "Semi",
-        TokenKind::Comma => "Comma",
-        TokenKind::BackQuote => "BackQuote",
-        TokenKind::Template => "Template",
-        TokenKind::Colon => "Colon",
-        TokenKind::BinOp(_) => "BinOp",
-        TokenKind::AssignOp(_) => "AssignOp",
-        TokenKind::DollarLBrace => "DollarLBrace",
-        TokenKind::QuestionMark => "QuestionMark",
-        TokenKind::PlusPlus => "PlusPlus",
-        TokenKind::MinusMinus => "MinusMinus",
-        TokenKind::Tilde => "Tilde",
-        TokenKind::Str => "Str",
-        TokenKind::Regex => "Regex",
-        TokenKind::Num => "Num",
-        TokenKind::BigInt => "BigInt",
-        TokenKind::JSXName => "JSXName",
-        TokenKind::JSXText => "JSXText",
-        TokenKind::JSXTagStart => "JSXTagStart",
-        TokenKind::JSXTagEnd => "JSXTagEnd",
-        TokenKind::Shebang => "Shebang",
-        TokenKind::Error => "Error",
-    }
-}
 
 /// Adds whether a line terminator stands before, with a space behind it.
 fn push_flag(out: &mut Vec<u8>, flag: bool) -> Result<(), AllocError>

@@ -3,20 +3,14 @@ use Rattle.std.specs.Prelude.{ℕ, true, List, ◌++◌, Option, codes, decimal,
 use Rattle.ecma_classes.specs.Classes.{classes_of}
 use Rattle.ecma_stream.specs.Ending.{read_out}
 use Rattle.ecma_state.specs.Session.{Session, kept_tokens}
-use Rattle.ecma_classes.specs.declared.piece.Class.{Class}
-use Rattle.ecma_classes.specs.declared.piece.Class.TheVariants.{Token, Comment, Trivia}
 use Rattle.ecma_classes.specs.declared.piece.Piece.{Piece}
 use Rattle.ecma_lines.specs.Rereads.{session_behind}
+use Rattle.ecma_names.specs.Names.{piece_name}
 use Rattle.ecma_options.specs.declared.options.Options.{Options}
-
-abbrev pub class_name : Class → List ℕ
-class_name Token = codes "token"
-class_name Comment = codes "comment"
-class_name Trivia = codes "trivia"
 
 -- where the piece begins and ends, and its class
 abbrev pub piece_line : Piece → List ℕ
-piece_line p = decimal p.span.lo.0 ++ (codes " " ++ (decimal p.span.hi.0 ++ (codes " " ++ (class_name p.class ++ codes "\n"))))
+piece_line p = decimal p.span.lo.0 ++ (codes " " ++ (decimal p.span.hi.0 ++ (codes " " ++ (piece_name p.class ++ codes "\n"))))
 
 abbrev pub piece_lines : List Piece → List ℕ
 piece_lines pieces = flat_map piece_line pieces

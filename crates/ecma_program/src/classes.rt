@@ -4,30 +4,21 @@ ghost use Rattle.ecma_program.specs.ClassLines as rows;
 ghost use Rattle.ecma_lines.specs.Rereads.{Lacks};
 
 use crate::kept_tokens::keep_tokens;
-use ecma_classes::{Class, Piece, classes};
+use ecma_classes::{Piece, classes};
 use ecma_lines::comments::take_comments;
 use ecma_lines::rereads::open;
+use ecma_names::piece_name;
 use ecma_options::Options;
 use ecma_place::BytePos;
 use ecma_stdio::{Fault, push_pair};
 use std::alloc::{AllocError, Global};
-
-fn class_name(class: Class) -> &'static str
-    ensures { result.now ≡ rows.class_name class }
-{
-    match class {
-        Class::Token => "token",
-        Class::Comment => "comment",
-        Class::Trivia => "trivia",
-    }
-}
 
 /// Adds the line of a piece: where it begins and ends, and its class.
 fn push_piece(out: &mut Vec<u8>, piece: Piece) -> Result<(), AllocError>
     ensures { OnOk result (out.new.items ≡ out.old.items ++ rows.piece_line piece) }
 {
     push_pair(out, piece.span.lo.0, piece.span.hi.0)?;
-    out.extend_from_slice(class_name(piece.class).as_bytes())?;
+    out.extend_from_slice(piece_name(piece.class).as_bytes())?;
     out.push(b'\n')?;
     Ok(())
 }
