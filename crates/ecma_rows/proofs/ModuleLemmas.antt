@@ -9,10 +9,9 @@ use Rattle.ecma_module_table.specs.declared.rows.Import.{Import}
 use Rattle.ecma_module_table.specs.declared.rows.ModuleOptions.{ModuleOptions}
 use Rattle.ecma_modules.specs.Modules.{GatheringView, exports_at_end, exports_of, gathered, gathered_with, imports_at_end, imports_of, is_facade}
 use Rattle.ecma_modules.specs.Scans.{ended_scan}
-use Rattle.ecma_modules.specs.declared.module.Module.{Module}
 use Rattle.ecma_modules.proofs.GoOnLemmas.{gathered-on}
 use Rattle.ecma_reader.specs.Readers.{tokens_found}
-use Rattle.ecma_rows.specs.ModuleRows.{gathered_over, module_view, view_of, view_of_module}
+use Rattle.ecma_rows.specs.ModuleRows.{gathered_over, module_view, view_of}
 
 -- what is gathered of the tokens so far
 abbrev pub Gathers : ModuleOptions → GatheringView → List SpannedView → Type 0
@@ -28,13 +27,14 @@ gathered-token options old new found ts t so is added =
     ∙ ap (gathered options) (sym (map-append kept_of ts (t ∷ [])))
 
 -- what was gathered of all tokens is the module that they are
-pub module-gathered : (met there : Bool) (options : ModuleOptions) (kept : List Kept) (text : List ℕ) (g : GatheringView) (m : Module) → met ≡ there → g ≡ gathered options kept
-    → m.imports.items ≡ imports_at_end g.scan g.imports → m.exports.items ≡ exports_at_end g.scan g.exports
-    → m.is_facade ≡ (ended_scan g.scan).known.is_facade → m.has_module_syntax ≡ (ended_scan g.scan).known.has_module_syntax
-    → view_of_module met m text ≡ module_view there options kept text
-module-gathered met there options kept text g m same is imports exports facade syntax =
-    ap (λ b. view_of b m.imports.items m.exports.items m.is_facade m.has_module_syntax text) same
-    ∙ ap (λ (is : List Import). view_of there is m.exports.items m.is_facade m.has_module_syntax text) (imports ∙ ap (λ (x : GatheringView). imports_at_end x.scan x.imports) is)
-    ∙ ap (λ (es : List Export). view_of there (imports_of options kept) es m.is_facade m.has_module_syntax text) (exports ∙ ap (λ (x : GatheringView). exports_at_end x.scan x.exports) is)
-    ∙ ap (λ b. view_of there (imports_of options kept) (exports_of options kept) b m.has_module_syntax text) (facade ∙ ap (λ (x : GatheringView). (ended_scan x.scan).known.is_facade) is)
-    ∙ ap (λ b. view_of there (imports_of options kept) (exports_of options kept) (is_facade options kept) b text) (syntax ∙ ap (λ (x : GatheringView). (ended_scan x.scan).known.has_module_syntax) is)
+pub module-gathered : (met there : Bool) (options : ModuleOptions) (kept : List Kept) (bytes text : List ℕ) (g : GatheringView) (is : List Import) (es : List Export) (f s : Bool)
+    → met ≡ there → bytes ≡ text → g ≡ gathered options kept → is ≡ imports_at_end g.scan g.imports → es ≡ exports_at_end g.scan g.exports
+    → f ≡ (ended_scan g.scan).known.is_facade → s ≡ (ended_scan g.scan).known.has_module_syntax
+    → view_of met is es f s bytes ≡ module_view there options kept text
+module-gathered met there options kept bytes text g is es f s same read so imports exports facade syntax =
+    ap (λ b. view_of b is es f s bytes) same
+    ∙ ap (λ (t : List ℕ). view_of there is es f s t) read
+    ∙ ap (λ (xs : List Import). view_of there xs es f s text) (imports ∙ ap (λ (x : GatheringView). imports_at_end x.scan x.imports) so)
+    ∙ ap (λ (xs : List Export). view_of there (imports_of options kept) xs f s text) (exports ∙ ap (λ (x : GatheringView). exports_at_end x.scan x.exports) so)
+    ∙ ap (λ b. view_of there (imports_of options kept) (exports_of options kept) b s text) (facade ∙ ap (λ (x : GatheringView). (ended_scan x.scan).known.is_facade) so)
+    ∙ ap (λ b. view_of there (imports_of options kept) (exports_of options kept) (is_facade options kept) b text) (syntax ∙ ap (λ (x : GatheringView). (ended_scan x.scan).known.has_module_syntax) so)
