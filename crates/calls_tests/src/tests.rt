@@ -4,3 +4,4 @@ mod depths;
 mod items;
 mod rereads;
 mod slots;
+mod texts;

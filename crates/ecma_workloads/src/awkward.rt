@@ -1,4 +1,6 @@
 //! A parser keeps each token of texts in which much is rare elsewhere.
+//!
+//! `Lexer::read_into` on templates, operators, numbers, escapes, names beyond ASCII.
 use crate::job::Job;
 use crate::reading::keep_text;
 use crate::settings::{fits, options};

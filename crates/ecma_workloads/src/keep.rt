@@ -1,4 +1,6 @@
 //! A parser or minifier keeps each token of bundles, minified files and declarations.
+//!
+//! `Lexer::read_into` and `read_by_flag`, with and without comments, on 120 MB of all kinds.
 use crate::job::Job;
 use crate::reading::{keep_text, keep_text_by_flag};
 use crate::settings::{fits, options};

@@ -1,4 +1,7 @@
 //! A TypeScript parser looks ahead again and again, and goes back: by checkpoints, and by lists of steps.
+//!
+//! `Lexer::checkpoint` and `rewind` every 20 tokens (at the start of the work `copy` and `go_back`); `Save` and `Back`
+//! every 40. On TypeScript with comments and errors.
 ghost use Rattle.std.specs.Prelude.{◌<◌, ◌^◌, length};
 
 use crate::job::Job;

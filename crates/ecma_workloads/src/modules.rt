@@ -1,4 +1,6 @@
 //! Many small files: imports, HTML, canonical texts and rows of tokens.
+//!
+//! `imports_text`, `html_text`, `write_tokens`, `count_tokens`, `write_canonical` on 7,500 modules.
 use crate::job::Job;
 use crate::settings::{fits, options};
 use ecma_html::html_text;

@@ -1,4 +1,6 @@
 //! Lists of steps are made and played: for the tokens, the canonical text, the pieces, HTML and imports.
+//!
+//! `steps_by_flag`, `replay`, `canonical`, `classes_of_steps`, HTML and imports, on bundles of 1 MB.
 ghost use Rattle.std.specs.Prelude.{◌<◌, ◌^◌, length};
 
 use crate::job::Job;

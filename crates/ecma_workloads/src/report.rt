@@ -1,4 +1,6 @@
 //! The programs on large files: lines of tokens, pieces, comments and errors, and JSON.
+//!
+//! Rows of `ecma_lex` and of `ecma tokens`, as lines and JSON, on bundles.
 use crate::job::Job;
 use crate::settings::{fits, options};
 use ecma_options::Options;

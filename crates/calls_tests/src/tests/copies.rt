@@ -1,4 +1,5 @@
 //! Copies of a lexer, and going back to one.
+use super::texts::assert_text;
 use ecma_stream::Lexer;
 use listing::listing::{
     COLLECTING, PLAIN, Row, opened, write_next, write_note, write_recorded, write_rest,
@@ -29,16 +30,21 @@ fn write_both(alloc: Global, out: &mut String, lexer: &mut Lexer) -> Result<(), 
     write_rest(alloc, out, lexer)
 }
 
+fn write_both_of(alloc: Global, out: &mut String, text: &str) -> Result<(), AllocError> {
+    write_both(alloc, out, &mut opened(alloc, PLAIN, text)?)
+}
+
 #[test]
 fn a_copy_reads_what_the_original_does(rt: HostRuntime) -> Result<(), Fail> {
     let alloc = rt.alloc();
     let mut out = String::new(alloc);
-    write_both(alloc, &mut out, &mut opened(alloc, PLAIN, "`a${b}c`")?)?;
-    assert_eq!(rt;
+    write_both_of(alloc, &mut out, "`a${b}c`")?;
+    assert_text(
+        &rt,
         out.as_str(),
         "0..1 lf BackQuote; 1..2 - Template [a] [a]; 2..4 - DollarLBrace; \
          copy; 4..5 - name [b]; 5..6 - RBrace; 6..7 - Template [c] [c]; 7..8 - BackQuote; \
-         original; 4..5 - name [b]; 5..6 - RBrace; 6..7 - Template [c] [c]; 7..8 - BackQuote"
+         original; 4..5 - name [b]; 5..6 - RBrace; 6..7 - Template [c] [c]; 7..8 - BackQuote",
     );
     Ok(())
 }
@@ -84,11 +90,14 @@ fn write_rests(alloc: Global, out: &mut String, lexer: &mut Lexer) -> Result<(),
     write_rest(alloc, out, lexer)
 }
 
-fn assert_row(rt: &impl Abort, alloc: Global, row: &Row) -> Result<(), Fail> {
-    let (settings, text, expected) = row;
+fn write_row(alloc: Global, out: &mut String, row: &Row) -> Result<(), AllocError> {
+    write_rests(alloc, out, &mut opened(alloc, row.0, row.1)?)
+}
+
+fn assert_row(rt: &impl Abort, alloc: Global, row: &Row) -> Result<(), AllocError> {
     let mut out = String::new(alloc);
-    write_rests(alloc, &mut out, &mut opened(alloc, *settings, text)?)?;
-    assert_eq!(rt; out.as_str(), *expected);
+    write_row(alloc, &mut out, row)?;
+    assert_text(rt, out.as_str(), row.2);
     Ok(())
 }
 
@@ -126,17 +135,22 @@ fn write_back(out: &mut String, lexer: &mut Lexer) -> Result<(), AllocError> {
     write_ahead(out, lexer)
 }
 
+fn write_back_of(alloc: Global, out: &mut String, text: &str) -> Result<(), AllocError> {
+    write_back(out, &mut opened(alloc, PLAIN, text)?)
+}
+
 #[test]
 fn going_back_takes_errors_back(rt: HostRuntime) -> Result<(), Fail> {
     let alloc = rt.alloc();
     let mut out = String::new(alloc);
-    write_back(&mut out, &mut opened(alloc, PLAIN, "1__2")?)?;
-    assert_eq!(rt;
+    write_back_of(alloc, &mut out, "1__2")?;
+    assert_text(
+        &rt,
         out.as_str(),
         "0..4 lf Num [1__2] Decimal owned [12] Some(12); \
          recorded 0..1 A numeric separator is only allowed between two digits; \
          back; again; 0..4 lf Num [1__2] Decimal owned [12] Some(12); \
-         recorded 0..1 A numeric separator is only allowed between two digits"
+         recorded 0..1 A numeric separator is only allowed between two digits",
     );
     Ok(())
 }

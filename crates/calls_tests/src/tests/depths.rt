@@ -1,4 +1,5 @@
 //! How deep the contexts of a lexer are behind its tokens, and what it says of its settings.
+use super::texts::assert_text;
 use ecma_place::BytePos;
 use ecma_state::{Kept, TokenContext};
 use ecma_stream::{Lexer, Tokens};
@@ -34,15 +35,20 @@ fn write_depths(out: &mut String, lexer: &mut Lexer) -> Result<(), AllocError> {
     Ok(())
 }
 
+fn write_depths_of(alloc: Global, out: &mut String, text: &str) -> Result<(), AllocError> {
+    write_depths(out, &mut opened(alloc, PLAIN, text)?)
+}
+
 #[test]
 fn contexts_go_by_the_tokens(rt: HostRuntime) -> Result<(), Fail> {
     let alloc = rt.alloc();
     let mut out = String::new(alloc);
-    write_depths(&mut out, &mut opened(alloc, PLAIN, "x=function(){}")?)?;
-    assert_eq!(rt;
+    write_depths_of(alloc, &mut out, "x=function(){}")?;
+    assert_text(
+        &rt,
         out.as_str(),
         "0..1 lf name [x] (1); 1..2 - AssignOp(Assign) (1); 2..10 - keyword function (2); 10..11 - LParen (3); \
-         11..12 - RParen (2); 12..13 - LBrace (3); 13..14 - RBrace (1)"
+         11..12 - RParen (2); 12..13 - LBrace (3); 13..14 - RBrace (1)",
     );
     Ok(())
 }
@@ -55,15 +61,20 @@ fn write_outside(out: &mut String, lexer: &mut Lexer) -> Result<(), AllocError> 
     write!(out, " {:?}", innermost(lexer).1)
 }
 
+fn write_outside_of(alloc: Global, out: &mut String, text: &str) -> Result<(), AllocError> {
+    write_outside(out, &mut opened(alloc, PLAIN, text)?)
+}
+
 #[test]
 fn contexts_may_be_none(rt: HostRuntime) -> Result<(), Fail> {
     let alloc = rt.alloc();
     let mut out = String::new(alloc);
-    write_outside(&mut out, &mut opened(alloc, PLAIN, "} function")?)?;
+    write_outside_of(alloc, &mut out, "} function")?;
     // A function begins an expression there.
-    assert_eq!(rt;
+    assert_text(
+        &rt,
         out.as_str(),
-        "0..1 lf RBrace (0); 2..10 - keyword function (1) Some(FnExpr)"
+        "0..1 lf RBrace (0); 2..10 - keyword function (1) Some(FnExpr)",
     );
     Ok(())
 }
@@ -79,7 +90,7 @@ fn push_times(all: &mut String, text: &str, times: usize) -> Result<(), AllocErr
 fn assert_depths(rt: &impl Abort, lexer: &mut Lexer, depths: usize) -> Result<(), AllocError> {
     for depth in 2..depths {
         let _ = next(lexer)?;
-        assert_eq!(rt; innermost(lexer).0, depth);
+        assert!(rt; innermost(lexer).0 == depth);
     }
     Ok(())
 }
@@ -110,22 +121,28 @@ fn contexts_may_be_many(rt: HostRuntime) -> Result<(), Fail> {
     push_times(&mut text, "(", 129)?;
     push_times(&mut text, ")", 129)?;
     let depth = depth_behind(&rt, alloc, text.as_str())?;
-    assert_eq!(rt; depth, (1, Some(TokenContext::BraceStmt)));
+    assert!(rt; depth == (1, Some(TokenContext::BraceStmt)));
     Ok(())
 }
 
-/// How many of the tokens hold no characters. Each third one is the opening, none an error.
+/// Whether the next token holds no characters. Each third one is the opening, none an error.
+fn is_next_empty(rt: &impl Abort, lexer: &mut Lexer, number: u32) -> Result<bool, Fail> {
+    let token = next(lexer)?.ok_or("no token")?;
+    assert!(rt; (token.kind == TokenKind::DollarLBrace) == (number % 3 == 2));
+    assert!(rt; token.kind != TokenKind::Error);
+    Ok(token.span.lo == token.span.hi)
+}
+
+/// How many of the tokens hold no characters.
 fn count_empty(rt: &impl Abort, lexer: &mut Lexer) -> Result<usize, Fail> {
     let mut empty = 0usize;
     for number in 0..3000 {
-        let token = next(lexer)?.ok_or("no token")?;
-        assert!(rt; (token.kind == TokenKind::DollarLBrace) == (number % 3 == 2));
-        if token.span.lo == token.span.hi {
+        if is_next_empty(rt, lexer, number)? {
             empty = empty.saturating_add(1);
         }
-        assert!(rt; !matches!(token.kind, TokenKind::Error));
     }
-    assert_eq!(rt; next(lexer)?, None);
+    let last = next(lexer)?;
+    assert!(rt; last.is_none());
     Ok(empty)
 }
 
@@ -136,16 +153,28 @@ fn write_empty(rt: &impl Abort, out: &mut String, lexer: &mut Lexer) -> Result<(
     Ok(write_recorded(out, lexer)?)
 }
 
+fn write_empty_of(
+    rt: &impl Abort,
+    alloc: Global,
+    out: &mut String,
+    text: &str,
+) -> Result<(), Fail> {
+    write_empty(rt, out, &mut opened(alloc, PLAIN, text)?)
+}
+
+fn assert_empty(rt: &impl Abort, alloc: Global, text: &str, expected: &str) -> Result<(), Fail> {
+    let mut out = String::new(alloc);
+    write_empty_of(rt, alloc, &mut out, text)?;
+    assert_text(rt, out.as_str(), expected);
+    Ok(())
+}
+
 #[test]
 fn empty_texts_stand_alone(rt: HostRuntime) -> Result<(), Fail> {
     let alloc = rt.alloc();
     let mut text = String::new(alloc);
     push_times(&mut text, "`${", 1000)?;
-    let mut out = String::new(alloc);
-    let mut lexer = opened(alloc, PLAIN, text.as_str())?;
-    write_empty(&rt, &mut out, &mut lexer)?;
-    assert_eq!(rt; out.as_str(), "1000");
-    Ok(())
+    assert_empty(&rt, alloc, text.as_str(), "1000")
 }
 
 /// Where the text of a lexer starts, the version that it is for, and whether its settings are the usual ones.
@@ -158,6 +187,6 @@ fn settings_of(lexer: &Lexer) -> (BytePos, EsVersion, bool) {
 fn says_its_settings(rt: HostRuntime) -> Result<(), Fail> {
     let mut lexer = opened(rt.alloc(), FROM_SEVEN, "a b")?;
     skip(&mut lexer, 1)?;
-    assert_eq!(rt; settings_of(&lexer), (BytePos(7), EsVersion::Es2020, true));
+    assert!(rt; settings_of(&lexer) == (BytePos(7), EsVersion::Es2020, true));
     Ok(())
 }

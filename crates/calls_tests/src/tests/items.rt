@@ -1,4 +1,5 @@
 //! The lexer as an iterator.
+use super::texts::assert_text;
 use ecma_stream::Lexer;
 use listing::listing::{PLAIN, opened, write_next, write_note, write_token};
 use std::alloc::{AllocError, Global};
@@ -41,11 +42,14 @@ fn write_items(out: &mut String, lexer: &mut Lexer, items: usize) -> Result<(), 
     Ok(())
 }
 
-fn assert_items(rt: &impl Abort, alloc: Global, row: &Row) -> Result<(), Fail> {
-    let (text, items, expected) = row;
+fn write_items_of(alloc: Global, out: &mut String, row: &Row) -> Result<(), AllocError> {
+    write_items(out, &mut opened(alloc, PLAIN, row.0)?, row.1)
+}
+
+fn assert_items(rt: &impl Abort, alloc: Global, row: &Row) -> Result<(), AllocError> {
     let mut out = String::new(alloc);
-    write_items(&mut out, &mut opened(alloc, PLAIN, text)?, *items)?;
-    assert_eq!(rt; out.as_str(), *expected);
+    write_items_of(alloc, &mut out, row)?;
+    assert_text(rt, out.as_str(), row.2);
     Ok(())
 }
 
@@ -71,11 +75,14 @@ fn write_reads(out: &mut String, lexer: &mut Lexer, reads: usize) -> Result<(), 
     Ok(())
 }
 
-fn assert_reads(rt: &impl Abort, alloc: Global, row: &Row) -> Result<(), Fail> {
-    let (text, reads, expected) = row;
+fn write_reads_of(alloc: Global, out: &mut String, row: &Row) -> Result<(), AllocError> {
+    write_reads(out, &mut opened(alloc, PLAIN, row.0)?, row.1)
+}
+
+fn assert_reads(rt: &impl Abort, alloc: Global, row: &Row) -> Result<(), AllocError> {
     let mut out = String::new(alloc);
-    write_reads(&mut out, &mut opened(alloc, PLAIN, text)?, *reads)?;
-    assert_eq!(rt; out.as_str(), *expected);
+    write_reads_of(alloc, &mut out, row)?;
+    assert_text(rt, out.as_str(), row.2);
     Ok(())
 }
 

@@ -1,4 +1,5 @@
 //! Reading again from a slash, as a regular expression.
+use super::texts::assert_text;
 use ecma_stream::Lexer;
 use listing::listing::{PLAIN, opened, write_next, write_note, write_rest};
 use std::alloc::{AllocError, Global};
@@ -126,7 +127,7 @@ fn write_acts(out: &mut String, lexer: &mut Lexer, commands: &[Command]) -> Resu
     Ok(())
 }
 
-fn write_row(
+fn write_answers(
     alloc: Global,
     out: &mut String,
     lexer: &mut Lexer,
@@ -136,19 +137,21 @@ fn write_row(
     write_rest(alloc, out, lexer)
 }
 
-/// What is answered to the commands.
-fn answers(alloc: Global, text: &str, commands: &[Command]) -> Result<String, AllocError> {
+/// Writes what is answered to the commands.
+fn write_row(alloc: Global, out: &mut String, row: &Row) -> Result<(), AllocError> {
+    write_answers(alloc, out, &mut opened(alloc, PLAIN, row.0)?, row.1)
+}
+
+fn assert_row(rt: &impl Abort, alloc: Global, row: &Row) -> Result<(), AllocError> {
     let mut out = String::new(alloc);
-    let mut lexer = opened(alloc, PLAIN, text)?;
-    write_row(alloc, &mut out, &mut lexer, commands)?;
-    drop(lexer);
-    Ok(out)
+    write_row(alloc, &mut out, row)?;
+    assert_text(rt, out.as_str(), row.2);
+    Ok(())
 }
 
 fn assert_rows(rt: &impl Abort, alloc: Global, rows: &[Row]) -> Result<(), Fail> {
-    for (text, commands, expected) in rows {
-        let found = answers(alloc, text, commands)?;
-        assert_eq!(rt; found.as_str(), *expected, "{text:?}");
+    for row in rows {
+        assert_row(rt, alloc, row)?;
     }
     Ok(())
 }

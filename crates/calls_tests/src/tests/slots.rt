@@ -1,8 +1,10 @@
 //! Tokens that are read into a slot.
+use super::texts::assert_text;
 use ecma_stream::Lexer;
 use ecma_token::TokenAndSpan;
 use listing::listing::{PLAIN, opened, write_note, write_token};
 use std::alloc::{AllocError, Global};
+use std::process::Abort;
 use std::test::Fail;
 
 /// A text, how many reads there are, and what stands in the slot behind each.
@@ -53,17 +55,21 @@ fn write_slots(out: &mut String, lexer: &mut Lexer, reads: usize) -> Result<(), 
     Ok(())
 }
 
-fn told(alloc: Global, text: &str, reads: usize) -> Result<String, AllocError> {
+fn write_row(alloc: Global, out: &mut String, row: &Row) -> Result<(), AllocError> {
+    write_slots(out, &mut opened(alloc, PLAIN, row.0)?, row.1)
+}
+
+fn assert_row(rt: &impl Abort, alloc: Global, row: &Row) -> Result<(), AllocError> {
     let mut out = String::new(alloc);
-    write_slots(&mut out, &mut opened(alloc, PLAIN, text)?, reads)?;
-    Ok(out)
+    write_row(alloc, &mut out, row)?;
+    assert_text(rt, out.as_str(), row.2);
+    Ok(())
 }
 
 #[test]
 fn a_slot_holds_what_is_read(rt: HostRuntime) -> Result<(), Fail> {
-    for (text, reads, expected) in ROWS {
-        let found = told(rt.alloc(), text, *reads)?;
-        assert!(rt; found.as_str() == *expected, "{text:?} {found}");
+    for row in ROWS {
+        assert_row(&rt, rt.alloc(), row)?;
     }
     Ok(())
 }

@@ -5,7 +5,6 @@ use listing::shown::write_now;
 use listing::store::Store;
 use std::alloc::{AllocError, Global};
 use std::process::Abort;
-use std::test::Fail;
 
 /// What is done with a lexer.
 #[derive(Clone, Copy)]
@@ -23,7 +22,7 @@ pub enum Command {
     HandComments,
 }
 
-fn read_times(lexer: &mut Lexer, times: usize) -> Result<(), AllocError> {
+pub fn read_times(lexer: &mut Lexer, times: usize) -> Result<(), AllocError> {
     for _ in 0..times {
         let _ = lexer.read()?;
     }
@@ -71,14 +70,39 @@ pub fn write_on(out: &mut String, lexer: &mut Lexer) -> Result<(), AllocError> {
     write_tokens(out, lexer)
 }
 
+/// Writes what a lexer reads up to the end, and what it has then.
+fn write_end(alloc: Global, out: &mut String, lexer: &mut Lexer) -> Result<(), AllocError> {
+    write_on(out, lexer)?;
+    write_now(alloc, out, lexer)
+}
+
+fn write_ahead(alloc: Global, out: &mut String, lexer: &Lexer) -> Result<(), AllocError> {
+    write_now(alloc, out, lexer)?;
+    write_end(alloc, out, &mut lexer.copy()?)
+}
+
 /// All that a lexer shows and has, what it reads up to the end, and what it has then. It is as before.
 pub fn ahead(alloc: Global, lexer: &Lexer) -> Result<String, AllocError> {
     let mut out = String::new(alloc);
-    write_now(alloc, &mut out, lexer)?;
-    let mut copy = lexer.copy()?;
-    write_on(&mut out, &mut copy)?;
-    write_now(alloc, &mut out, &copy)?;
+    write_ahead(alloc, &mut out, lexer)?;
     Ok(out)
+}
+
+/// The texts are the same. Here alone, as it brings printing into a proof.
+pub fn assert_text(rt: &impl Abort, found: &str, expected: &str) {
+    assert_eq!(rt; found, expected);
+}
+
+/// The lexer shows, has and reads this.
+fn assert_ahead(
+    rt: &impl Abort,
+    alloc: Global,
+    lexer: &Lexer,
+    expected: &str,
+) -> Result<(), AllocError> {
+    let found = ahead(alloc, lexer)?;
+    assert_text(rt, found.as_str(), expected);
+    Ok(())
 }
 
 /// The lexers show and have the same, and read the same.
@@ -87,11 +111,33 @@ pub fn assert_same(
     alloc: Global,
     lexer: &Lexer,
     other: &Lexer,
-) -> Result<(), Fail> {
-    let found = ahead(alloc, lexer)?;
-    let wanted = ahead(alloc, other)?;
-    assert_eq!(rt; found.as_str(), wanted.as_str());
-    Ok(())
+) -> Result<(), AllocError> {
+    let expected = ahead(alloc, other)?;
+    assert_ahead(rt, alloc, lexer, expected.as_str())
+}
+
+/// Goes back to a checkpoint, where the lexer is as another.
+pub fn assert_goes_back(
+    rt: &impl Abort,
+    alloc: Global,
+    lexer: &mut Lexer,
+    to: &Checkpoint,
+    other: &Lexer,
+) -> Result<(), AllocError> {
+    let went = lexer.rewind(to)?;
+    assert!(rt; went);
+    assert_same(rt, alloc, lexer, other)
+}
+
+fn write_stayed(
+    alloc: Global,
+    out: &mut String,
+    lexer: &Lexer,
+    before: &str,
+) -> Result<(), AllocError> {
+    let now = ahead(alloc, lexer)?;
+    let same = now.as_str() == before;
+    write_note(out, if same { "stayed" } else { "changed" })
 }
 
 /// Writes whether a lexer goes back to a checkpoint, and whether it changes where it doesn't.
@@ -103,8 +149,8 @@ pub fn write_went(
 ) -> Result<(), AllocError> {
     let before = ahead(alloc, lexer)?;
     if lexer.rewind(to)? {
-        return write_note(out, "went");
+        write_note(out, "went")
+    } else {
+        write_stayed(alloc, out, lexer, before.as_str())
     }
-    let same = ahead(alloc, lexer)?.as_str() == before.as_str();
-    write_note(out, if same { "stayed" } else { "changed" })
 }

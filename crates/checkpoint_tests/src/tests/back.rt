@@ -1,11 +1,11 @@
 //! Going back to a checkpoint leaves a lexer as a copy is that was made at the same moment.
 use super::acting::Command::{self, Allow, Flags, PopContext, Reads, Reread, Withdraw};
-use super::acting::{act_all, assert_same};
-use ecma_stream::Lexer;
+use super::acting::{act_all, assert_goes_back};
+use ecma_stream::{Checkpoint, Lexer};
 use listing::listing::{
     COLLECTING, IGNORING, MODULE, PLAIN, STRICT, Settings, TYPES, opened, set_flags,
 };
-use std::alloc::Global;
+use std::alloc::{AllocError, Global};
 use std::process::Abort;
 use std::test::Fail;
 
@@ -135,29 +135,46 @@ const SET: &[Row] = &[
 ];
 
 /// Plays the commands and goes back, twice, to where a copy was made.
-fn assert_back<'a>(
+fn assert_twice(
     rt: &impl Abort,
     alloc: Global,
-    lexer: &mut Lexer<'a>,
-    copy: &Lexer<'a>,
+    lexer: &mut Lexer,
+    (to, copy): (&Checkpoint, &Lexer),
     between: &[Command],
-) -> Result<(), Fail> {
-    let to = lexer.checkpoint()?;
+) -> Result<(), AllocError> {
     for _ in 0..2 {
         act_all(alloc, lexer, between)?;
-        assert!(rt; lexer.rewind(&to)?);
-        assert_same(rt, alloc, lexer, copy)?;
+        assert_goes_back(rt, alloc, lexer, to, copy)?;
     }
     Ok(())
 }
 
-fn assert_row(rt: &impl Abort, alloc: Global, row: &Row) -> Result<(), Fail> {
-    let (settings, text, before, between) = row;
-    let mut lexer = opened(alloc, *settings, text)?;
-    set_flags(&mut lexer, *settings)?;
-    act_all(alloc, &mut lexer, before)?;
+fn assert_back(
+    rt: &impl Abort,
+    alloc: Global,
+    lexer: &mut Lexer,
+    copy: &Lexer,
+    between: &[Command],
+) -> Result<(), AllocError> {
+    let to = lexer.checkpoint()?;
+    assert_twice(rt, alloc, lexer, (&to, copy), between)
+}
+
+fn assert_commands(
+    rt: &impl Abort,
+    alloc: Global,
+    lexer: &mut Lexer,
+    row: &Row,
+) -> Result<(), AllocError> {
+    let (settings, _, before, between) = row;
+    set_flags(lexer, *settings)?;
+    act_all(alloc, lexer, before)?;
     let copy = lexer.copy()?;
-    assert_back(rt, alloc, &mut lexer, &copy, between)
+    assert_back(rt, alloc, lexer, &copy, between)
+}
+
+fn assert_row(rt: &impl Abort, alloc: Global, row: &Row) -> Result<(), AllocError> {
+    assert_commands(rt, alloc, &mut opened(alloc, row.0, row.1)?, row)
 }
 
 fn assert_rows(rt: &impl Abort, alloc: Global, rows: &[Row]) -> Result<(), Fail> {

@@ -1,5 +1,5 @@
 //! Checkpoints that no lexer made.
-use super::acting::{write_on, write_went};
+use super::acting::{assert_text, read_times, write_on, write_went};
 use ecma_place::{BytePos, Span};
 use ecma_state::kept::{Kept, Seen};
 use ecma_stream::{Checkpoint, Lexer};
@@ -111,12 +111,20 @@ fn write_forged(
     reads: usize,
     forgery: Forgery,
 ) -> Result<(), AllocError> {
-    for _ in 0..reads {
-        let _ = lexer.read()?;
-    }
+    read_times(lexer, reads)?;
     let mut to = lexer.checkpoint()?;
     forge(&mut to, forgery);
     write_went(alloc, out, lexer, &to)
+}
+
+fn write_refused(
+    alloc: Global,
+    out: &mut String,
+    reads: usize,
+    forgery: Forgery,
+) -> Result<(), AllocError> {
+    let mut lexer = opened(alloc, COLLECTING, TEXT)?;
+    write_forged(alloc, out, &mut lexer, reads, forgery)
 }
 
 fn assert_refused(
@@ -124,11 +132,10 @@ fn assert_refused(
     alloc: Global,
     reads: usize,
     forgery: Forgery,
-) -> Result<(), Fail> {
-    let mut lexer = opened(alloc, COLLECTING, TEXT)?;
+) -> Result<(), AllocError> {
     let mut out = String::new(alloc);
-    write_forged(alloc, &mut out, &mut lexer, reads, forgery)?;
-    assert_eq!(rt; out.as_str(), "stayed");
+    write_refused(alloc, &mut out, reads, forgery)?;
+    assert_text(rt, out.as_str(), "stayed");
     Ok(())
 }
 
@@ -140,18 +147,31 @@ fn places_and_counts_are_looked_at(rt: HostRuntime) -> Result<(), Fail> {
     Ok(())
 }
 
+fn write_onward(
+    alloc: Global,
+    out: &mut String,
+    lexer: &mut Lexer,
+    forgery: Forgery,
+) -> Result<(), AllocError> {
+    write_forged(alloc, out, lexer, 2, forgery)?;
+    write_on(out, lexer)?;
+    write_rest(alloc, out, lexer)
+}
+
+fn write_gone(alloc: Global, out: &mut String, forgery: Forgery) -> Result<(), AllocError> {
+    let mut lexer = opened(alloc, COLLECTING, TEXT)?;
+    write_onward(alloc, out, &mut lexer, forgery)
+}
+
 fn assert_went(
     rt: &impl Abort,
     alloc: Global,
     forgery: Forgery,
     expected: &str,
-) -> Result<(), Fail> {
-    let mut lexer = opened(alloc, COLLECTING, TEXT)?;
+) -> Result<(), AllocError> {
     let mut out = String::new(alloc);
-    write_forged(alloc, &mut out, &mut lexer, 2, forgery)?;
-    write_on(&mut out, &mut lexer)?;
-    write_rest(alloc, &mut out, &mut lexer)?;
-    assert_eq!(rt; out.as_str(), expected);
+    write_gone(alloc, &mut out, forgery)?;
+    assert_text(rt, out.as_str(), expected);
     Ok(())
 }
 

@@ -1,5 +1,5 @@
 //! More contexts, comments and errors than stand in one place.
-use super::acting::assert_same;
+use super::acting::{assert_goes_back, assert_text, read_times};
 use ecma_stream::{Checkpoint, Lexer};
 use listing::listing::{COLLECTING, PLAIN, STRICT, Settings, opened, set_flags};
 use listing::shown::now;
@@ -63,36 +63,57 @@ fn text_of(alloc: Global, pieces: Pieces) -> Result<String, AllocError> {
     Ok(text)
 }
 
-fn read_times(lexer: &mut Lexer, times: usize) -> Result<(), AllocError> {
-    for _ in 0..times {
-        let _ = lexer.read()?;
-    }
-    Ok(())
-}
-
-/// Reads so many tokens and goes back, twice, to a copy of a checkpoint.
-fn assert_back(
+/// Reads so many tokens and goes back, twice, to where a copy was made.
+fn assert_twice(
     rt: &impl Abort,
     alloc: Global,
     lexer: &mut Lexer,
+    (to, copy): (&Checkpoint, &Lexer),
     between: usize,
-) -> Result<(), Fail> {
-    let (to, copy) = (lexer.checkpoint()?.copy()?, lexer.copy()?);
+) -> Result<(), AllocError> {
     for _ in 0..2 {
         read_times(lexer, between)?;
-        assert!(rt; lexer.rewind(&to)?);
-        assert_same(rt, alloc, lexer, &copy)?;
+        assert_goes_back(rt, alloc, lexer, to, copy)?;
     }
     Ok(())
 }
 
-fn assert_row(rt: &impl Abort, alloc: Global, row: &Row) -> Result<(), Fail> {
-    let (settings, pieces, before, between) = row;
-    let text = text_of(alloc, pieces)?;
-    let mut lexer = opened(alloc, *settings, text.as_str())?;
-    set_flags(&mut lexer, *settings)?;
-    read_times(&mut lexer, *before)?;
-    assert_back(rt, alloc, &mut lexer, *between)
+/// A copy of a checkpoint.
+fn copied(lexer: &Lexer) -> Result<Checkpoint, AllocError> {
+    lexer.checkpoint()?.copy()
+}
+
+fn assert_back_to(
+    rt: &impl Abort,
+    alloc: Global,
+    lexer: &mut Lexer,
+    to: &Checkpoint,
+    between: usize,
+) -> Result<(), AllocError> {
+    let copy = lexer.copy()?;
+    assert_twice(rt, alloc, lexer, (to, &copy), between)
+}
+
+fn assert_opened(
+    rt: &impl Abort,
+    alloc: Global,
+    lexer: &mut Lexer,
+    row: &Row,
+) -> Result<(), AllocError> {
+    let (settings, _, before, between) = row;
+    set_flags(lexer, *settings)?;
+    read_times(lexer, *before)?;
+    let to = copied(lexer)?;
+    assert_back_to(rt, alloc, lexer, &to, *between)
+}
+
+fn assert_on(rt: &impl Abort, alloc: Global, text: &str, row: &Row) -> Result<(), AllocError> {
+    assert_opened(rt, alloc, &mut opened(alloc, row.0, text)?, row)
+}
+
+fn assert_row(rt: &impl Abort, alloc: Global, row: &Row) -> Result<(), AllocError> {
+    let text = text_of(alloc, row.1)?;
+    assert_on(rt, alloc, text.as_str(), row)
 }
 
 fn assert_rows(rt: &impl Abort, alloc: Global, rows: &[Row]) -> Result<(), Fail> {
@@ -117,36 +138,63 @@ fn errors_may_be_many(rt: HostRuntime) -> Result<(), Fail> {
     assert_rows(&rt, rt.alloc(), ERRORS)
 }
 
-/// Checkpoints, the newest last, and all that the lexer showed there.
-fn stacked(alloc: Global, lexer: &mut Lexer) -> Result<Vec<(Checkpoint, String)>, AllocError> {
-    let mut stack = Vec::new(alloc);
-    for _ in 0..60 {
-        stack.push((lexer.checkpoint()?, now(alloc, lexer)?))?;
-        read_times(lexer, 7)?;
-    }
-    Ok(stack)
+/// A checkpoint, and all that the lexer shows there.
+type Saved = (Checkpoint, String);
+
+fn saved(alloc: Global, lexer: &Lexer) -> Result<Saved, AllocError> {
+    let to = lexer.checkpoint()?;
+    Ok((to, now(alloc, lexer)?))
 }
 
-/// Goes back to each, the newest first.
-fn assert_stack(
+/// Checkpoints, the newest last.
+fn push_saved(alloc: Global, stack: &mut Vec<Saved>, lexer: &mut Lexer) -> Result<(), AllocError> {
+    for _ in 0..60 {
+        stack.push(saved(alloc, lexer)?)?;
+        read_times(lexer, 7)?;
+    }
+    Ok(())
+}
+
+fn assert_saved(
     rt: &impl Abort,
     alloc: Global,
     lexer: &mut Lexer,
-    stack: &[(Checkpoint, String)],
-) -> Result<(), Fail> {
-    for (to, shown) in stack.iter().rev() {
-        assert!(rt; lexer.rewind(to)?);
-        let back = now(alloc, lexer)?;
-        assert_eq!(rt; back.as_str(), shown.as_str());
+    (to, shown): &Saved,
+) -> Result<(), AllocError> {
+    let went = lexer.rewind(to)?;
+    assert!(rt; went);
+    let back = now(alloc, lexer)?;
+    assert_text(rt, back.as_str(), shown.as_str());
+    Ok(())
+}
+
+/// Goes back to each, the newest first.
+fn assert_all_saved(
+    rt: &impl Abort,
+    alloc: Global,
+    lexer: &mut Lexer,
+    stack: &[Saved],
+) -> Result<(), AllocError> {
+    for saved in stack.iter().rev() {
+        assert_saved(rt, alloc, lexer, saved)?;
     }
     Ok(())
+}
+
+fn assert_stack(rt: &impl Abort, alloc: Global, lexer: &mut Lexer) -> Result<(), AllocError> {
+    let mut stack = Vec::new(alloc);
+    push_saved(alloc, &mut stack, lexer)?;
+    assert_all_saved(rt, alloc, lexer, stack.as_slice())
+}
+
+fn assert_stack_of(rt: &impl Abort, alloc: Global, text: &str) -> Result<(), AllocError> {
+    assert_stack(rt, alloc, &mut opened(alloc, COLLECTING, text)?)
 }
 
 #[test]
 fn checkpoints_are_a_stack(rt: HostRuntime) -> Result<(), Fail> {
     let alloc = rt.alloc();
     let text = text_of(alloc, &[("(/*c*/1__2 08 ", 70), (")", 200)])?;
-    let mut lexer = opened(alloc, COLLECTING, text.as_str())?;
-    let stack = stacked(alloc, &mut lexer)?;
-    assert_stack(&rt, alloc, &mut lexer, stack.as_slice())
+    assert_stack_of(&rt, alloc, text.as_str())?;
+    Ok(())
 }

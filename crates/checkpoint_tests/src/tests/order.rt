@@ -1,5 +1,5 @@
 //! Several checkpoints of one lexer, in any order.
-use super::acting::write_went;
+use super::acting::{assert_text, write_went};
 use ecma_stream::{Checkpoint, Lexer, hand_comments};
 use listing::listing::{COLLECTING, PLAIN, opened, write_next, write_note, write_rest};
 use listing::store::Store;
@@ -27,18 +27,41 @@ fn write_from(
 }
 
 /// Goes back to an older and to a newer checkpoint, in turn.
-fn write_in_turn(alloc: Global, out: &mut String, lexer: &mut Lexer) -> Result<(), AllocError> {
-    let older = write_saved(out, lexer)?;
-    let newer = write_saved(out, lexer)?;
-    write_from(alloc, out, lexer, &newer)?;
-    write_from(alloc, out, lexer, &older)?;
+fn write_turns(
+    alloc: Global,
+    out: &mut String,
+    lexer: &mut Lexer,
+    older: &Checkpoint,
+    newer: &Checkpoint,
+) -> Result<(), AllocError> {
+    write_from(alloc, out, lexer, newer)?;
+    write_from(alloc, out, lexer, older)?;
     // One token was read behind the older one.
-    write_from(alloc, out, lexer, &newer)?;
-    write_went(alloc, out, lexer, &older)?;
+    write_from(alloc, out, lexer, newer)?;
+    write_went(alloc, out, lexer, older)?;
     // None was.
-    write_from(alloc, out, lexer, &newer)?;
-    write_from(alloc, out, lexer, &newer)?;
+    write_from(alloc, out, lexer, newer)?;
+    write_from(alloc, out, lexer, newer)?;
     write_rest(alloc, out, lexer)
+}
+
+fn write_newer(
+    alloc: Global,
+    out: &mut String,
+    lexer: &mut Lexer,
+    older: &Checkpoint,
+) -> Result<(), AllocError> {
+    let newer = write_saved(out, lexer)?;
+    write_turns(alloc, out, lexer, older, &newer)
+}
+
+fn write_older(alloc: Global, out: &mut String, lexer: &mut Lexer) -> Result<(), AllocError> {
+    let older = write_saved(out, lexer)?;
+    write_newer(alloc, out, lexer, &older)
+}
+
+fn write_in_turn(alloc: Global, out: &mut String, text: &str) -> Result<(), AllocError> {
+    write_older(alloc, out, &mut opened(alloc, PLAIN, text)?)
 }
 
 /// The newer has one error more than there is behind the older.
@@ -46,8 +69,9 @@ fn write_in_turn(alloc: Global, out: &mut String, lexer: &mut Lexer) -> Result<(
 fn a_newer_checkpoint_is_gone_to_where_as_much_was_read(rt: HostRuntime) -> Result<(), Fail> {
     let alloc = rt.alloc();
     let mut out = String::new(alloc);
-    write_in_turn(alloc, &mut out, &mut opened(alloc, PLAIN, "a 1__2 b")?)?;
-    assert_eq!(rt;
+    write_in_turn(alloc, &mut out, "a 1__2 b")?;
+    assert_text(
+        &rt,
         out.as_str(),
         "0..1 lf name [a]; 2..6 - Num [1__2] Decimal owned [12] Some(12); \
          went; 7..8 - name [b]; \
@@ -56,7 +80,7 @@ fn a_newer_checkpoint_is_gone_to_where_as_much_was_read(rt: HostRuntime) -> Resu
          went; \
          stayed; 2..6 - Num [1__2] Decimal owned [12] Some(12); \
          went; 7..8 - name [b]; \
-         recorded 2..3 A numeric separator is only allowed between two digits; not at the end"
+         recorded 2..3 A numeric separator is only allowed between two digits; not at the end",
     );
     Ok(())
 }
@@ -66,11 +90,12 @@ fn a_newer_checkpoint_is_gone_to_where_as_much_was_read(rt: HostRuntime) -> Resu
 fn a_newer_checkpoint_is_gone_to_where_nothing_is_kept(rt: HostRuntime) -> Result<(), Fail> {
     let alloc = rt.alloc();
     let mut out = String::new(alloc);
-    write_in_turn(alloc, &mut out, &mut opened(alloc, PLAIN, "a b c")?)?;
-    assert_eq!(rt;
+    write_in_turn(alloc, &mut out, "a b c")?;
+    assert_text(
+        &rt,
         out.as_str(),
         "0..1 lf name [a]; 2..3 - name [b]; went; 4..5 - name [c]; went; 2..3 - name [b]; \
-         went; 4..5 - name [c]; went; went; 4..5 - name [c]; went; 4..5 - name [c]; not at the end"
+         went; 4..5 - name [c]; went; went; 4..5 - name [c]; went; 4..5 - name [c]; not at the end",
     );
     Ok(())
 }
@@ -84,17 +109,49 @@ fn write_handed(alloc: Global, out: &mut String, lexer: &mut Lexer) -> Result<()
 }
 
 /// Hands comments over at the end, and goes back to before and behind the first of them.
-fn write_over(alloc: Global, out: &mut String, lexer: &mut Lexer) -> Result<(), AllocError> {
-    let first = lexer.checkpoint()?;
-    let behind = write_saved(out, lexer)?;
-    let ended = write_saved(out, lexer)?;
+fn write_over(
+    alloc: Global,
+    out: &mut String,
+    lexer: &mut Lexer,
+    (first, behind): (&Checkpoint, &Checkpoint),
+    ended: &Checkpoint,
+) -> Result<(), AllocError> {
     write_handed(alloc, out, lexer)?;
-    write_went(alloc, out, lexer, &behind)?;
-    write_went(alloc, out, lexer, &ended)?;
-    write_from(alloc, out, lexer, &first)?;
-    write_from(alloc, out, lexer, &behind)?;
-    write_from(alloc, out, lexer, &ended)?;
+    write_went(alloc, out, lexer, behind)?;
+    write_went(alloc, out, lexer, ended)?;
+    write_from(alloc, out, lexer, first)?;
+    write_from(alloc, out, lexer, behind)?;
+    write_from(alloc, out, lexer, ended)?;
     write_handed(alloc, out, lexer)
+}
+
+fn write_ended(
+    alloc: Global,
+    out: &mut String,
+    lexer: &mut Lexer,
+    before: (&Checkpoint, &Checkpoint),
+) -> Result<(), AllocError> {
+    let ended = write_saved(out, lexer)?;
+    write_over(alloc, out, lexer, before, &ended)
+}
+
+fn write_behind(
+    alloc: Global,
+    out: &mut String,
+    lexer: &mut Lexer,
+    first: &Checkpoint,
+) -> Result<(), AllocError> {
+    let behind = write_saved(out, lexer)?;
+    write_ended(alloc, out, lexer, (first, &behind))
+}
+
+fn write_first(alloc: Global, out: &mut String, lexer: &mut Lexer) -> Result<(), AllocError> {
+    let first = lexer.checkpoint()?;
+    write_behind(alloc, out, lexer, &first)
+}
+
+fn write_again(alloc: Global, out: &mut String, text: &str) -> Result<(), AllocError> {
+    write_first(alloc, out, &mut opened(alloc, COLLECTING, text)?)
 }
 
 #[test]
@@ -103,14 +160,11 @@ fn comments_are_handed_over_again_behind_a_checkpoint_of_before(
 ) -> Result<(), Fail> {
     let alloc = rt.alloc();
     let mut out = String::new(alloc);
-    write_over(
-        alloc,
-        &mut out,
-        &mut opened(alloc, COLLECTING, "/*a*/ b /*c*/")?,
-    )?;
-    assert_eq!(rt;
+    write_again(alloc, &mut out, "/*a*/ b /*c*/")?;
+    assert_text(
+        &rt,
         out.as_str(),
-        "6..7 lf name [b]; handed 2; stayed; stayed; went; 6..7 lf name [b]; went; end; went; end; handed 2"
+        "6..7 lf name [b]; handed 2; stayed; stayed; went; 6..7 lf name [b]; went; end; went; end; handed 2",
     );
     Ok(())
 }

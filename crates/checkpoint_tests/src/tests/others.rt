@@ -1,6 +1,6 @@
 //! Checkpoints of other lexers.
 use super::acting::Command::{self, Reads, Reread};
-use super::acting::{act_all, write_on, write_went};
+use super::acting::{act_all, assert_text, write_on, write_went};
 use ecma_place::{BytePos, StringInput};
 use ecma_stream::{Checkpoint, Lexer};
 use listing::listing::{FROM_SEVEN, PLAIN, Settings, opened};
@@ -115,14 +115,28 @@ fn checkpoint_of(alloc: Global, side: &Side) -> Result<Checkpoint, AllocError> {
     made(alloc, side)?.checkpoint()
 }
 
-fn assert_row(rt: &impl Abort, alloc: Global, row: &Row) -> Result<(), Fail> {
-    let (of, other, expected) = row;
-    let to = checkpoint_of(alloc, of)?;
+/// Writes whether the lexer of a side goes back to a checkpoint, and the tokens ahead.
+fn write_other(
+    alloc: Global,
+    out: &mut String,
+    other: &Side,
+    to: &Checkpoint,
+) -> Result<(), AllocError> {
     let mut lexer = made(alloc, other)?;
+    write_went(alloc, out, &mut lexer, to)?;
+    write_on(out, &mut lexer)
+}
+
+fn write_sides(alloc: Global, out: &mut String, of: &Side, other: &Side) -> Result<(), AllocError> {
+    let to = checkpoint_of(alloc, of)?;
+    write_other(alloc, out, other, &to)
+}
+
+fn assert_row(rt: &impl Abort, alloc: Global, row: &Row) -> Result<(), AllocError> {
+    let (of, other, expected) = row;
     let mut out = String::new(alloc);
-    write_went(alloc, &mut out, &mut lexer, &to)?;
-    write_on(&mut out, &mut lexer)?;
-    assert_eq!(rt; out.as_str(), *expected);
+    write_sides(alloc, &mut out, of, other)?;
+    assert_text(rt, out.as_str(), expected);
     Ok(())
 }
 
@@ -156,15 +170,21 @@ fn errors_are_as_many(rt: HostRuntime) -> Result<(), Fail> {
 /// Its checkpoint is behind the slash.
 const SLASHED: Side = (PLAIN, "a/b", &[Reads(2)]);
 
+/// Texts, and whether it is one of theirs.
+const FITS: &[(&str, bool)] = &[("c/d", true), ("c", false), ("cde", false), ("/cd", false)];
+
+fn assert_fits(rt: &impl Abort, to: &Checkpoint, text: &str, expected: bool) {
+    let start = BytePos(0);
+    assert!(rt;
+        StringInput::fits(text, start) && to.fits(&StringInput::new(text, start)) == expected
+    );
+}
+
 #[test]
 fn says_whether_it_fits(rt: HostRuntime) -> Result<(), Fail> {
     let to = checkpoint_of(rt.alloc(), &SLASHED)?;
-    let start = BytePos(0);
-    assert!(rt;
-        to.fits(&StringInput::new("c/d", start))
-            && !to.fits(&StringInput::new("c", start))
-            && !to.fits(&StringInput::new("cde", start))
-            && !to.fits(&StringInput::new("/cd", start))
-    );
+    for (text, expected) in FITS {
+        assert_fits(&rt, &to, text, *expected);
+    }
     Ok(())
 }

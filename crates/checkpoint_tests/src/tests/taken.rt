@@ -1,6 +1,6 @@
 //! Errors and comments that are taken between a checkpoint and going back to it.
 use super::acting::Command::{self, Flags, HandComments, Reads, TakeErrors};
-use super::acting::{act_all, write_went};
+use super::acting::{act_all, assert_text, write_went};
 use ecma_stream::Lexer;
 use listing::listing::{COLLECTING, MODULE, PLAIN, Settings, opened, write_rest};
 use std::alloc::{AllocError, Global};
@@ -122,13 +122,17 @@ fn write_back(
     write_rest(alloc, out, lexer)
 }
 
-fn assert_row(rt: &impl Abort, alloc: Global, row: &Row) -> Result<(), Fail> {
-    let (settings, text, before, between, expected) = row;
+fn write_row(alloc: Global, out: &mut String, row: &Row) -> Result<(), AllocError> {
+    let (settings, text, before, between, _) = row;
     let mut lexer = opened(alloc, *settings, text)?;
     act_all(alloc, &mut lexer, before)?;
+    write_back(alloc, out, &mut lexer, between)
+}
+
+fn assert_row(rt: &impl Abort, alloc: Global, row: &Row) -> Result<(), AllocError> {
     let mut out = String::new(alloc);
-    write_back(alloc, &mut out, &mut lexer, between)?;
-    assert_eq!(rt; out.as_str(), *expected);
+    write_row(alloc, &mut out, row)?;
+    assert_text(rt, out.as_str(), row.4);
     Ok(())
 }
 
