@@ -6,25 +6,19 @@ use crate::report::{More, Report, Row, Stop};
 use crate::slashes::{open, tell_unmet};
 use crate::words::Named;
 use ecma_faults::in_order;
-use ecma_place::CommentKind;
+use ecma_names::{comment_name, side_name};
 use ecma_reader::Outcome;
-use ecma_state::{BufferedComment, BufferedCommentKind};
+use ecma_state::BufferedComment;
 use std::alloc::AllocError;
 use std::io::Write;
 
 /// Adds the row of a comment.
 fn push_comment(report: &mut Report, buffered: &BufferedComment) -> Result<(), AllocError> {
     report.push_row(Row {
-        kind: match buffered.comment.kind {
-            CommentKind::Line => "line",
-            CommentKind::Block => "block",
-        },
+        kind: comment_name(buffered.comment.kind),
         span: buffered.comment.span,
         more: More::Beside {
-            side: match buffered.kind {
-                BufferedCommentKind::Leading => "leading",
-                BufferedCommentKind::Trailing => "trailing",
-            },
+            side: side_name(buffered.kind),
             token: buffered.pos,
         },
         text: buffered.comment.text.as_str(),

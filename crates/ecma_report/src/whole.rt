@@ -19,10 +19,11 @@ use crate::report::{More, Report, Row, Stop, write_all};
 use crate::slashes::{START, slashes_at, tell_unmet};
 use crate::words::{Face, Named};
 use ecma_canonical::{Canon, canonical_of_gathered};
-use ecma_classes::{Class, Piece, classes};
+use ecma_classes::{Piece, classes};
 use ecma_faults::{Found, in_order};
 use ecma_html::{html_of_gathered, page_of_gathered};
 use ecma_looks::show_text;
+use ecma_names::piece_name;
 use ecma_reader::{ReadOut, read_out};
 use ecma_replay::Gathered;
 use std::alloc::{AllocError, Global};
@@ -73,11 +74,7 @@ fn write_canonical<W: Write>(
 fn push_piece(report: &mut Report, piece: Piece) -> Result<(), AllocError> {
     let text = report.at(piece.span);
     report.push_row(Row {
-        kind: match piece.class {
-            Class::Token => "token",
-            Class::Comment => "comment",
-            Class::Trivia => "trivia",
-        },
+        kind: piece_name(piece.class),
         span: piece.span,
         more: More::Nothing,
         text,
