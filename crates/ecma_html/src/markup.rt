@@ -29,6 +29,7 @@ fn replacement(byte: u8) -> Option<&'static [u8]>
 }
 
 /// Adds the bytes, each as `replacement` has it. What lies between two bytes that are replaced goes in at once.
+#[inline(always)]
 pub(crate) fn push_escaped(out: &mut Vec<u8>, bytes: &[u8]) -> Result<(), AllocError>
     ensures { OnOk result (out.new.items ≡ out.old.items ++ markup.escaped bytes.now) }
 {
