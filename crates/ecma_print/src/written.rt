@@ -213,6 +213,7 @@ fn push_local(out: &mut Vec<u8>, local: Option<&str>) -> Result<(), AllocError>
 }
 
 /// Adds whether a line terminator comes before a token, between spaces.
+#[inline(always)]
 fn push_break(out: &mut Vec<u8>, flag: bool) -> Result<(), AllocError>
     ensures { OnOk result (out.new.items ≡ out.old.items ++ row_specs.flag_field flag) }
 {

@@ -29,7 +29,8 @@ fn exact(whole: Option<u128>) -> Option<usize>
     }
 }
 
-/// What a token means.
+/// What a token means. It is a call of its own, as it is seldom asked for and its locals are large.
+#[inline(never)]
 fn value_of<'t>(token: &'t Token) -> Value<'t>
     ensures { value_view result ≡ rows.value_of (token_view token.now) }
 {
