@@ -155,11 +155,14 @@ EXPORT(uint32_t, ecma_js_canonical)(REQUEST, uint32_t out, uint32_t room) {
     return status_of((ecma_canonical)(ASKED, SLICE(uint8_t, out, room)));
 }
 
+/* The library takes the place of an answer beyond two registers and returns it, as x86-64 has it; wasm64 has no such result. */
+extern struct ecma_module *imports_told(struct ecma_module *told, const uint8_t *, size_t, uint32_t, const uint32_t *, size_t, struct ecma_import *, size_t,
+                                        struct ecma_export *, size_t) __asm__("ecma_imports");
+
 /* How many rows there are, the status and the flags of the text are written to `module`. */
 EXPORT(uint32_t, ecma_js_imports)(REQUEST, uint32_t imports, uint32_t import_rows, uint32_t exports, uint32_t export_rows, uint32_t module) {
     struct ecma_module *told = (struct ecma_module *)(uintptr_t)module;
-    *told = (ecma_imports)(ASKED, SLICE(struct ecma_import, imports, import_rows), SLICE(struct ecma_export, exports, export_rows));
-    return told->status;
+    return imports_told(told, ASKED, SLICE(struct ecma_import, imports, import_rows), SLICE(struct ecma_export, exports, export_rows))->status;
 }
 
 /* Places in bytes become places in units of UTF-16. */
