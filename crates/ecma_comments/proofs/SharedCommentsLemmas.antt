@@ -1,6 +1,6 @@
 -- Blocks of comments that are added behind one another.
 use Rattle.std.specs.Prelude.{Result, Ok, Err, IsOk, OnOk}
-use Rattle.std.proofs.Common.{arith, ◌≡◌, ◌∙◌, ℕ, ◌+◌, ◌-◌, ◌<◌, ◌≤◌, List, [], ◌∷◌, ◌++◌, length, take, drop, take-append-drop, refl, ap, sym, subst}
+use Rattle.std.proofs.Common.{arith, suc, zero, ◌≡◌, ◌∙◌, ℕ, ◌+◌, ◌-◌, ◌<◌, ◌≤◌, List, [], ◌∷◌, ◌++◌, length, take, drop, take-append-drop, refl, ap, sym, subst}
 use Rattle.std.proofs.Math.Seq.{take-append-add, take-append_seam}
 use Rattle.std.proofs.lemmas.Grind.{flat_map-append}
 use Rattle.std.proofs.lemmas.List.{append-nil, append_assoc, length-append, length-take-le, take-append-le}
@@ -17,6 +17,12 @@ all-before P xs ys h = All-same P xs (take (length xs) (xs ++ ys)) (sym (take-ap
 pub all-behind : {A : Type 0} (P : A → Type 0) (xs ys : List A) → All P (xs ++ ys) → All P ys
 all-behind P [] ys h = h
 all-behind P (x ∷ xs) ys h = all-behind P xs ys (All-tail P x (xs ++ ys) h)
+
+-- what is left of two lists behind one another, but the first ones
+pub drop_both : {A : Type 0} (n : ℕ) (xs ys : List A) → drop n (xs ++ ys) ≡ drop n xs ++ drop (n - length xs) ys
+drop_both zero xs ys = let none : 0 - length xs ≡ 0 = omega arith in ap (λ k. xs ++ drop k ys) (sym none)
+drop_both (suc n) [] ys = let all : suc n - 0 ≡ suc n = omega arith in ap (λ k. drop k ys) (sym all)
+drop_both (suc n) (x ∷ xs) ys = let fewer : suc n - suc (length xs) ≡ n - length xs = omega arith in drop_both n xs ys ∙ ap (λ k. drop n xs ++ drop k ys) (sym fewer)
 
 -- what was added so far, with what is left, is what is to be added, and there is room for it
 pub record IsAdding (begin all added left : List BufferedComment) (room : ℕ) : Type 0 where
@@ -56,6 +62,22 @@ of-blocks-end old new block e =
     ap of_blocks e
     ∙ flat_map-append (λ (b : Block). b.value.items) new (block ∷ [])
     ∙ ap (λ list. of_blocks new ++ list) (append-nil block.value.items)
+
+-- what is added of one block more, where the first so many comments are passed
+pub added-next : (begin added now block : List BufferedComment) (old new : List Block) (item : Block) (skip left less : ℕ)
+    → (added ≡ begin ++ drop skip (of_blocks old)) × (left ≡ skip - length (of_blocks old)) → new ≡ old ++ item ∷ [] → block ≡ item.value.items
+    → now ≡ added ++ drop left block → less ≡ left - length block
+    → (now ≡ begin ++ drop skip (of_blocks new)) × (less ≡ skip - length (of_blocks new))
+added-next begin added now block old new item skip left less so_far more same put passed = (
+  put
+      ∙ ap (λ list. list ++ drop left block) so_far.0
+      ∙ append_assoc begin (drop skip (of_blocks old)) (drop left block)
+      ∙ ap (λ list. begin ++ list) (ap (λ n. drop skip (of_blocks old) ++ drop n block) so_far.1 ∙ sym (drop_both skip (of_blocks old) block) ∙ ap (drop skip) (sym apart)),
+  (let counted = so_far.1 in let sum : length (of_blocks new) ≡ length (of_blocks old) + length block = ap length apart ∙ length-append (of_blocks old) block in omega (arith, counted, passed, sum)),
+)
+  where
+    apart : of_blocks new ≡ of_blocks old ++ block
+    apart = of-blocks-end new old item more ∙ ap (λ list. of_blocks old ++ list) (sym same)
 
 -- the first comments, where some of them stand in the block that was cut off
 pub cut-first : (all kept block last : List BufferedComment) (before len : ℕ)

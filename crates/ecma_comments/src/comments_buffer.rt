@@ -1,5 +1,5 @@
 //! Comments that a lexer gathers, each with the place that it belongs to.
-ghost use Rattle.std.specs.Prelude.{◌≡◌, ◌++◌, ◌∷◌, [], length, map, take, IsTrue, IsOk, IfOk, OnOk, OnErr};
+ghost use Rattle.std.specs.Prelude.{◌≡◌, ◌++◌, ◌∷◌, [], drop, length, map, take, IsTrue, IsOk, IfOk, OnOk, OnErr};
 
 use crate::hand_over::give_from_last;
 use crate::shared_comments::{SharedComments, add_copies};
@@ -112,6 +112,17 @@ impl<'a> CommentsBuffer<'a> {
         ensures { result ≡ length self.now.comments }
     {
         self.comments.len()
+    }
+
+    /// Copies of the comments that have their token, but the first ones, as many as said.
+    ///
+    /// # Errors
+    ///
+    /// `AllocError` where allocation fails for them.
+    pub fn comments_from(&self, first: usize) -> Result<Vec<BufferedComment<'a>>, AllocError>
+        ensures { IfOk result (λ comments. comments.items ≡ drop first self.now.comments) }
+    {
+        self.comments.copies_from(first)
     }
 
     /// Keeps the first `len` of the comments that have their token alone, which does not allocate.

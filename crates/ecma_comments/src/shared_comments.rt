@@ -1,5 +1,5 @@
 //! Comments in order, most of which a list and its copies share.
-ghost use Rattle.std.specs.Prelude.{◌≡◌, ◌+◌, ◌<◌, ◌≤◌, ◌++◌, ◌∷◌, [], length, take, IsTrue, IfOk, IfSome, IsOk, IsSome, OnOk, OnErr, vec_len, vec_capacity};
+ghost use Rattle.std.specs.Prelude.{◌≡◌, ◌+◌, ◌-◌, ◌<◌, ◌≤◌, ◌++◌, ◌∷◌, [], drop, length, take, IsTrue, IfOk, IfSome, IsOk, IsSome, OnOk, OnErr, vec_len, vec_capacity};
 ghost use Rattle.std.specs.List.{All};
 ghost use Rattle.ecma_comments.specs.SharedComments.{CutsBlock, IsBorrowed, of_blocks};
 
@@ -107,6 +107,40 @@ fn add_blocks<'a>(to: &mut Vec<BufferedComment<'a>>, blocks: Vec<Block<'a>>)
         // The copy of a comment whose text is borrowed does not allocate.
         let _ = add_copies(to, block.as_slice());
     }
+}
+
+/// Adds copies of the comments but the first `skip`, and returns how many are still to be passed.
+fn add_behind<'a>(
+    to: &mut Vec<BufferedComment<'a>>,
+    comments: &[BufferedComment<'a>],
+    skip: usize,
+) -> Result<usize, AllocError>
+    ensures items { OnOk result (to.new.items ≡ to.old.items ++ drop skip comments.now) }
+    ensures left { IfOk result (λ left. left ≡ skip - length comments.now) }
+{
+    if skip < comments.len() {
+        let rest = &comments[skip..];
+        to.reserve(rest.len())?;
+        add_copies(to, rest)?;
+    }
+    Ok(skip.saturating_sub(comments.len()))
+}
+
+/// The same of the comments of these blocks.
+#[tactic(auto, using(crate::proofs::SharedCommentsLemmas::drop_both))]
+fn add_blocks_behind<'a>(
+    to: &mut Vec<BufferedComment<'a>>,
+    blocks: &[Block<'a>],
+    skip: usize,
+) -> Result<usize, AllocError>
+    ensures items { OnOk result (to.new.items ≡ to.old.items ++ drop skip (of_blocks blocks.now)) }
+    ensures left { IfOk result (λ left. left ≡ skip - length (of_blocks blocks.now)) }
+{
+    let mut left = skip;
+    'every: for block in blocks {
+        left = add_behind(to, block.as_slice(), left)?;
+    }
+    Ok(left)
 }
 
 /// Takes off the blocks that have none of the first `len` comments, and the block that has some of them and others: that
@@ -246,6 +280,21 @@ impl<'a> SharedComments<'a> {
             next_block: self.next_block,
             last,
         })
+    }
+
+    /// Copies of the comments but the first ones, as many as said.
+    ///
+    /// # Errors
+    ///
+    /// `AllocError` where allocation fails for them.
+    #[tactic(auto, using(crate::proofs::SharedCommentsLemmas::drop_both))]
+    pub(crate) fn copies_from(&self, first: usize) -> Result<Vec<BufferedComment<'a>>, AllocError>
+        ensures { IfOk result (λ copies. copies.items ≡ drop first self.now) }
+    {
+        let mut copies = Vec::new(*self.last.allocator());
+        let left = add_blocks_behind(&mut copies, self.blocks.as_slice(), first)?;
+        add_behind(&mut copies, self.last.as_slice(), left)?;
+        Ok(copies)
     }
 
     /// Takes the comments, which does not allocate.

@@ -10,7 +10,7 @@ pub mod laws;
 
 pub use ecma_canonical::{Canon, canonical, canonical_text, clean_text, joined};
 pub use ecma_classes::{Class, Piece, classes, piece};
-pub use ecma_names::{comment_name, kind_name, piece_name, side_name};
+pub use ecma_names::{comment_name, piece_name, side_name};
 pub use ecma_pieces::classes_of_steps;
 pub use ecma_place as place;
 pub use ecma_positions::{LineStarts, Position};

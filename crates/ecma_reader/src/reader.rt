@@ -1,5 +1,5 @@
 //! A reader of a text, and what it leaves.
-ghost use Rattle.std.specs.Prelude.{◌≡◌, ◌+◌, ◌<◌, ◌^◌, Err, List, None, Ok, [], alloc_error, is_some, length, option_map, true, IfOk, OnOk, OnErr};
+ghost use Rattle.std.specs.Prelude.{◌≡◌, ◌+◌, ◌<◌, ◌^◌, Err, List, None, Ok, [], alloc_error, drop, is_some, length, option_map, true, IfOk, OnOk, OnErr};
 ghost use Rattle.std.specs.Str.{chars};
 ghost use Rattle.ecma_token.specs.View.{SpannedView, spanned_view};
 ghost use Rattle.ecma_state.specs.Session.{Session, lexer_state, state_of};
@@ -141,6 +141,18 @@ impl<'a> Reader<'a> {
                 Err(refusal)
             }
         }
+    }
+
+    /// Copies of the comments so far that have their token, in order, but the first ones, as many as said: for who wants
+    /// them while reading. A comment before a token that isn't read yet may not be among them.
+    ///
+    /// # Errors
+    ///
+    /// `AllocError` where allocation fails for them.
+    pub fn comments_from(&self, first: usize) -> Result<Vec<BufferedComment<'a>>, AllocError>
+        ensures { (s : Session) → lexer_state self.now.lexer ≡ state_of s → IfOk result (λ comments. comments.items ≡ drop first s.comments) }
+    {
+        self.lexer.comments_from(first)
     }
 
     /// Reads to the end, and returns how many tokens there were.

@@ -253,6 +253,18 @@ impl<'a> Lexer<'a> {
         (errors, self.comments.take_comments())
     }
 
+    /// Copies of the comments so far that have their token, in order, but the first ones, as many as said: for who wants them
+    /// while reading. A comment before a token that isn't read yet may not be among them. Our own.
+    ///
+    /// # Errors
+    ///
+    /// `AllocError` where allocation fails for them.
+    pub fn comments_from(&self, first: usize) -> Result<Vec<BufferedComment<'a>>, AllocError>
+        ensures { IfOk result (λ comments. comments.items ≡ drop first (lexer_state self.now).comments) }
+    {
+        self.comments.comments_from(first)
+    }
+
     /// What the next read goes by.
     #[inline(always)]
     fn mode(&self) -> Mode

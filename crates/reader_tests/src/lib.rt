@@ -1,0 +1,5 @@
+//! Tests of `ecma_reader`.
+#![tactic(auto)]
+
+#[cfg(test)]
+mod tests;

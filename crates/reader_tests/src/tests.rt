@@ -1,0 +1,2 @@
+//! Tests of readers.
+mod comments;
