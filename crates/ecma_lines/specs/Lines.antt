@@ -1,6 +1,6 @@
 -- What is written of the tokens of a text: a line each. The form of the lines is our own choice.
 use Rattle.std.specs.Prelude.{ℕ, Bool, true, false, List, [], ◌∷◌, ◌++◌, Option, option_map, map, flat_map, codes, decimal, slice_range}
-use Rattle.ecma_names.specs.Names.{kind_name}
+use Rattle.ecma_token.specs.KindNames.{kind_name}
 use Rattle.ecma_state.specs.declared.kept.Kept.{Kept}
 use Rattle.ecma_state.specs.Session.{Session, kept_of}
 use Rattle.ecma_stream.specs.Ending.{tokens_of}

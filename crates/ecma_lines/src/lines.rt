@@ -7,7 +7,6 @@ ghost use Rattle.ecma_lines.specs.Lines as rows;
 ghost use Rattle.ecma_lines.specs.Rereads.{AllWithin, Lacks};
 
 use crate::rereads::{ReadAgain, open};
-use ecma_names::kind_name;
 use ecma_options::Options;
 use ecma_state::Kept;
 use ecma_stdio::{Fault, push_escaped, push_pair};
@@ -32,7 +31,7 @@ fn push_head(out: &mut Vec<u8>, token: Kept) -> Result<(), AllocError>
 {
     push_pair(out, token.span.lo.0, token.span.hi.0)?;
     push_flag(out, token.flag)?;
-    out.extend_from_slice(kind_name(token.kind).as_bytes())?;
+    out.extend_from_slice(token.kind.name().as_bytes())?;
     out.push(b' ')?;
     Ok(())
 }

@@ -1,3 +1,4 @@
+pub mod KindNames
 pub mod Kinds
 pub mod Messages
 pub mod MessageView

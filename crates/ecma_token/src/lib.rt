@@ -1,7 +1,8 @@
 //! Tokens, their kinds, and errors.
 //!
 //! The lexer returns [`Token`], [`TokenAndSpan`] and [`Error`]. Match on a token, or ask its [`TokenKind`];
-//! `Error::kind` and `SyntaxError::msg` are what is wrong, in words. Promised: questions, messages and debug texts are
+//! `Error::kind` and `SyntaxError::msg` are what is wrong, in words. The `Display` of a kind is its name
+//! ([`TokenKind::name`]). Promised: questions, messages and debug texts are
 //! the tables of `specs/`; a copy looks like its source, and allocates only for what is owned.
 //!
 //! The parser's errors with fixed messages are in `ecma_fixed`; `names.rt` has a constant of `SyntaxError` for each.
@@ -14,6 +15,7 @@
 
 pub mod error;
 pub mod kind;
+mod kind_name;
 mod message;
 mod names;
 mod quoted;

@@ -4,6 +4,7 @@ ghost use Rattle.std.specs.Prelude.{◌≤◌};
 mod copies;
 mod debug_texts;
 mod fixed_messages;
+mod kind_names;
 mod messages;
 mod names;
 mod questions;
