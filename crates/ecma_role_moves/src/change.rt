@@ -19,7 +19,8 @@ fn function(is_async: bool) -> Around
 }
 
 /// The head of a function begins.
-fn enter(nest: &mut Nest, kind: FrameKind, is_async: bool)
+#[inline]
+pub fn enter(nest: &mut Nest, kind: FrameKind, is_async: bool)
     requires { 1 ≤ nest.old.room }
     ensures nest { nest.new.nest ≡ moves.entered kind is_async nest.old.nest }
     ensures room { nest.old.room ≤ nest.new.room + 1 }
@@ -63,7 +64,8 @@ fn begin_object(nest: &mut Nest)
 }
 
 /// An arrow function begins.
-fn begin_arrow(nest: &mut Nest, is_async: bool)
+#[inline]
+pub fn begin_arrow(nest: &mut Nest, is_async: bool)
     requires { 1 ≤ nest.old.room }
     ensures nest { nest.new.nest ≡ moves.arrow is_async nest.old.nest }
     ensures room { nest.old.room ≤ nest.new.room + 1 }

@@ -9,7 +9,7 @@
 //! `specs/Nest.antt` and `specs/Moves.antt` say the same of lists of frames.
 #![tactic(auto)]
 
-mod change;
+pub mod change;
 mod closing;
 mod inside;
 pub mod nest;

@@ -3,6 +3,19 @@
 /// What is expected next: a row of the table is looked up by it. Our own choice, as ECMA-262 leaves it to the parser.
 #[derive(Clone, Copy)]
 pub enum State {
+    // In this order the questions that the fast path asks of states are of neighbors.
+    /// An operand is expected.
+    Operand,
+    /// An operand is complete.
+    After,
+    /// Behind a name that a statement begins with.
+    Label,
+    /// Behind parentheses.
+    Group,
+    /// Behind a postfix operator or an asserted type.
+    AfterPostfix,
+    /// Behind a declared name.
+    AfterBinding,
     /// A statement begins.
     Statement,
     /// Behind `export default`.
@@ -29,10 +42,6 @@ pub enum State {
     EnumHead,
     /// A name or pattern that is declared comes.
     Binding,
-    /// Behind a declared name.
-    AfterBinding,
-    /// Behind a name that a statement begins with.
-    Label,
     /// Behind `import`.
     ImportStart,
     /// What is imported.
@@ -79,20 +88,12 @@ pub enum State {
     Decorator,
     /// Behind what decorates.
     AfterDecorator,
-    /// An operand is expected.
-    Operand,
     /// Behind `?`.
     Conditional,
     /// Behind `=>`.
     ArrowBody,
     /// The text of a template.
     Quasi,
-    /// An operand is complete.
-    After,
-    /// Behind a postfix operator or an asserted type.
-    AfterPostfix,
-    /// Behind parentheses.
-    Group,
     /// Behind the parameters of an arrow function.
     GroupParameters,
     /// Behind `async` and parentheses.

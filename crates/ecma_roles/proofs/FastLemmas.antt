@@ -1,17 +1,16 @@
 -- Tokens that are taken into account before the table is asked, by their rows
-use Rattle.std.proofs.Common.{◌≡◌, ◌∙◌, ap, sym, Bool, true, false, not, ◌&&◌, ◌||◌, List, Option, Some, None, [], ◌∷◌, IfSome, ⊎_elim, refl, arith}
+use Rattle.std.proofs.Common.{◌≡◌, ◌∙◌, ap, sym, Bool, true, false, not, ◌&&◌, List, Option, Some, None, [], ◌∷◌, IfSome, ⊎_elim, refl, arith}
 use Rattle.std.specs.Prelude.{◌⊎◌, slice_get}
 use Rattle.ecma_role_table.specs.declared.frame.Around.{Around}
 use Rattle.ecma_role_table.specs.declared.frame.Frame.{Frame}
 use Rattle.ecma_role_table.specs.declared.frame.FrameKind.{FrameKind}
 use Rattle.ecma_role_table.specs.declared.frame.FrameKind.TheVariants as frame
-use Rattle.ecma_role_table.specs.declared.frame.Kinds.{Kinds}
 use Rattle.ecma_role_table.specs.declared.frame.Kinds.TheVariants as kinds
 use Rattle.ecma_role_table.specs.declared.moves.Move.TheVariants as move
 use Rattle.ecma_role_table.specs.declared.moves.Change.TheVariants as change
 use Rattle.ecma_role_table.specs.declared.moves.Turn.TheVariants.{Again, Done}
 use Rattle.ecma_role_table.specs.declared.part.PartKind.{PartKind}
-use Rattle.ecma_role_table.specs.declared.part.PartKind.TheVariants.{Name, Reserved, Sign}
+use Rattle.ecma_role_table.specs.declared.part.PartKind.TheVariants.{Sign}
 use Rattle.ecma_role_table.specs.declared.part.Sign.TheVariants as sign
 use Rattle.ecma_role_table.specs.declared.state.State.{State}
 use Rattle.ecma_role_table.specs.declared.state.State.TheVariants as state
@@ -19,9 +18,9 @@ use Rattle.ecma_role_table.specs.Frames.{over_candidate}
 use Rattle.ecma_role_table.specs.Statements.{statement}
 use Rattle.ecma_role_table.specs.Table.{row}
 use Rattle.ecma_role_moves.specs.Moves as moves
-use Rattle.ecma_role_moves.specs.Moves.{Turned, changed, landed, moved, turned_to}
+use Rattle.ecma_role_moves.specs.Moves.{changed, landed, moved, turned_to}
 use Rattle.ecma_role_moves.specs.Nest.{Nested, dropped, kind_in, nested, no_function, over_kinds, pending, popped, popped_from, pushed, top, turned, under}
-use Rattle.ecma_roles.specs.Fast.{Takes, body_kind, brace_state, comma_state, declares, decorates, ends_statement, follows, has_no_method, holds_statements, is_behind, is_complete, is_declared, is_missing, is_operator, may_close, may_end, may_go_on, paren_state}
+use Rattle.ecma_roles.specs.Fast.{Takes, body_kind, brace_state, colon_state, comma_state, declares, decorates, follows, has_no_method, holds_statements, is_behind, is_complete, is_declared, is_group, is_operator, may_close, may_end, may_go_on, paren_state, semicolon_state}
 use Rattle.ecma_roles.specs.Track.{read_once, read_times, readied, reading, seen, stepped, track}
 use Rattle.ecma_role_moves.proofs.NestLemmas.{dropped_none, dropped_popped}
 use Rattle.ecma_roles.proofs.TrackLemmas.{nothing_left, one_more}
@@ -56,6 +55,12 @@ pub takes_pushed : (s : State) (nest behind : Nested) (kind : PartKind) (had_lin
     → Takes s nest kind had_line_break to (pushed frame nest) → IfSome result (λ next. Takes s nest kind had_line_break next behind)
 takes_pushed s nest behind kind had_line_break frame to None pushed takes = tt
 takes_pushed s nest behind kind had_line_break frame to (Some next) pushed takes = rw pushed.0 (rw pushed.1 takes)
+
+-- where it leads to what is said
+pub takes_led : (s : State) (nest behind led : Nested) (kind : PartKind) (had_line_break : Bool) (to : State) (result : Option State) → IfSome result (λ next. (next ≡ to) × (behind ≡ led))
+    → Takes s nest kind had_line_break to led → IfSome result (λ next. Takes s nest kind had_line_break next behind)
+takes_led s nest behind led kind had_line_break to None leads takes = tt
+takes_led s nest behind led kind had_line_break to (Some next) leads takes = rw leads.0 (rw leads.1 takes)
 
 pub takes_found : (s : State) (nest : Nested) (kind : PartKind) (had_line_break : Bool) (result found : Option State) → result ≡ found → ((next : State) → found ≡ Some next → Takes s nest kind had_line_break next nest)
     → IfSome result (λ next. Takes s nest kind had_line_break next nest)
@@ -169,6 +174,14 @@ pub control_opens : (nest : Nested) (had_line_break : Bool) → Takes state.Cont
 unfolding read_once row moved changed
 control_opens nest had_line_break typescript = once state.Control nest typescript had_line_break (Sign sign.LParen) state.Operand (pushed frame.Control nest) refl
 
+pub group_begins : (nest : Nested) (had_line_break : Bool) → Takes state.Statement nest (Sign sign.LParen) had_line_break state.Operand (pushed frame.Paren nest)
+unfolding read_once row moved changed statement
+group_begins nest had_line_break typescript = twice state.Statement state.Operand nest nest typescript had_line_break (Sign sign.LParen) state.Operand (pushed frame.Paren nest) refl refl
+
+pub head_opens : (nest : Nested) (had_line_break : Bool) → Takes state.ForKeyword nest (Sign sign.LParen) had_line_break state.ForHead (pushed frame.For nest)
+unfolding read_once row moved changed
+head_opens nest had_line_break typescript = once state.ForKeyword nest typescript had_line_break (Sign sign.LParen) state.ForHead (pushed frame.For nest) refl
+
 close-or : (s : State) → may_close s ≡ true → (is_complete s ≡ true) ⊎ (s ≡ state.Operand)
 close-or s holds = grind arith
 
@@ -193,6 +206,10 @@ body-begins over kind is = grind arith
 pub body_opens : (nest : Nested) (had_line_break : Bool) (kind : FrameKind) → body_kind (top nest) ≡ Some kind → Takes state.HeadEnd nest (Sign sign.LBrace) had_line_break state.Statement (turned kind nest)
 unfolding read_once row moved changed
 body_opens nest had_line_break kind is typescript = once state.HeadEnd nest typescript had_line_break (Sign sign.LBrace) state.Statement (turned kind nest) (ap (λ k. turned_to (Done state.Statement) (turned k nest)) (body-begins (top nest) kind is))
+
+pub arrow_body_opens : (nest : Nested) (had_line_break : Bool) → Takes state.ArrowBody nest (Sign sign.LBrace) had_line_break state.Statement (turned frame.ArrowBody nest)
+unfolding read_once row moved changed
+arrow_body_opens nest had_line_break typescript = once state.ArrowBody nest typescript had_line_break (Sign sign.LBrace) state.Statement (turned frame.ArrowBody nest) refl
 
 -- and close
 paren-over : (over around : Option FrameKind) (nest : Nested) (next : State) → paren_state over around ≡ Some next → top (popped nest) ≡ around → moves.paren_over over nest ≡ landed next (popped nest)
@@ -223,6 +240,21 @@ paren_takes s nest had_line_break next holds is typescript = ⊎_elim
     (λ complete. behind_operand s nest typescript had_line_break (Sign sign.RParen) next (popped nest) complete refl (ap moves.done (paren-closes nest next is)))
     (λ operand. rw operand (twice state.Operand state.After nest nest typescript had_line_break (Sign sign.RParen) next (popped nest) (ap (turned_to (Again state.After (Sign sign.RParen))) (paren-empty nest next is)) (ap moves.done (paren-closes nest next is))))
     (close-or s holds)
+
+group-over : (over around : Option FrameKind) (nest : Nested) → is_group over ≡ true → decorates around ≡ false → top (popped nest) ≡ around → moves.paren_over over nest ≡ landed state.Group (popped nest)
+group-over over around nest is plain under = grind arith
+
+group-plain : (over : Option FrameKind) → is_group over ≡ true → over_kinds kinds.MarksAndAngles over ≡ false
+group-plain over is = grind arith
+
+group-closes : (nest : Nested) → is_group (top nest) ≡ true → decorates (under nest) ≡ false → moves.paren nest ≡ landed state.Group (popped nest)
+group-closes nest is plain =
+    let none : dropped kinds.MarksAndAngles nest ≡ nest = dropped_none kinds.MarksAndAngles nest (group-plain (top nest) is) in
+    rw none (group-over (top nest) (under nest) nest is plain (top-popped nest))
+
+pub group_takes : (s : State) (nest : Nested) (had_line_break : Bool) → is_complete s ≡ true → is_group (top nest) ≡ true → decorates (under nest) ≡ false → Takes s nest (Sign sign.RParen) had_line_break state.Group (popped nest)
+unfolding read_once row moved changed
+group_takes s nest had_line_break holds is plain typescript = behind_operand s nest typescript had_line_break (Sign sign.RParen) state.Group (popped nest) holds refl (ap moves.done (group-closes nest is plain))
 
 bracket-closes : (nest : Nested) → top nest ≡ Some frame.Bracket → moves.bracket nest ≡ landed state.After (popped nest)
 bracket-closes nest over =
@@ -283,21 +315,28 @@ brace_takes s nest had_line_break next ends holds is typescript =
     (end-or s ends)
 
 -- a semicolon
-no-mark : (over : Option FrameKind) → holds_statements over ≡ true → over_kinds kinds.Marks over ≡ false
-no-mark over holds = grind arith
+no-mark : (over : Option FrameKind) (next : State) → semicolon_state over ≡ Some next → over_kinds kinds.Marks over ≡ false
+no-mark over next is = grind arith
 
-no-arguments : (over : Option FrameKind) → holds_statements over ≡ true → over_candidate over ≡ false
-no-arguments over holds = grind arith
+no-arguments : (over : Option FrameKind) (next : State) → semicolon_state over ≡ Some next → over_candidate over ≡ false
+no-arguments over next is = grind arith
 
-fresh-statement : (over : Option FrameKind) → holds_statements over ≡ true → moves.fresh_of over ≡ state.Statement
-fresh-statement over holds = grind arith
+semi-leads : (over : Option FrameKind) (nest : Nested) (next : State) → semicolon_state over ≡ Some next → top nest ≡ over → moves.semi_at (moves.fresh_of over) nest ≡ landed next nest
+semi-leads over nest next is on = grind arith
 
-pub statement_ends : (s : State) (nest : Nested) (had_line_break : Bool) → may_go_on s ≡ true → holds_statements (top nest) ≡ true → Takes s nest (Sign sign.Semi) had_line_break state.Statement nest
+semi-ends : (nest inside : Nested) (next : State) → dropped kinds.Marks nest ≡ inside → semicolon_state (top inside) ≡ Some next → moves.semi nest ≡ landed next inside
+semi-ends nest inside next drops is = rw drops (semi-leads (top inside) inside next is refl)
+
+semi-once : (nest inside : Nested) (typescript had_line_break : Bool) (next : State) → over_candidate (top nest) ≡ false → dropped kinds.Marks nest ≡ inside → semicolon_state (top inside) ≡ Some next
+    → read_once (track state.After nest typescript) (Sign sign.Semi) had_line_break ≡ turned_to (Done next) inside
 unfolding read_once row moved
-statement_ends s nest had_line_break goes holds typescript =
-    let none : dropped kinds.Marks nest ≡ nest = dropped_none kinds.Marks nest (no-mark (top nest) holds) in
-    let ready : readied state.After (Sign sign.Semi) had_line_break nest ≡ nest = ready-none (Sign sign.Semi) nest had_line_break (no-arguments (top nest) holds) in
-    going_on s nest typescript had_line_break (Sign sign.Semi) state.Statement nest goes refl refl (rw ready (rw none (rw (fresh-statement (top nest) holds) refl)))
+semi-once nest inside typescript had_line_break next plain drops is = rw (ready-none (Sign sign.Semi) nest had_line_break plain) (ap moves.done (semi-ends nest inside next drops is))
+
+pub semicolon_takes : (s : State) (nest : Nested) (had_line_break : Bool) (next : State) → may_go_on s ≡ true → semicolon_state (top nest) ≡ Some next → Takes s nest (Sign sign.Semi) had_line_break next nest
+unfolding row
+semicolon_takes s nest had_line_break next goes is typescript =
+    let none : dropped kinds.Marks nest ≡ nest = dropped_none kinds.Marks nest (no-mark (top nest) next is) in
+    going_on s nest typescript had_line_break (Sign sign.Semi) next nest goes refl refl (semi-once nest nest typescript had_line_break next (no-arguments (top nest) next is) none is)
 
 declaration-mark : (over : Option FrameKind) → declares over ≡ true → over_kinds kinds.Marks over ≡ true
 declaration-mark over is = grind arith
@@ -305,24 +344,51 @@ declaration-mark over is = grind arith
 declaration-plain : (over : Option FrameKind) → declares over ≡ true → over_candidate over ≡ false
 declaration-plain over is = grind arith
 
-pub declaration_ends : (s : State) (nest : Nested) (had_line_break : Bool) → may_go_on s ≡ true → declares (top nest) ≡ true → holds_statements (under nest) ≡ true → Takes s nest (Sign sign.Semi) had_line_break state.Statement (popped nest)
+pub declaration_ends : (s : State) (nest : Nested) (had_line_break : Bool) (next : State) → may_go_on s ≡ true → declares (top nest) ≡ true → semicolon_state (under nest) ≡ Some next → Takes s nest (Sign sign.Semi) had_line_break next (popped nest)
+unfolding row
+declaration_ends s nest had_line_break next goes over is typescript =
+    let around : semicolon_state (top (popped nest)) ≡ Some next = rw (top-popped nest) is in
+    let none : dropped kinds.Marks nest ≡ popped nest = sym (dropped_popped kinds.Marks nest (declaration-mark (top nest) over)) ∙ dropped_none kinds.Marks (popped nest) (no-mark (top (popped nest)) next around) in
+    going_on s nest typescript had_line_break (Sign sign.Semi) next (popped nest) goes refl refl (semi-once nest (popped nest) typescript had_line_break next (declaration-plain (top nest) over) none around)
+
+-- behind `break`, a statement begins, which it ends
+statement-state : (over : Option FrameKind) → holds_statements over ≡ true → semicolon_state over ≡ Some state.Statement
+statement-state over holds = grind arith
+
+fresh-statement : (over : Option FrameKind) → holds_statements over ≡ true → moves.fresh_of over ≡ state.Statement
+fresh-statement over holds = grind arith
+
+break-fresh : (nest : Nested) (typescript had_line_break : Bool) → holds_statements (top nest) ≡ true → dropped kinds.Marks nest ≡ nest → read_once (track state.Break nest typescript) (Sign sign.Semi) had_line_break ≡ turned_to (Again state.Statement (Sign sign.Semi)) nest
 unfolding read_once row moved
-declaration_ends s nest had_line_break goes over holds typescript =
-    let around : holds_statements (top (popped nest)) ≡ true = rw (top-popped nest) holds in
-    let none : dropped kinds.Marks nest ≡ popped nest = sym (dropped_popped kinds.Marks nest (declaration-mark (top nest) over)) ∙ dropped_none kinds.Marks (popped nest) (no-mark (top (popped nest)) around) in
-    let ready : readied state.After (Sign sign.Semi) had_line_break nest ≡ nest = ready-none (Sign sign.Semi) nest had_line_break (declaration-plain (top nest) over) in
-    going_on s nest typescript had_line_break (Sign sign.Semi) state.Statement (popped nest) goes refl refl (rw ready (rw none (rw (fresh-statement (top (popped nest)) around) refl)))
+break-fresh nest typescript had_line_break holds none = rw none (ap (λ s. turned_to (Again s (Sign sign.Semi)) nest) (fresh-statement (top nest) holds))
+
+break-semi : (nest : Nested) (typescript had_line_break : Bool) → holds_statements (top nest) ≡ true → dropped kinds.Marks nest ≡ nest → read_once (track state.Statement nest typescript) (Sign sign.Semi) had_line_break ≡ turned_to (Done state.Statement) nest
+unfolding read_once row moved statement
+break-semi nest typescript had_line_break holds none = ap moves.done (semi-ends nest nest state.Statement none (statement-state (top nest) holds))
+
+pub break_ends : (nest : Nested) (had_line_break : Bool) → holds_statements (top nest) ≡ true → Takes state.Break nest (Sign sign.Semi) had_line_break state.Statement nest
+break_ends nest had_line_break holds typescript =
+    let none : dropped kinds.Marks nest ≡ nest = dropped_none kinds.Marks nest (no-mark (top nest) state.Statement (statement-state (top nest) holds)) in
+    twice state.Break state.Statement nest nest typescript had_line_break (Sign sign.Semi) state.Statement nest (break-fresh nest typescript had_line_break holds none) (break-semi nest typescript had_line_break holds none)
 
 -- a colon
 pub colon_behind_key : (nest : Nested) (had_line_break : Bool) → has_no_method nest ≡ true → Takes state.Key nest (Sign sign.Colon) had_line_break state.Operand nest
 unfolding read_once row moved changed
 colon_behind_key nest had_line_break holds typescript = once state.Key nest typescript had_line_break (Sign sign.Colon) state.Operand nest (ap (turned_to (Done state.Operand)) (cleared nest holds))
 
-pub conditional_goes_on : (nest : Nested) (had_line_break : Bool) → top nest ≡ Some frame.Conditional → Takes state.After nest (Sign sign.Colon) had_line_break state.Operand (popped nest)
+colon-plain : (over : Option FrameKind) (next : State) → colon_state over ≡ Some next → over_kinds kinds.Candidates over ≡ false
+colon-plain over next is = grind arith
+
+colon-leads : (nest : Nested) (over : Option FrameKind) (next : State) → top nest ≡ over → colon_state over ≡ Some next → moves.colon_plain nest ≡ landed next (popped nest)
+colon-leads nest (Some frame.Conditional) next on is = rw on (grind arith)
+colon-leads nest (Some frame.Case) next on is = rw on (grind arith)
+colon-leads nest over next on is = cc
+
+pub colon_takes : (nest : Nested) (had_line_break : Bool) (next : State) → colon_state (top nest) ≡ Some next → Takes state.After nest (Sign sign.Colon) had_line_break next (popped nest)
 unfolding read_once row moved
-conditional_goes_on nest had_line_break over typescript =
-    let none : dropped kinds.Candidates nest ≡ nest = dropped_none kinds.Candidates nest (rw over refl) in
-    once state.After nest typescript had_line_break (Sign sign.Colon) state.Operand (popped nest) (rw none (rw over (rw over refl)))
+colon_takes nest had_line_break next is typescript =
+    let none : dropped kinds.Candidates nest ≡ nest = dropped_none kinds.Candidates nest (colon-plain (top nest) next is) in
+    once state.After nest typescript had_line_break (Sign sign.Colon) next (popped nest) (rw none (ap moves.done (colon-leads nest (top nest) next refl is)))
 
 pub conditional_begins : (s : State) (nest : Nested) (had_line_break : Bool) → is_complete s ≡ true → over_candidate (top nest) ≡ false → Takes s nest (Sign sign.QuestionMark) had_line_break state.Conditional (pushed frame.Conditional nest)
 unfolding read_once row moved changed
@@ -351,3 +417,13 @@ operator_takes s nest had_line_break kind holds is none typescript = behind_oper
 pub bang_takes : (nest : Nested) (had_line_break : Bool) → Takes state.Operand nest (Sign sign.Bang) had_line_break state.Operand nest
 unfolding read_once row moved changed
 bang_takes nest had_line_break typescript = once state.Operand nest typescript had_line_break (Sign sign.Bang) state.Operand nest refl
+
+-- `++` or `--` behind an operand
+pub update_takes : (s : State) (nest : Nested) → is_complete s ≡ true → over_candidate (top nest) ≡ false → Takes s nest (Sign sign.Update) false state.AfterPostfix nest
+unfolding read_once row moved changed
+update_takes s nest holds none typescript = behind_operand s nest typescript false (Sign sign.Update) state.AfterPostfix nest holds refl (rw (ready-none (Sign sign.Update) nest false none) refl)
+
+-- an arrow function
+pub arrow_takes : (s : State) (nest : Nested) (had_line_break : Bool) → is_complete s ≡ true → Takes s nest (Sign sign.Arrow) had_line_break state.ArrowBody (moves.arrow false nest)
+unfolding read_once row moved changed
+arrow_takes s nest had_line_break holds typescript = behind_operand s nest typescript had_line_break (Sign sign.Arrow) state.ArrowBody (moves.arrow false nest) holds refl refl

@@ -15,7 +15,7 @@ use Rattle.ecma_role_table.specs.declared.state.State.TheVariants as state
 use Rattle.ecma_role_table.specs.Parts.{part_of_keyword, part_of_known}
 use Rattle.ecma_role_table.specs.Statements.{statement}
 use Rattle.ecma_role_table.specs.Table.{row}
-use Rattle.ecma_role_moves.specs.Moves.{changed, moved, turned_to}
+use Rattle.ecma_role_moves.specs.Moves.{changed, entered, moved, turned_to}
 use Rattle.ecma_role_moves.specs.Nest.{Nested, pushed}
 use Rattle.ecma_roles.specs.Fast.{Takes, is_operand, is_prefix, is_word}
 use Rattle.ecma_roles.specs.Track.{read_once, seen, track}
@@ -105,6 +105,14 @@ pub name_is_in_head : (nest : Nested) (had_line_break : Bool) → Takes state.He
 unfolding read_once row moved changed
 name_is_in_head nest had_line_break typescript = once state.Head nest typescript had_line_break (Name name.Other) state.Head nest refl
 
+pub name_is_body : (nest : Nested) (had_line_break : Bool) → Takes state.ArrowBody nest (Name name.Other) had_line_break state.After nest
+unfolding read_once row moved changed
+name_is_body nest had_line_break typescript = twice state.ArrowBody state.Operand nest nest typescript had_line_break (Name name.Other) state.After nest refl (operand-once (Name name.Other) nest typescript had_line_break refl)
+
+pub name_behind_let : (nest : Nested) (had_line_break : Bool) → Takes state.MaybeLet nest (Name name.Other) had_line_break state.AfterBinding (pushed frame.Declaration nest)
+unfolding read_once row moved changed
+name_behind_let nest had_line_break typescript = twice state.MaybeLet state.Binding nest (pushed frame.Declaration nest) typescript had_line_break (Name name.Other) state.AfterBinding (pushed frame.Declaration nest) refl refl
+
 -- keywords
 prefix-row : (kind : PartKind) (nest : Nested) (typescript had_line_break : Bool) → is_prefix kind ≡ true → row state.Operand kind (seen had_line_break typescript nest) ≡ move.To state.Operand change.Nothing
 unfolding row
@@ -132,3 +140,36 @@ control_begins nest had_line_break typescript = once state.Statement nest typesc
 pub statement_follows : (nest : Nested) (had_line_break : Bool) → Takes state.Statement nest (Reserved reserved.BeforeStatement) had_line_break state.Statement nest
 unfolding read_once row moved changed statement
 statement_follows nest had_line_break typescript = once state.Statement nest typescript had_line_break (Reserved reserved.BeforeStatement) state.Statement nest refl
+
+pub let_begins : (nest : Nested) (had_line_break : Bool) → Takes state.Statement nest (Name name.Let) had_line_break state.MaybeLet nest
+unfolding read_once row moved changed statement
+let_begins nest had_line_break typescript = once state.Statement nest typescript had_line_break (Name name.Let) state.MaybeLet nest refl
+
+pub function_begins : (nest : Nested) (had_line_break : Bool) → Takes state.Statement nest (Reserved reserved.Function) had_line_break state.Head (entered frame.FunctionHead false nest)
+unfolding read_once row moved changed statement
+function_begins nest had_line_break typescript = once state.Statement nest typescript had_line_break (Reserved reserved.Function) state.Head (entered frame.FunctionHead false nest) refl
+
+pub for_begins : (nest : Nested) (had_line_break : Bool) → Takes state.Statement nest (Reserved reserved.For) had_line_break state.ForKeyword nest
+unfolding read_once row moved changed statement
+for_begins nest had_line_break typescript = once state.Statement nest typescript had_line_break (Reserved reserved.For) state.ForKeyword nest refl
+
+pub case_begins : (nest : Nested) (had_line_break : Bool) → Takes state.Statement nest (Reserved reserved.Case) had_line_break state.Operand (pushed frame.Case nest)
+unfolding read_once row moved changed statement
+case_begins nest had_line_break typescript = once state.Statement nest typescript had_line_break (Reserved reserved.Case) state.Operand (pushed frame.Case nest) refl
+
+pub break_begins : (nest : Nested) (had_line_break : Bool) → Takes state.Statement nest (Reserved reserved.Break) had_line_break state.Break nest
+unfolding read_once row moved changed statement
+break_begins nest had_line_break typescript = once state.Statement nest typescript had_line_break (Reserved reserved.Break) state.Break nest refl
+
+pub function_is_operand : (nest : Nested) (had_line_break : Bool) → Takes state.Operand nest (Reserved reserved.Function) had_line_break state.Head (entered frame.FunctionExpressionHead false nest)
+unfolding read_once row moved changed
+function_is_operand nest had_line_break typescript = once state.Operand nest typescript had_line_break (Reserved reserved.Function) state.Head (entered frame.FunctionExpressionHead false nest) refl
+
+-- where the head of a `for` begins
+pub declaration_in_head : (nest : Nested) (had_line_break : Bool) → Takes state.ForHead nest (Reserved reserved.Declare) had_line_break state.Binding (pushed frame.Declaration nest)
+unfolding read_once row moved changed
+declaration_in_head nest had_line_break typescript = once state.ForHead nest typescript had_line_break (Reserved reserved.Declare) state.Binding (pushed frame.Declaration nest) refl
+
+pub let_in_head : (nest : Nested) (had_line_break : Bool) → Takes state.ForHead nest (Name name.Let) had_line_break state.MaybeLet nest
+unfolding read_once row moved changed
+let_in_head nest had_line_break typescript = once state.ForHead nest typescript had_line_break (Name name.Let) state.MaybeLet nest refl

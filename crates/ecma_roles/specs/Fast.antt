@@ -78,7 +78,13 @@ abbrev pub paren_state : Option FrameKind → Option FrameKind → Option State
 paren_state (Some frame.Call) around = if decorates around then None else Some state.After
 paren_state (Some frame.Parameters) around = Some state.HeadEnd
 paren_state (Some frame.Control) around = Some state.Statement
+paren_state (Some frame.For) around = Some state.Statement
 paren_state over around = None
+
+-- a group is right around
+abbrev pub is_group : Option FrameKind → Bool
+is_group (Some frame.Paren) = true
+is_group over = false
 
 -- the body that begins behind a function's head
 abbrev pub body_kind : Option FrameKind → Option FrameKind
@@ -114,6 +120,17 @@ holds_statements (Some frame.FunctionExpression) = true
 holds_statements (Some frame.Method) = true
 holds_statements (Some frame.ArrowBody) = true
 holds_statements over = false
+
+-- the state behind a semicolon that ends what is right inside of this frame
+abbrev pub semicolon_state : Option FrameKind → Option State
+semicolon_state (Some frame.For) = Some state.Operand
+semicolon_state over = if holds_statements over then Some state.Statement else None
+
+-- the state behind a colon that ends what is right inside of this frame
+abbrev pub colon_state : Option FrameKind → Option State
+colon_state (Some frame.Conditional) = Some state.Operand
+colon_state (Some frame.Case) = Some state.Statement
+colon_state over = None
 
 -- something is declared
 abbrev pub declares : Option FrameKind → Bool

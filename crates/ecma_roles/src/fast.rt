@@ -1,15 +1,18 @@
 //! Tokens that are taken into account before the table is asked: those that most of real code consists of. Each does what its
 //! rows say; what is not known by the state and the two innermost frames is left to the table.
-ghost use Rattle.std.specs.Prelude.{◌≡◌, None, IfSome};
+ghost use Rattle.std.specs.Prelude.{◌≡◌, false, true, None, IfSome};
 ghost use Rattle.ecma_role_table.specs.Parts.{part_of_kind, sign_of_operator};
 ghost use Rattle.ecma_role_table.specs.declared.part.PartKind.TheVariants.{Sign};
 ghost use Rattle.ecma_role_table.specs.declared.part.Sign.TheVariants as sign;
+ghost use Rattle.ecma_role_moves.specs.Moves as moves;
 ghost use Rattle.ecma_role_moves.specs.Nest as nests;
+ghost use Rattle.ecma_role_table.specs.declared.state.State.TheVariants as states;
 ghost use Rattle.ecma_token.specs.Kinds.{token_kind};
 ghost use Rattle.ecma_roles.specs.Fast as tokens;
 ghost use Rattle.ecma_roles.specs.Fast.{Takes};
 
 use crate::fast_word::take_word;
+use ecma_role_moves::change::{begin_arrow, enter};
 use ecma_role_moves::nest::Nest;
 use ecma_role_table::frame::{FrameKind, over_candidate};
 use ecma_role_table::state::State;
@@ -27,6 +30,19 @@ pub(crate) fn push_to(nest: &mut Nest, kind: FrameKind, state: State) -> Option<
     }
     nest.push(kind);
     Some(state)
+}
+
+/// The head of a function, where there is room for it, and the state behind it.
+#[inline(always)]
+pub(crate) fn enter_to(nest: &mut Nest, kind: FrameKind) -> Option<State>
+    ensures entered { IfSome result (λ next. (next ≡ states.Head) × (nest.new.nest ≡ moves.entered kind false nest.old.nest)) }
+    ensures none { result ≡ None → nest.new.nest ≡ nest.old.nest }
+{
+    if !nest.has_room() {
+        return None;
+    }
+    enter(nest, kind, false);
+    Some(State::Head)
 }
 
 /// Whether an operand is complete, so that a sign other than a colon or `<` is read as behind any operand.
@@ -116,6 +132,8 @@ fn left_paren(nest: &mut Nest, state: State, had_line_break: bool) -> Option<Sta
         State::Operand => push_to(nest, FrameKind::Paren, State::Operand),
         State::Head => push_to(nest, FrameKind::Parameters, State::Operand),
         State::Control => push_to(nest, FrameKind::Control, State::Operand),
+        State::Statement => push_to(nest, FrameKind::Paren, State::Operand),
+        State::ForKeyword => push_to(nest, FrameKind::For, State::ForHead),
         _ => {
             if is_complete(state) && !over_candidate(nest.top()) {
                 push_to(nest, FrameKind::Call, State::Operand)
@@ -153,9 +171,17 @@ fn paren_state(top: Option<FrameKind>, under: Option<FrameKind>) -> Option<State
             }
         }
         Some(FrameKind::Parameters) => Some(State::HeadEnd),
-        Some(FrameKind::Control) => Some(State::Statement),
+        Some(FrameKind::Control | FrameKind::For) => Some(State::Statement),
         _ => None,
     }
+}
+
+/// Whether a group is right around.
+#[inline(always)]
+fn is_group(top: Option<FrameKind>) -> bool
+    ensures { result ≡ tokens.is_group top }
+{
+    matches!(top, Some(FrameKind::Paren))
 }
 
 /// `)` behind an operand, or where one is missing.
@@ -167,9 +193,27 @@ fn right_paren(nest: &mut Nest, state: State, had_line_break: bool) -> Option<St
     if !may_close(state) {
         return None;
     }
-    let next = paren_state(nest.top(), nest.under())?;
+    let top = nest.top();
+    if is_group(top) {
+        return close_group(nest, state, had_line_break);
+    }
+    let next = paren_state(top, nest.under())?;
     nest.pop();
     Some(next)
+}
+
+/// `)` of a group, behind an operand.
+#[inline(always)]
+fn close_group(nest: &mut Nest, state: State, had_line_break: bool) -> Option<State>
+    requires { tokens.is_group (nests.top nest.old.nest) ≡ true }
+    ensures takes { IfSome result (λ next. Takes state nest.old.nest (Sign sign.RParen) had_line_break next nest.new.nest) }
+    ensures none { result ≡ None → nest.new.nest ≡ nest.old.nest }
+{
+    if !is_complete(state) || decorates(nest.under()) {
+        return None;
+    }
+    nest.pop();
+    Some(State::Group)
 }
 
 /// `[` behind an operand, or where one begins.
@@ -228,6 +272,10 @@ fn left_brace(nest: &mut Nest, state: State, had_line_break: bool) -> Option<Sta
         State::HeadEnd => {
             let kind = body_kind(nest.top())?;
             nest.turn(kind);
+            Some(State::Statement)
+        }
+        State::ArrowBody => {
+            nest.turn(FrameKind::ArrowBody);
             Some(State::Statement)
         }
         _ => None,
@@ -295,27 +343,65 @@ fn declares(over: Option<FrameKind>) -> bool
     matches!(over, Some(FrameKind::Declaration))
 }
 
-/// `;` behind an operand or a name that is declared.
+/// The state behind a semicolon that ends what is right inside of this frame.
+#[inline(always)]
+fn semicolon_state(over: Option<FrameKind>) -> Option<State>
+    ensures { result ≡ tokens.semicolon_state over }
+{
+    match over {
+        Some(FrameKind::For) => Some(State::Operand),
+        _ => {
+            if holds_statements(over) {
+                Some(State::Statement)
+            } else {
+                None
+            }
+        }
+    }
+}
+
+/// `;` behind an operand, a name that is declared or `break`.
 #[inline(always)]
 fn semicolon(nest: &mut Nest, state: State, had_line_break: bool) -> Option<State>
     ensures takes { IfSome result (λ next. Takes state nest.old.nest (Sign sign.Semi) had_line_break next nest.new.nest) }
     ensures none { result ≡ None → nest.new.nest ≡ nest.old.nest }
 {
     if !may_go_on(state) {
-        return None;
+        return semicolon_behind_break(nest, state, had_line_break);
     }
     let top = nest.top();
-    if holds_statements(top) {
-        return Some(State::Statement);
-    }
-    if declares(top) && holds_statements(nest.under()) {
+    if declares(top) {
+        let next = semicolon_state(nest.under())?;
         nest.pop();
-        return Some(State::Statement);
+        return Some(next);
     }
-    None
+    semicolon_state(top)
 }
 
-/// `:` of a key or a conditional.
+/// `;` behind `break` or `continue`.
+#[inline(always)]
+fn semicolon_behind_break(nest: &Nest, state: State, had_line_break: bool) -> Option<State>
+    ensures { IfSome result (λ next. Takes state nest.now.nest (Sign sign.Semi) had_line_break next nest.now.nest) }
+{
+    match state {
+        State::Break if holds_statements(nest.top()) => Some(State::Statement),
+        _ => None,
+    }
+}
+
+/// The state behind a colon that ends what is right inside of this frame.
+#[inline(always)]
+fn colon_state(top: Option<FrameKind>) -> Option<State>
+    ensures { result ≡ tokens.colon_state top }
+{
+    match top {
+        Some(FrameKind::Conditional) => Some(State::Operand),
+        Some(FrameKind::Case) => Some(State::Statement),
+        _ => None,
+    }
+}
+
+/// `:` of a key, a conditional or a `case`.
 #[inline(always)]
 fn colon(nest: &mut Nest, state: State, had_line_break: bool) -> Option<State>
     ensures takes { IfSome result (λ next. Takes state nest.old.nest (Sign sign.Colon) had_line_break next nest.new.nest) }
@@ -323,13 +409,11 @@ fn colon(nest: &mut Nest, state: State, had_line_break: bool) -> Option<State>
 {
     match state {
         State::Key if has_no_method(nest) => Some(State::Operand),
-        State::After => match nest.top() {
-            Some(FrameKind::Conditional) => {
-                nest.pop();
-                Some(State::Operand)
-            }
-            _ => None,
-        },
+        State::After => {
+            let next = colon_state(nest.top())?;
+            nest.pop();
+            Some(next)
+        }
         _ => None,
     }
 }
@@ -387,6 +471,31 @@ fn operator(nest: &Nest, state: State, operator: BinOpToken, had_line_break: boo
     }
 }
 
+/// `++` or `--` behind an operand.
+#[inline(always)]
+fn update(nest: &Nest, state: State, had_line_break: bool) -> Option<State>
+    ensures { IfSome result (λ next. Takes state nest.now.nest (Sign sign.Update) had_line_break next nest.now.nest) }
+{
+    if is_complete(state) && !had_line_break && !over_candidate(nest.top()) {
+        Some(State::AfterPostfix)
+    } else {
+        None
+    }
+}
+
+/// `=>` behind an operand: its parameters were read as a group, or as a name.
+#[inline(always)]
+fn arrow(nest: &mut Nest, state: State, had_line_break: bool) -> Option<State>
+    ensures takes { IfSome result (λ next. Takes state nest.old.nest (Sign sign.Arrow) had_line_break next nest.new.nest) }
+    ensures none { result ≡ None → nest.new.nest ≡ nest.old.nest }
+{
+    if !is_complete(state) || !nest.has_room() {
+        return None;
+    }
+    begin_arrow(nest, false);
+    Some(State::ArrowBody)
+}
+
 /// `!` before an operand.
 #[inline(always)]
 fn bang(nest: &Nest, state: State, had_line_break: bool) -> Option<State>
@@ -438,6 +547,8 @@ pub(crate) fn take(
         Token::AssignOp(AssignOp::Assign) => equals(nest, state, had_line_break),
         Token::BinOp(it) => operator(nest, state, *it, had_line_break),
         Token::Bang => bang(nest, state, had_line_break),
+        Token::PlusPlus | Token::MinusMinus => update(nest, state, had_line_break),
+        Token::Arrow => arrow(nest, state, had_line_break),
         Token::Str { .. } | Token::Num { .. } => literal(nest, state, had_line_break),
         _ => None,
     }

@@ -8,7 +8,7 @@ ghost use Rattle.ecma_role_table.specs.declared.state.State.TheVariants as state
 ghost use Rattle.ecma_roles.specs.Fast as tokens;
 ghost use Rattle.ecma_roles.specs.Fast.{Takes};
 
-use crate::fast::push_to;
+use crate::fast::{enter_to, push_to};
 use ecma_role_moves::nest::Nest;
 use ecma_role_table::frame::FrameKind;
 use ecma_role_table::state::State;
@@ -16,13 +16,17 @@ use ecma_word::{IdentKind, Keyword, KnownIdent, WordKind};
 
 /// A name that no row asks for.
 #[inline(always)]
-fn name(nest: &Nest, state: State, had_line_break: bool) -> Option<State>
-    ensures { IfSome result (λ next. Takes state nest.now.nest (Name name.Other) had_line_break next nest.now.nest) }
+fn name(nest: &mut Nest, state: State, had_line_break: bool) -> Option<State>
+    ensures takes { IfSome result (λ next. Takes state nest.old.nest (Name name.Other) had_line_break next nest.new.nest) }
+    ensures none { result ≡ None → nest.new.nest ≡ nest.old.nest }
 {
     match state {
-        State::Operand | State::Conditional | State::Property => Some(State::After),
+        State::Operand | State::Conditional | State::Property | State::ArrowBody => {
+            Some(State::After)
+        }
         State::Statement => Some(State::Label),
         State::Binding => Some(State::AfterBinding),
+        State::MaybeLet => push_to(nest, FrameKind::Declaration, State::AfterBinding),
         State::Key => Some(State::Key),
         State::Head => Some(State::Head),
         State::Restricted if !had_line_break => Some(State::After),
@@ -57,6 +61,7 @@ fn constant(nest: &Nest, state: State, had_line_break: bool) -> Option<State>
 {
     match state {
         State::Operand | State::Conditional | State::Property => Some(State::After),
+        State::Restricted if !had_line_break => Some(State::After),
         _ => None,
     }
 }
@@ -69,9 +74,14 @@ fn begin_statement(nest: &mut Nest, keyword: Keyword, had_line_break: bool) -> O
 {
     match keyword {
         Keyword::Return | Keyword::Throw => Some(State::Restricted),
-        Keyword::Var | Keyword::Const => { push_to(nest, FrameKind::Declaration, State::Binding) }
-        Keyword::If | Keyword::While | Keyword::Switch => Some(State::Control),
+        Keyword::Var | Keyword::Const => push_to(nest, FrameKind::Declaration, State::Binding),
+        Keyword::Let => Some(State::MaybeLet),
+        Keyword::If | Keyword::While | Keyword::Switch | Keyword::Catch => Some(State::Control),
         Keyword::Else | Keyword::Try => Some(State::Statement),
+        Keyword::Function => enter_to(nest, FrameKind::FunctionHead),
+        Keyword::For => Some(State::ForKeyword),
+        Keyword::Case => push_to(nest, FrameKind::Case, State::Operand),
+        Keyword::Break | Keyword::Continue => Some(State::Break),
         Keyword::This => Some(State::After),
         _ => None,
     }
@@ -79,12 +89,27 @@ fn begin_statement(nest: &mut Nest, keyword: Keyword, had_line_break: bool) -> O
 
 /// A keyword where an operand is expected.
 #[inline(always)]
-fn begin_operand(nest: &Nest, keyword: Keyword, had_line_break: bool) -> Option<State>
-    ensures { IfSome result (λ next. Takes states.Operand nest.now.nest (part_of_keyword keyword) had_line_break next nest.now.nest) }
+fn begin_operand(nest: &mut Nest, keyword: Keyword, had_line_break: bool) -> Option<State>
+    ensures takes { IfSome result (λ next. Takes states.Operand nest.old.nest (part_of_keyword keyword) had_line_break next nest.new.nest) }
+    ensures none { result ≡ None → nest.new.nest ≡ nest.old.nest }
 {
     match keyword {
+        Keyword::Function => enter_to(nest, FrameKind::FunctionExpressionHead),
         Keyword::This | Keyword::Super => Some(State::After),
         Keyword::TypeOf | Keyword::Void | Keyword::Delete | Keyword::New => Some(State::Operand),
+        _ => None,
+    }
+}
+
+/// A keyword where the head of a `for` begins.
+#[inline(always)]
+fn begin_head(nest: &mut Nest, keyword: Keyword, had_line_break: bool) -> Option<State>
+    ensures takes { IfSome result (λ next. Takes states.ForHead nest.old.nest (part_of_keyword keyword) had_line_break next nest.new.nest) }
+    ensures none { result ≡ None → nest.new.nest ≡ nest.old.nest }
+{
+    match keyword {
+        Keyword::Var | Keyword::Const => push_to(nest, FrameKind::Declaration, State::Binding),
+        Keyword::Let => Some(State::MaybeLet),
         _ => None,
     }
 }
@@ -103,6 +128,7 @@ fn take_keyword(
     match state {
         State::Statement => begin_statement(nest, keyword, had_line_break),
         State::Operand => begin_operand(nest, keyword, had_line_break),
+        State::ForHead => begin_head(nest, keyword, had_line_break),
         State::Property => Some(State::After),
         _ => None,
     }

@@ -197,6 +197,20 @@ impl Track {
         Ok(())
     }
 
+    /// What is expected next.
+    pub fn state(&self) -> State
+        ensures { result ≡ self.now.state }
+    {
+        self.state
+    }
+
+    /// The innermost bracket that is open, or mark, where there is one.
+    pub fn top(&self) -> Option<FrameKind>
+        ensures { result ≡ nests.top self.now.nest }
+    {
+        self.nest.top()
+    }
+
     /// Whether a slash that comes next, with or without `=` behind it, begins a regular expression (ECMA-262, 12.1).
     pub fn expects_operand(&self, is_assign: bool) -> bool
         ensures { result ≡ slashes.expects_operand self.now is_assign }

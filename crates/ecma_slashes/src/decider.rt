@@ -56,7 +56,6 @@ fn is_assign(slot: &Option<TokenAndSpan>) -> bool
 }
 
 /// What is seen of the token.
-#[inline(never)]
 fn part_of(token: &TokenAndSpan) -> Part
     ensures { result ≡ roles.part_in (spanned_view token.now) }
 {
@@ -269,6 +268,15 @@ impl<'a> Decider<'a> {
                 return;
             }
         }
+        self.keep(token);
+    }
+
+    /// Keeps what is seen of a token.
+    #[inline(never)]
+    fn keep(&mut self, token: &TokenAndSpan)
+        ensures last { self.new.last ≡ Some (roles.part_in (spanned_view token.now)) }
+        ensures same { (self.new.slashes ≡ self.old.slashes) × (self.new.track ≡ self.old.track) × (self.new.left ≡ self.old.left) × (self.new.numbers ≡ self.old.numbers) }
+    {
         self.last = Some(part_of(token));
     }
 
@@ -282,10 +290,10 @@ impl<'a> Decider<'a> {
         let Some(token) = slot else {
             return;
         };
-        match self.slashes {
-            Slashes::ByRole => self.follow(token),
-            Slashes::Numbered(_) => self.count(again),
-            Slashes::ByFlag | Slashes::At(_) => {}
+        if let Slashes::ByRole = self.slashes {
+            self.follow(token);
+        } else if let Slashes::Numbered(_) = self.slashes {
+            self.count(again);
         }
     }
 }

@@ -2,7 +2,7 @@ use Rattle.ecma_role_table.specs.declared.frame.FrameKind.TheVariants as frame
 use Rattle.ecma_role_table.specs.declared.part.PartKind.TheVariants.{Sign}
 use Rattle.ecma_role_table.specs.declared.part.Sign.TheVariants as sign
 use Rattle.ecma_role_table.specs.declared.state.State.TheVariants as state
-use Rattle.ecma_roles.proofs.FastLemmas.{block_opens, body_opens, object_opens, takes_pushed}
+use Rattle.ecma_roles.proofs.FastLemmas.{arrow_body_opens, block_opens, body_opens, object_opens, takes_pushed}
 use Rattle.ecma_roles.proofs.fast.left_brace.Goals as goal
 
 pub returns-in-Operand-clause-takes : goal.returns-in-Operand-clause-takes
@@ -15,3 +15,6 @@ returns-in-Statement-clause-takes c = takes_pushed c.args.state c.args.nest.now.
 
 pub returns-in_ok-kind-in-HeadEnd-clause-takes : goal.returns-in_ok-kind-in-HeadEnd-clause-takes
 returns-in_ok-kind-in-HeadEnd-clause-takes c = rw c.turn.ensures.nest (rw c.in-HeadEnd.is (body_opens c.args.nest.now.nest c.args.had_line_break c.in_ok-kind-in-HeadEnd.kind (cc (c.top.ensures, c.body_kind.ensures, c.in_ok-kind-in-HeadEnd.is, c.in_ok-kind-in-HeadEnd.was))))
+
+pub returns-in-ArrowBody-clause-takes : goal.returns-in-ArrowBody-clause-takes
+returns-in-ArrowBody-clause-takes c = rw c.turn-in-ArrowBody.ensures.nest (rw c.in-ArrowBody.is (arrow_body_opens c.args.nest.now.nest c.args.had_line_break))
