@@ -8,7 +8,7 @@ use Rattle.ecma_classes.specs.declared.piece.Class as piece
 use Rattle.ecma_classes.specs.declared.piece.Class.TheVariants as pieces
 use Rattle.ecma_classes.specs.declared.piece.Piece.{Piece}
 use Rattle.ecma_styles.specs.declared.«class».Class.{Class}
-use Rattle.ecma_styles.specs.declared.«class».Class.TheVariants.{Keyword, Literal, Name, Property, Text, Template, Number, Expression, Comment, Wrong}
+use Rattle.ecma_styles.specs.declared.«class».Class.TheVariants.{Keyword, Literal, Name, Property, Function, ClassName, TypeName, Decorator, Meta, BuiltIn, Text, Template, Number, Expression, Comment, Wrong}
 use Rattle.ecma_html.specs.Markup.{close_tag, escaped, escaped_byte, html_of, open_tag, piece_html, pieces_html, styled_html}
 use Rattle.ecma_styles.specs.Styles.{Styled, class_name, left_classes, piece_class, styled}
 use Rattle.ecma_html.specs.Unmark.{Inside, Outside, Reference, Tag, Unmarked, at, in_text, read_byte, shown, shown_byte, unmark}
@@ -105,6 +105,12 @@ open-back text Keyword = refl
 open-back text Literal = refl
 open-back text Name = refl
 open-back text Property = refl
+open-back text Function = refl
+open-back text ClassName = refl
+open-back text TypeName = refl
+open-back text Decorator = refl
+open-back text Meta = refl
+open-back text BuiltIn = refl
 open-back text Text = refl
 open-back text Template = refl
 open-back text Number = refl

@@ -11,7 +11,8 @@ use Rattle.ecma_state.specs.declared.kept.Kept.{Kept}
 use Rattle.ecma_state.specs.declared.settings.Settings.{Settings}
 use Rattle.ecma_state.specs.declared.step.Step.{Step}
 use Rattle.ecma_html.specs.Markup.{html_of}
-use Rattle.ecma_styles.specs.Styles.{styled, token_classes}
+use Rattle.ecma_styles.specs.Styles.{styled}
+use Rattle.ecma_styles.specs.Tokens.{token_classes}
 
 -- of these tokens and comments of a text
 abbrev pub html_kept : List ℕ → List Kept → List BufferedComment → List ℕ

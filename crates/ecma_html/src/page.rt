@@ -29,12 +29,14 @@ pub const STYLE: &str = "\
 :root {
   color-scheme: light dark;
   --paper: #ffffff; --ink: #24292f; --line: #6a737d; --keyword: #a626a4; --literal: #8a5a00; --property: #005cc5;
-  --string: #2a7030; --regexp: #b93c0b; --comment: #5f6871; --error: #b31d28;
+  --string: #2a7030; --regexp: #b93c0b; --comment: #5f6871; --error: #b31d28; --function: #6f42c1; --type: #1b6f80;
+  --decorator: #9a4a00;
 }
 @media (prefers-color-scheme: dark) {
   :root {
     --paper: #1e2127; --ink: #d4d7dd; --line: #8b929e; --keyword: #cf8ae2; --literal: #d19a66; --property: #61afef;
-    --string: #98c379; --regexp: #e5936c; --comment: #949ca8; --error: #ff7b83;
+    --string: #98c379; --regexp: #e5936c; --comment: #949ca8; --error: #ff7b83; --function: #dcbdfb; --type: #4ec9b0;
+    --decorator: #e5c07b;
   }
 }
 body { margin: 0; background: var(--paper); color: var(--ink); }
@@ -44,9 +46,12 @@ pre { margin: 0; padding: 1em; font: inherit; }
 .lines i { font-style: normal; counter-increment: line; }
 .lines i::before { content: counter(line); }
 .ecma { flex: 1 1 0; min-width: 0; overflow-x: auto; }
-.keyword { color: var(--keyword); }
+.keyword, .builtin, .meta { color: var(--keyword); }
 .literal, .number { color: var(--literal); }
 .property { color: var(--property); }
+.function { color: var(--function); }
+.class, .type { color: var(--type); }
+.decorator { color: var(--decorator); }
 .string, .template { color: var(--string); }
 .regexp { color: var(--regexp); }
 .comment { color: var(--comment); font-style: italic; }

@@ -7,7 +7,8 @@ use Rattle.ecma_faults.specs.Faults.{FoundView}
 use Rattle.ecma_show.specs.Shown.{shown_text}
 use Rattle.ecma_show.specs.declared.mark.Mark.{Mark}
 use Rattle.ecma_show.specs.declared.paint.Part.{Part}
-use Rattle.ecma_styles.specs.Styles.{styled, token_classes}
+use Rattle.ecma_styles.specs.Styles.{styled}
+use Rattle.ecma_styles.specs.Tokens.{token_classes}
 use Rattle.ecma_looks.specs.Looks.{parts_of}
 use Rattle.ecma_looks.specs.Marks.{mark_view, marks_seen}
 

@@ -15,10 +15,11 @@ fn colour_of(class: Class) -> Option<Colour>
     ensures { result ≡ looks.colour_of class }
 {
     match class {
-        Class::Keyword => Some(Colour::Magenta),
-        Class::Literal | Class::Number => Some(Colour::Yellow),
+        Class::Keyword | Class::BuiltIn | Class::Meta => Some(Colour::Magenta),
+        Class::Literal | Class::Number | Class::Decorator => Some(Colour::Yellow),
         Class::Name => None,
-        Class::Property => Some(Colour::Blue),
+        Class::Property | Class::Function => Some(Colour::Blue),
+        Class::ClassName | Class::TypeName => Some(Colour::Cyan),
         Class::Text | Class::Template => Some(Colour::Green),
         Class::Expression => Some(Colour::Cyan),
         Class::Comment => Some(Colour::Grey),

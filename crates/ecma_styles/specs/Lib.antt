@@ -1,1 +1,4 @@
+pub mod Beside
+pub mod Roles
 pub mod Styles
+pub mod Tokens

@@ -5,19 +5,23 @@ use Rattle.ecma_word.specs.declared.word.WordKind.{WordKind}
 use Rattle.ecma_word.specs.declared.word.WordKind.TheVariants as word
 use Rattle.ecma_token.specs.declared.kind.TokenKind.{TokenKind}
 use Rattle.ecma_token.specs.declared.kind.TokenKind.TheVariants as kind
-use Rattle.ecma_state.specs.declared.kept.Kept.{Kept}
-use Rattle.ecma_classes.specs.Classes.{holds_byte}
 use Rattle.ecma_classes.specs.declared.piece.Class as piece
 use Rattle.ecma_classes.specs.declared.piece.Class.TheVariants as pieces
 use Rattle.ecma_classes.specs.declared.piece.Piece.{Piece}
 use Rattle.ecma_styles.specs.declared.«class».Class.{Class}
-use Rattle.ecma_styles.specs.declared.«class».Class.TheVariants.{Keyword, Literal, Name, Property, Text, Template, Number, Expression, Comment, Wrong}
+use Rattle.ecma_styles.specs.declared.«class».Class.TheVariants.{Keyword, Literal, Name, Property, Function, ClassName, TypeName, Decorator, Meta, BuiltIn, Text, Template, Number, Expression, Comment, Wrong}
 
 abbrev pub class_name : Class → List ℕ
 class_name Keyword = codes "keyword"
 class_name Literal = codes "literal"
 class_name Name = codes "name"
 class_name Property = codes "property"
+class_name Function = codes "function"
+class_name ClassName = codes "class"
+class_name TypeName = codes "type"
+class_name Decorator = codes "decorator"
+class_name Meta = codes "meta"
+class_name BuiltIn = codes "builtin"
 class_name Text = codes "string"
 class_name Template = codes "template"
 class_name Number = codes "number"
@@ -38,7 +42,7 @@ names_property (Some kind.Dot) = true
 names_property (Some kind.Hash) = true
 names_property _ = false
 
--- the class of a token of this kind, by the kind of the token before; punctuation has none
+-- the plain class of a token of this kind, by the kind of the token before; punctuation has none
 abbrev pub class_of : TokenKind → Option TokenKind → Option Class
 class_of (kind.Word w) previous = Some (if names_property previous then Property else word_class w)
 class_of kind.Str previous = Some Text
@@ -50,14 +54,6 @@ class_of kind.Regex previous = Some Expression
 class_of kind.Shebang previous = Some Comment
 class_of kind.Error previous = Some Wrong
 class_of _ previous = None
-
--- the classes of tokens that hold a byte, in order
-abbrev pub classes_behind : Option TokenKind → List Kept → List (Option Class)
-classes_behind previous [] = []
-classes_behind previous (k ∷ ks) = (if holds_byte k.span then class_of k.kind previous ∷ [] else []) ++ classes_behind (Some k.kind) ks
-
-abbrev pub token_classes : List Kept → List (Option Class)
-token_classes kept = classes_behind None kept
 
 -- a part of a text, and its class
 pub record Styled : Type 0 where

@@ -1,21 +1,29 @@
 //! What a token is to a reader, as a stylesheet names it.
-ghost use Rattle.std.specs.Prelude.{◌≡◌, IfOk};
+ghost use Rattle.std.specs.Prelude.{◌≡◌};
 ghost use Rattle.ecma_styles.specs.Styles as style;
 
-use ecma_state::Kept;
 use ecma_syntax::WordKind;
 use ecma_token::TokenKind;
-use std::alloc::{AllocError, Global};
 
 /// What a part of a text is, as a stylesheet names it.
 #[derive(Clone, Copy, Debug, PartialEq, Eq)]
 pub enum Class {
     Keyword,
-    /// `null`, `true` or `false`.
+    /// `null`, `true` or `false`; `undefined` where it is read.
     Literal,
     Name,
-    /// A word behind `.` or `#`.
+    /// A word behind `.` or `#`, or a key.
     Property,
+    /// A function where it is called or declared.
+    Function,
+    /// A class, an interface or an enumeration where it is declared, extended or made.
+    ClassName,
+    TypeName,
+    Decorator,
+    /// `import.meta`, `new.target`.
+    Meta,
+    /// `this` or `super`.
+    BuiltIn,
     Text,
     /// The text of a template, and its back quotes.
     Template,
@@ -37,6 +45,12 @@ impl Class {
             Class::Literal => "literal",
             Class::Name => "name",
             Class::Property => "property",
+            Class::Function => "function",
+            Class::ClassName => "class",
+            Class::TypeName => "type",
+            Class::Decorator => "decorator",
+            Class::Meta => "meta",
+            Class::BuiltIn => "builtin",
             Class::Text => "string",
             Class::Template => "template",
             Class::Number => "number",
@@ -56,7 +70,8 @@ impl Class {
         }
     }
 
-    /// The class of a token of this kind, behind one of that kind or none. Punctuation has none.
+    /// The plain class of a token of this kind, behind one of that kind or none, whatever else stands beside it. Punctuation
+    /// has none.
     pub fn of(kind: TokenKind, previous: Option<TokenKind>) -> Option<Class>
         ensures { result ≡ style.class_of kind previous }
     {
@@ -77,23 +92,4 @@ impl Class {
             _ => None,
         }
     }
-}
-
-/// The classes of the tokens that hold a byte, in order.
-///
-/// # Errors
-///
-/// `AllocError` where allocation fails.
-pub fn token_classes(alloc: Global, kept: &[Kept]) -> Result<Vec<Option<Class>>, AllocError>
-    ensures { IfOk result (λ v. v.items ≡ style.token_classes kept.now) }
-{
-    let mut classes = Vec::new(alloc);
-    let mut previous = None;
-    for token in kept {
-        if token.span.lo.0 < token.span.hi.0 {
-            classes.push(Class::of(token.kind, previous))?;
-        }
-        previous = Some(token.kind);
-    }
-    Ok(classes)
 }

@@ -1,6 +1,7 @@
 use Rattle.std.proofs.Common.{◌≡◌, ◌∙◌, ◌++◌, ap, length}
 use Rattle.ecma_classes.specs.Classes.{classes_of}
-use Rattle.ecma_styles.specs.Styles.{styled, token_classes}
+use Rattle.ecma_styles.specs.Styles.{styled}
+use Rattle.ecma_styles.specs.Tokens.{token_classes}
 use Rattle.ecma_html.specs.Page.{front_of, page_of}
 use Rattle.ecma_html.specs.Unmark.{unmark}
 use Rattle.ecma_html.proofs.MarkupLemmas.{html-closed}

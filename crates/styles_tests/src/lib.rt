@@ -1,0 +1,5 @@
+//! Tests of `ecma_styles`.
+#![tactic(auto)]
+
+#[cfg(test)]
+mod tests;

@@ -1,0 +1,2 @@
+//! Tests of classes.
+mod styles;
