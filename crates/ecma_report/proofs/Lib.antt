@@ -1,3 +1,4 @@
 pub mod ModuleLemmas
+pub mod PieceLemmas
 pub mod ReportLemmas
 pub mod TokenLemmas

@@ -1,6 +1,5 @@
 -- Rows of one token more.
 use Rattle.std.proofs.Common.{◌≡◌, ◌∙◌, ℕ, List, [], ◌∷◌, ◌++◌, append-nil, append_assoc, Option, Some, None, refl, sym, ap, subst}
-use Rattle.std.specs.Prelude.{option_map}
 use Rattle.ecma_token.specs.View.{SpannedView}
 use Rattle.ecma_token.specs.declared.kind.TokenKind.{TokenKind}
 use Rattle.ecma_state.specs.Session.{kept_of}

@@ -1,5 +1,9 @@
 //! Rows of comments.
-ghost use Rattle.std.specs.Prelude.{◌<◌, ◌^◌, length};
+ghost use Rattle.std.specs.Prelude.{◌≡◌, ◌++◌, ◌<◌, ◌^◌, List, false, length, ℕ, OnOk};
+ghost use Rattle.ecma_report.specs.Comments as rows;
+ghost use Rattle.ecma_report.specs.Comments.{comment_rows, comments_by};
+ghost use Rattle.ecma_report.specs.Reports.{Adds, IsOf, Stays, writes_errors};
+ghost use Rattle.ecma_report.specs.Rows.{Look};
 
 use crate::faults::{pass_tokens, tell_found};
 use crate::report::{More, Report, Row, Stop};
@@ -13,7 +17,11 @@ use std::alloc::AllocError;
 use std::io::Write;
 
 /// Adds the row of a comment.
-fn push_comment(report: &mut Report, buffered: &BufferedComment) -> Result<(), AllocError> {
+fn push_comment(report: &mut Report, buffered: &BufferedComment) -> Result<(), AllocError>
+    ensures added { (look : Look) (name text : List ℕ) → IsOf look name text report.old
+        → OnOk result (report.new.out.items ≡ report.old.out.items ++ rows.comment_row look name text buffered.now) }
+    ensures stays { Stays report.old report.new }
+{
     report.push_row(Row {
         kind: comment_name(buffered.comment.kind),
         span: buffered.comment.span,
@@ -25,12 +33,16 @@ fn push_comment(report: &mut Report, buffered: &BufferedComment) -> Result<(), A
     })
 }
 
+/// Writes the rows of comments.
 fn push_comments<W: Write>(
     report: &mut Report,
     comments: &[BufferedComment],
     out: &mut W,
-) -> Result<(), Stop> {
-    for buffered in comments {
+) -> Result<(), Stop>
+    ensures { (look : Look) (name text : List ℕ) → IsOf look name text report.old
+        → OnOk result (Adds (W.contents out.old) (W.contents out.new) report.old.out.items report.new.out.items (comment_rows look name text comments.now)) }
+{
+    'comments: for buffered in comments {
         push_comment(report, buffered)?;
         report.pass_on(out)?;
     }
@@ -44,6 +56,8 @@ pub(crate) fn write_comments<'a, W: Write>(
     out: &mut W,
 ) -> Result<(), Stop>
     requires { length report.old.text.now < 2 ^ 32 }
+    ensures { (look : Look) (name text : List ℕ) → IsOf look name text report.old → writes_errors look.asked.face ≡ false
+        → OnOk result (Adds (W.contents out.old) (W.contents out.new) report.old.out.items report.new.out.items (comment_rows look name text (comments_by named.entry look text))) }
 {
     let mut reader = open(report, named, true)?;
     let mut errors = Vec::new(report.alloc);
@@ -59,5 +73,6 @@ pub(crate) fn write_comments<'a, W: Write>(
     let found = in_order(report.alloc, errors, recorded.into_vec(), waiting)?;
     tell_unmet(report, named, rereads)?;
     tell_found(report, &found, out)?;
-    push_comments(report, &comments, out)
+    push_comments(report, &comments, out)?;
+    Ok(())
 }

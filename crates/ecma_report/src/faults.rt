@@ -1,9 +1,15 @@
 //! Errors: rows of their own, or faults of the file.
-ghost use Rattle.std.specs.Prelude.{◌≡◌, ◌++◌, ◌<◌, ◌^◌, [], false, length, map, option_map, OnOk};
+ghost use Rattle.std.specs.Prelude.{◌≡◌, ◌++◌, ◌<◌, ◌^◌, List, [], false, length, map, option_map, true, ℕ, OnOk};
 ghost use Rattle.ecma_token.specs.View.{error_view, spanned_view};
+ghost use Rattle.ecma_state.specs.Session.{Session};
+ghost use Rattle.ecma_slashes.specs.Rereads.{SlashRule};
 ghost use Rattle.ecma_reader.specs.Outputs.{errors_among};
-ghost use Rattle.ecma_reader.specs.Readers.{IsReady, tokens_found};
-ghost use Rattle.ecma_report.specs.Reports.{Adds, Stays, writes_errors};
+ghost use Rattle.ecma_reader.specs.Readers.{HasRead, IsReady, Shows, tokens_by, tokens_found};
+ghost use Rattle.ecma_faults.specs.Faults as faults;
+ghost use Rattle.ecma_report.specs.Errors as rows;
+ghost use Rattle.ecma_report.specs.Errors.{OfRowsByPlace, error_rows, errors_by};
+ghost use Rattle.ecma_report.specs.Reports.{Adds, IsOf, Stays, writes_errors};
+ghost use Rattle.ecma_report.specs.Rows.{Look};
 
 use crate::report::{More, Report, Row, Stop};
 use crate::slashes::{open, tell_unmet};
@@ -17,7 +23,9 @@ use std::io::Write;
 
 /// Adds the row of an error.
 fn push_error(report: &mut Report, found: &Found) -> Result<(), AllocError>
-    ensures { Stays report.old report.new }
+    ensures added { (look : Look) (name text : List ℕ) → IsOf look name text report.old
+        → OnOk result (report.new.out.items ≡ report.old.out.items ++ rows.error_row look name text (faults.view found.now)) }
+    ensures stays { Stays report.old report.new }
 {
     let message = found.error.kind().msg(report.alloc)?;
     report.push_row(Row {
@@ -42,6 +50,8 @@ fn push_fault(report: &mut Report, found: &Found) -> Result<(), AllocError>
 /// Tells of an error in a row of its own, or as a fault of the file; one that is shown in the text is told of there.
 fn tell_error(report: &mut Report, found: &Found) -> Result<(), AllocError>
     ensures out { writes_errors report.old.asked.face ≡ false → report.new.out ≡ report.old.out }
+    ensures added { (look : Look) (name text : List ℕ) → IsOf look name text report.old → writes_errors report.old.asked.face ≡ true
+        → OnOk result (report.new.out.items ≡ report.old.out.items ++ rows.error_row look name text (faults.view found.now)) }
     ensures stays { Stays report.old report.new }
 {
     report.is_faulty = report.is_faulty || found.origin != Origin::Waiting;
@@ -60,9 +70,11 @@ pub(crate) fn tell_found<W: Write>(
 ) -> Result<(), Stop>
     ensures adds { writes_errors report.old.asked.face ≡ false
         → OnOk result (Adds (W.contents out.old) (W.contents out.new) report.old.out.items report.new.out.items []) }
+    ensures rows { (look : Look) (name text : List ℕ) → IsOf look name text report.old → writes_errors report.old.asked.face ≡ true
+        → OnOk result (Adds (W.contents out.old) (W.contents out.new) report.old.out.items report.new.out.items (error_rows look name text (map faults.view found.now))) }
     ensures stays { OnOk result (Stays report.old report.new) }
 {
-    for one in found {
+    'found: for one in found {
         tell_error(report, one)?;
         report.pass_on(out)?;
     }
@@ -87,7 +99,11 @@ pub(crate) fn pass_tokens<'a>(
     reader: &mut Reader<'a>,
     errors: &mut Vec<Error<'a>>,
 ) -> Result<(), AllocError>
-    requires { IsReady reader.old }
+    requires ready { IsReady reader.old }
+    ensures kept { (rule : SlashRule) (begin : Session) → Shows rule begin [] reader.old → errors.old.items ≡ []
+        → OnOk result (map error_view errors.new.items ≡ errors_among (tokens_by rule begin)) }
+    ensures read { (rule : SlashRule) (begin : Session) → Shows rule begin [] reader.old → errors.old.items ≡ []
+        → OnOk result (HasRead rule begin reader.new) }
 {
     let mut slot = None;
     'tokens: while reader.read_into(&mut slot)? {
@@ -104,6 +120,9 @@ pub(crate) fn write_errors<'a, W: Write>(
     out: &mut W,
 ) -> Result<(), Stop>
     requires { length report.old.text.now < 2 ^ 32 }
+    ensures { (look : Look) (name text : List ℕ) → IsOf look name text report.old → writes_errors look.asked.face ≡ true
+        → OnOk result (OfRowsByPlace look name text (errors_by named.entry look text)
+        (λ all. Adds (W.contents out.old) (W.contents out.new) report.old.out.items report.new.out.items all)) }
 {
     let mut reader = open(report, named, false)?;
     let mut errors = Vec::new(report.alloc);
@@ -117,5 +136,6 @@ pub(crate) fn write_errors<'a, W: Write>(
         outcome.waiting.into_vec(),
     )?;
     tell_unmet(report, named, rereads)?;
-    tell_found(report, &found, out)
+    tell_found(report, &found, out)?;
+    Ok(())
 }

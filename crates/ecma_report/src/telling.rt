@@ -3,7 +3,10 @@ ghost use Rattle.std.specs.Prelude.{◌≡◌, ◌++◌, ◌<◌, ◌^◌, List,
 ghost use Rattle.std.specs.Io.KnownBytes.{Appends};
 ghost use Rattle.ecma_reader.specs.Readers.{tokens_by};
 ghost use Rattle.ecma_modules.specs.Modules.{exports_of, imports_of};
+ghost use Rattle.ecma_report.specs.Comments.{comment_rows, comments_by};
+ghost use Rattle.ecma_report.specs.Errors.{OfRowsByPlace, errors_by};
 ghost use Rattle.ecma_report.specs.Modules.{export_rows, import_rows, kept_by, module_options};
+ghost use Rattle.ecma_report.specs.Pieces.{piece_rows, pieces_by};
 ghost use Rattle.ecma_report.specs.Reports.{Adds, IsOf};
 ghost use Rattle.ecma_report.specs.Slashes.{rule_at};
 ghost use Rattle.ecma_report.specs.Tokens.{begun, token_rows};
@@ -32,6 +35,13 @@ fn write_face<'a, W: Write>(
         → OnOk result (Adds (W.contents out.old) (W.contents out.new) report.old.out.items report.new.out.items (import_rows look name text (imports_of (module_options look.asked) (kept_by named.entry look text)))) }
     ensures exports { (look : Look) (name text : List ℕ) → IsOf look name text report.old → look.asked.face ≡ face.Exports
         → OnOk result (Adds (W.contents out.old) (W.contents out.new) report.old.out.items report.new.out.items (export_rows look name text (exports_of (module_options look.asked) (kept_by named.entry look text)))) }
+    ensures comments { (look : Look) (name text : List ℕ) → IsOf look name text report.old → look.asked.face ≡ face.Comments
+        → OnOk result (Adds (W.contents out.old) (W.contents out.new) report.old.out.items report.new.out.items (comment_rows look name text (comments_by named.entry look text))) }
+    ensures errors { (look : Look) (name text : List ℕ) → IsOf look name text report.old → look.asked.face ≡ face.Errors
+        → OnOk result (OfRowsByPlace look name text (errors_by named.entry look text)
+        (λ all. Adds (W.contents out.old) (W.contents out.new) report.old.out.items report.new.out.items all)) }
+    ensures classes { (look : Look) (name text : List ℕ) → IsOf look name text report.old → look.asked.face ≡ face.Classes
+        → OnOk result (Adds (W.contents out.old) (W.contents out.new) report.old.out.items report.new.out.items (piece_rows look name text (pieces_by named.entry look text))) }
 {
     match report.asked.face {
         Face::Tokens => write_tokens(report, named, out),
@@ -69,6 +79,16 @@ pub fn tell<'a, W: Write>(
         → OnOk result (Appends (W.contents out.old) (W.contents out.new) (report.old.out.items ++ import_rows look name text (imports_of (module_options look.asked) (kept_by named.entry look text)))) }
     ensures exports { (look : Look) (name text : List ℕ) → IsOf look name text report.old → look.asked.face ≡ face.Exports
         → OnOk result (Appends (W.contents out.old) (W.contents out.new) (report.old.out.items ++ export_rows look name text (exports_of (module_options look.asked) (kept_by named.entry look text)))) }
+    // Where comments are asked for, it is the row of each, in the order in which they are handed over.
+    ensures comments { (look : Look) (name text : List ℕ) → IsOf look name text report.old → look.asked.face ≡ face.Comments
+        → OnOk result (Appends (W.contents out.old) (W.contents out.new) (report.old.out.items ++ comment_rows look name text (comments_by named.entry look text))) }
+    // Where errors are asked for, it is the row of each, in order of place.
+    ensures errors { (look : Look) (name text : List ℕ) → IsOf look name text report.old → look.asked.face ≡ face.Errors
+        → OnOk result (OfRowsByPlace look name text (errors_by named.entry look text)
+        (λ all. Appends (W.contents out.old) (W.contents out.new) (report.old.out.items ++ all))) }
+    // Where pieces are asked for, it is the row of each, and they cover the text.
+    ensures classes { (look : Look) (name text : List ℕ) → IsOf look name text report.old → look.asked.face ≡ face.Classes
+        → OnOk result (Appends (W.contents out.old) (W.contents out.new) (report.old.out.items ++ piece_rows look name text (pieces_by named.entry look text))) }
 {
     write_face(report, named, out)?;
     report.flush(out)?;

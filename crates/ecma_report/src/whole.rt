@@ -1,5 +1,5 @@
 //! What is told of a text by all of its tokens: the canonical text, the pieces, and the text as HTML.
-ghost use Rattle.std.specs.Prelude.{◌≡◌, ◌<◌, ◌^◌, Bool, List, length, IfOk};
+ghost use Rattle.std.specs.Prelude.{◌≡◌, ◌++◌, ◌<◌, ◌^◌, Bool, List, length, ℕ, IfOk, OnOk};
 ghost use Rattle.std.specs.Str.{chars};
 ghost use Rattle.ecma_state.specs.Run.{start_of};
 ghost use Rattle.ecma_state.specs.declared.settings.Settings.{Settings};
@@ -9,10 +9,16 @@ ghost use Rattle.ecma_options.specs.Begin.{context, settings, whole};
 ghost use Rattle.ecma_options.specs.declared.options.Options.{Options};
 ghost use Rattle.ecma_slashes.specs.Rereads.{SlashRule, text_steps_by};
 ghost use Rattle.ecma_canonical.specs.Canonical.{GathersPlainly, IsCanon};
-ghost use Rattle.ecma_classes.specs.Classes.{begin};
+ghost use Rattle.ecma_classes.specs.Classes.{begin, classes_of};
 ghost use Rattle.ecma_pieces.specs.Covered.{MayBeCovered};
 ghost use Rattle.ecma_html.specs.Unmark.{shown, unmark};
 ghost use Rattle.ecma_report.specs.Html.{html_by};
+ghost use Rattle.ecma_report.specs.Pieces as rows;
+ghost use Rattle.ecma_report.specs.Pieces.{piece_rows, pieces_by};
+ghost use Rattle.ecma_report.specs.Reports as reports;
+ghost use Rattle.ecma_report.specs.Reports.{Adds, IsOf, Stays};
+ghost use Rattle.ecma_report.specs.Rows.{Look};
+ghost use Rattle.ecma_report.specs.declared.words.Face.TheVariants as face;
 
 use crate::faults::tell_found;
 use crate::report::{More, Report, Row, Stop, write_all};
@@ -71,7 +77,11 @@ fn write_canonical<W: Write>(
 }
 
 /// Adds the row of a piece.
-fn push_piece(report: &mut Report, piece: Piece) -> Result<(), AllocError> {
+fn push_piece(report: &mut Report, piece: Piece) -> Result<(), AllocError>
+    ensures added { (look : Look) (name text : List ℕ) → IsOf look name text report.old
+        → OnOk result (report.new.out.items ≡ report.old.out.items ++ rows.piece_row look name text piece) }
+    ensures stays { Stays report.old report.new }
+{
     let text = report.at(piece.span);
     report.push_row(Row {
         kind: piece_name(piece.class),
@@ -81,8 +91,12 @@ fn push_piece(report: &mut Report, piece: Piece) -> Result<(), AllocError> {
     })
 }
 
-fn push_pieces<W: Write>(report: &mut Report, pieces: &[Piece], out: &mut W) -> Result<(), Stop> {
-    for piece in pieces {
+/// Writes the rows of pieces.
+fn push_pieces<W: Write>(report: &mut Report, pieces: &[Piece], out: &mut W) -> Result<(), Stop>
+    ensures { (look : Look) (name text : List ℕ) → IsOf look name text report.old
+        → OnOk result (Adds (W.contents out.old) (W.contents out.new) report.old.out.items report.new.out.items (piece_rows look name text pieces.now)) }
+{
+    'pieces: for piece in pieces {
         push_piece(report, *piece)?;
         report.pass_on(out)?;
     }
@@ -92,11 +106,15 @@ fn push_pieces<W: Write>(report: &mut Report, pieces: &[Piece], out: &mut W) -> 
 fn write_pieces<W: Write>(report: &mut Report, gathered: &Gathered, out: &mut W) -> Result<(), Stop>
     requires fits { length report.old.text.now < 2 ^ 32 }
     requires covered { MayBeCovered (begin 0 (chars report.old.text.now)) gathered.now.kept.items gathered.now.comments.items }
+    ensures { (look : Look) (name text : List ℕ) → IsOf look name text report.old
+        → OnOk result (Adds (W.contents out.old) (W.contents out.new) report.old.out.items report.new.out.items
+        (piece_rows look name text (classes_of 0 (length text) gathered.now.kept.items gathered.now.comments.items))) }
 {
     let kept = gathered.kept.as_slice();
     let comments = gathered.comments.as_slice();
     let pieces = classes(report.alloc, report.text, START, kept, comments)?;
-    push_pieces(report, &pieces, out)
+    push_pieces(report, &pieces, out)?;
+    Ok(())
 }
 
 /// The text as HTML, or a whole page of it where that is asked for.
@@ -157,12 +175,25 @@ fn write_gathered<W: Write>(
     requires fits { length report.old.text.now < 2 ^ 32 }
     requires plain { (settings : Settings) × (steps : List Step) × GathersPlainly settings (begin 0 (chars report.old.text.now)) steps gathered.now }
     requires covered { MayBeCovered (begin 0 (chars report.old.text.now)) gathered.now.kept.items gathered.now.comments.items }
+    ensures classes { (look : Look) (name text : List ℕ) → IsOf look name text report.old → look.asked.face ≡ face.Classes
+        → OnOk result (Adds (W.contents out.old) (W.contents out.new) report.old.out.items report.new.out.items
+        (piece_rows look name text (classes_of 0 (length text) gathered.now.kept.items gathered.now.comments.items))) }
 {
     match report.asked.face {
         Face::Classes => write_pieces(report, gathered, out),
         Face::Html => write_html(report, gathered, out),
         Face::Show => write_shown(report, gathered, found, out),
         _ => write_canonical(report, gathered, out),
+    }
+}
+
+/// Whether comments are collected for it.
+fn collects_comments(face: Face) -> bool
+    ensures { result ≡ reports.collects_comments face }
+{
+    match face {
+        Face::Canonical => false,
+        _ => true,
     }
 }
 
@@ -173,11 +204,13 @@ pub(crate) fn tell_gathered<'a, W: Write>(
     out: &mut W,
 ) -> Result<(), Stop>
     requires { length report.old.text.now < 2 ^ 32 }
+    ensures classes { (look : Look) (name text : List ℕ) → IsOf look name text report.old → look.asked.face ≡ face.Classes
+        → OnOk result (Adds (W.contents out.old) (W.contents out.new) report.old.out.items report.new.out.items (piece_rows look name text (pieces_by named.entry look text))) }
 {
     let settings = report
         .asked
         .options
-        .settings(report.asked.face != Face::Canonical);
+        .settings(collects_comments(report.asked.face));
     let context = report.asked.options.context();
     let slashes = slashes_at(named);
     let read = read_out(
@@ -198,5 +231,6 @@ pub(crate) fn tell_gathered<'a, W: Write>(
     let found = in_order(report.alloc, refusals, recorded.into_vec(), waiting)?;
     tell_unmet(report, named, rereads)?;
     tell_found(report, &found, out)?;
-    write_gathered(report, &gathered, &found, out)
+    write_gathered(report, &gathered, &found, out)?;
+    Ok(())
 }

@@ -1,7 +1,38 @@
+use Rattle.std.proofs.Common.{ap, map}
+use Rattle.std.specs.Prelude.{option_map}
+use Rattle.ecma_token.specs.View.{SpannedView, error_view, refusal_of, spanned_view}
+use Rattle.ecma_reader.specs.Readers.{FlatMaps}
+use Rattle.ecma_reader.proofs.FoldLemmas.{flat_mapped-next, told-end, told-start}
 use Rattle.ecma_report.proofs.faults.pass_tokens.Goals as goal
 
 pub read_into-requires : goal.read_into-requires
-read_into-requires c = record { ready = c.tokens.invariant }
+read_into-requires c = record { ready = c.tokens.invariant.0 }
+
+pub tokens-init : goal.tokens-init
+tokens-init c = (
+  c.requires.ready,
+  λ rule begin shows none. told-start rule begin (FlatMaps (λ t. refusal_of t.token) (map error_view c.args.errors.now.items)) c.args.reader.now shows (ap (map error_view) none),
+)
 
 pub tokens-preserved : goal.tokens-preserved
-tokens-preserved c = c.in_ok-read_into.ensures.ready c.if-branch.true
+tokens-preserved c =
+    let ok = c.in_ok-read_into.ensures in
+    let found = option_map spanned_view c.read_into.new.slot in (
+      ok.ready c.if-branch.true,
+      λ rule begin shows none.
+          let tells = c.tokens.invariant.1 rule begin shows none in
+          flat_mapped-next (λ (t : SpannedView). refusal_of t.token) rule begin (map error_view c.tokens.errors.items) (map error_view c.keep_error.new.errors.items) c.tokens.reader c.read_into.new.self found _ tells
+          (ok.reads rule begin tells.tokens tells.shows) c.if-branch.true c.in_ok-keep_error.ensures,
+    )
+
+pub returns-clause-kept : goal.returns-clause-kept
+returns-clause-kept c = λ rule begin shows none.
+    let tells = c.tokens.invariant.1 rule begin shows none in
+    (told-end rule begin (FlatMaps (λ (t : SpannedView). refusal_of t.token) (map error_view c.tokens.errors.items)) c.tokens.reader c.read_into.new.self (option_map spanned_view c.read_into.new.slot) _ tells
+    (c.in_ok-read_into.ensures.reads rule begin tells.tokens tells.shows) c.if-branch.false).0
+
+pub returns-clause-read : goal.returns-clause-read
+returns-clause-read c = λ rule begin shows none.
+    let tells = c.tokens.invariant.1 rule begin shows none in
+    (told-end rule begin (FlatMaps (λ (t : SpannedView). refusal_of t.token) (map error_view c.tokens.errors.items)) c.tokens.reader c.read_into.new.self (option_map spanned_view c.read_into.new.slot) _ tells
+    (c.in_ok-read_into.ensures.reads rule begin tells.tokens tells.shows) c.if-branch.false).1

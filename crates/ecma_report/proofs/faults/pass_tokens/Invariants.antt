@@ -1,11 +1,17 @@
--- The reader may read on.
-use Rattle.ecma_state.specs.Session.{lexer_state}
+-- The errors of the tokens so far that are one were kept.
+use Rattle.std.proofs.Common.{◌≡◌, [], map}
+use Rattle.ecma_token.specs.View.{error_view, refusal_of}
+use Rattle.ecma_state.specs.Session.{Session, lexer_state}
 use Rattle.ecma_stream.specs.Ending.{most_tokens}
-use Rattle.ecma_reader.specs.Readers.{IsReady}
+use Rattle.ecma_slashes.specs.Rereads.{SlashRule}
+use Rattle.ecma_reader.specs.Readers.{FlatMaps, IsReady, Shows, Tells}
 use Rattle.ecma_report.proofs.faults.pass_tokens.Given as goal
 
 abbrev pub invariant-tokens : goal.invariant-tokens
-invariant-tokens l = IsReady l.reader
+invariant-tokens l =
+    IsReady l.reader
+    × ((rule : SlashRule) (begin : Session) → Shows rule begin [] l.initial.reader → l.initial.errors.items ≡ []
+    → Tells rule begin (FlatMaps (λ t. refusal_of t.token) (map error_view l.errors.items)) l.reader)
 
 abbrev pub decreases-tokens : goal.decreases-tokens
 decreases-tokens l = most_tokens (lexer_state l.reader.lexer)

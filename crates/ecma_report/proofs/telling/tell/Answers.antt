@@ -1,7 +1,10 @@
 use Rattle.std.proofs.Common.{None}
 use Rattle.ecma_modules.specs.Modules.{exports_of, imports_of}
 use Rattle.ecma_reader.specs.Readers.{tokens_by}
+use Rattle.ecma_report.specs.Comments.{comment_rows, comments_by}
+use Rattle.ecma_report.specs.Errors.{error_rows}
 use Rattle.ecma_report.specs.Modules.{export_rows, import_rows, kept_by, module_options}
+use Rattle.ecma_report.specs.Pieces.{piece_rows, pieces_by}
 use Rattle.ecma_report.specs.Slashes.{rule_at}
 use Rattle.ecma_report.specs.Tokens.{begun, token_rows}
 use Rattle.ecma_report.proofs.ReportLemmas.{flushed-all}
@@ -18,4 +21,15 @@ returns g c =
           written (import_rows ask file bytes (imports_of (module_options ask.asked) (kept_by c.args.named ask bytes))) (c.in_ok-write_face.ensures.imports ask file bytes of face) flushed.written flushed.none;
       exports = λ ask file bytes of face.
           written (export_rows ask file bytes (exports_of (module_options ask.asked) (kept_by c.args.named ask bytes))) (c.in_ok-write_face.ensures.exports ask file bytes of face) flushed.written flushed.none;
+      comments = λ ask file bytes of face.
+          written (comment_rows ask file bytes (comments_by c.args.named ask bytes)) (c.in_ok-write_face.ensures.comments ask file bytes of face) flushed.written flushed.none;
+      errors = λ ask file bytes of face.
+          let told = c.in_ok-write_face.ensures.errors ask file bytes of face in
+          record {
+            ordered = told.ordered;
+            by_place = told.by_place;
+            holds = written (error_rows ask file bytes told.ordered) told.holds flushed.written flushed.none;
+          };
+      classes = λ ask file bytes of face.
+          written (piece_rows ask file bytes (pieces_by c.args.named ask bytes)) (c.in_ok-write_face.ensures.classes ask file bytes of face) flushed.written flushed.none;
     }

@@ -1,4 +1,4 @@
-use Rattle.std.proofs.Common.{refl, true}
+use Rattle.std.proofs.Common.{refl}
 use Rattle.ecma_options.specs.Begin.{context, settings, whole}
 use Rattle.ecma_slashes.specs.Rereads.{text_steps_by}
 use Rattle.ecma_slashes.proofs.PlainRuns.{texts_are_read_plainly}

@@ -1,0 +1,44 @@
+use Rattle.std.proofs.Common.{◌∙◌, [], ap, false, map, subst}
+use Rattle.ecma_token.specs.View.{error_view}
+use Rattle.ecma_options.specs.Begin.{begin}
+use Rattle.ecma_faults.specs.Faults.{IsByPlace, all_of, view}
+use Rattle.ecma_reader.specs.Outputs.{error_tokens}
+use Rattle.ecma_reader.specs.Readers.{Shows}
+use Rattle.ecma_report.specs.Errors.{error_rows}
+use Rattle.ecma_report.specs.Reports.{Adds, writes_errors}
+use Rattle.ecma_report.specs.Runs.{read_to}
+use Rattle.ecma_report.specs.Slashes.{rule_at}
+use Rattle.ecma_report.proofs.ReportLemmas.{said-of, stays-of}
+use Rattle.ecma_report.proofs.faults.write_errors.Goals as goal
+
+pub returns : goal.returns
+returns g c = λ ask file bytes of face.
+    let first = c.args.report.now in
+    let unmet = c.tell_unmet.new.report in
+    let last = c.tell_found.new.report in
+    let rule = rule_at c.args.named in
+    let begun = begin false ask.asked.options bytes in
+    let s = read_to false c.args.named ask bytes in
+    let outcome = c.finish-outcome.result in
+    let found = c.in_ok-found.found.items in
+    let before = g.W.Write.contents c.args.out.now in
+    let after = g.W.Write.contents c.tell_found.new.out in
+    let shows = said-of ask file bytes first (λ a n t. Shows rule (begin false a.asked.options t) [] c.in_ok-reader.reader) of c.in_ok-reader.ensures.shows in
+    let passed = c.in_ok-pass_tokens.ensures in
+    let none = c.new-errors.ensures.items in
+    let has = passed.read rule begun shows none in
+    let left = c.finish-outcome.ensures.left s has.at in
+    let tokens = passed.kept rule begun shows none in
+    let recorded = ap (map error_view) c.into_vec.ensures ∙ left.errors in
+    let waiting = ap (map error_view) c.into_vec-2.ensures ∙ left.waiting in
+    let own_recorded = map error_view c.into_vec.result.items in
+    let own_waiting = map error_view c.into_vec-2.result.items in
+    let all = ap (λ es. all_of es own_recorded own_waiting) tokens ∙ ap (λ es. all_of (error_tokens s) es own_waiting) recorded ∙ ap (λ es. all_of (error_tokens s) s.errors.recorded es) waiting in
+    let here = stays-of ask file bytes first unmet c.in_ok-tell_unmet.ensures.stays of in
+    let rows = c.in_ok-tell_found.ensures.rows ask file bytes here (ap (λ l. writes_errors l.asked.face) here.look ∙ face) in
+    let told = subst (λ fs. Adds before after unmet.out.items last.out.items (error_rows ask file bytes (map view fs))) c.deref.ensures.value rows in
+    record {
+      ordered = map view found;
+      by_place = subst (λ fs. IsByPlace fs (map view found)) all c.in_ok-found.ensures;
+      holds = subst (λ items. Adds before after items last.out.items (error_rows ask file bytes (map view found))) (ap (λ v. v.items) c.in_ok-tell_unmet.ensures.out) told;
+    }
