@@ -26,16 +26,22 @@ fn covered(alloc: Global) -> Result<Vec<Piece>, AllocError> {
 }
 
 /// The pieces of a text that is read to its end.
+fn pieces_once(alloc: Global, text: &str) -> Result<Vec<Piece>, AllocError>
+    requires { 0 + length text.now < 2 ^ 32 }
+{
+    let reads = [Step::Read, Step::Read, Step::Read, Step::Read];
+    classes_of_steps(alloc, &settings(), text, START, &reads)
+}
+
+/// The same, and, where that is refused, again.
 fn pieces(rt: &impl Print, alloc: Global, text: &str) -> io::Result<Vec<Piece>>
     requires { 0 + length text.now < 2 ^ 32 }
 {
-    let settings = settings();
-    let reads = [Step::Read, Step::Read, Step::Read, Step::Read];
-    match classes_of_steps(alloc, &settings, text, START, &reads) {
+    match pieces_once(alloc, text) {
         Ok(pieces) => Ok(pieces),
         Err(_) => {
             println!(rt; "refused classes_of_steps")?;
-            Ok(classes_of_steps(alloc, &settings, text, START, &reads)?)
+            Ok(pieces_once(alloc, text)?)
         }
     }
 }
@@ -56,17 +62,25 @@ fn cover_text(rt: &impl Print, alloc: Global, text: &str) -> io::Result<()> {
     tell_pieces(rt, &pieces(rt, alloc, text)?)
 }
 
-/// Covers texts with pieces.
-pub fn play(rt: &impl Print, alloc: Global) -> io::Result<()> {
-    println!(rt; "classes")?;
-    let pieces = match covered(alloc) {
-        Ok(pieces) => pieces,
+/// The pieces of a text of which nothing is kept, and, where that is refused, again.
+fn bare_pieces(rt: &impl Print, alloc: Global) -> io::Result<Vec<Piece>> {
+    match covered(alloc) {
+        Ok(pieces) => Ok(pieces),
         Err(_) => {
             println!(rt; "refused classes")?;
-            covered(alloc)?
+            Ok(covered(alloc)?)
         }
-    };
-    tell_pieces(rt, &pieces)?;
+    }
+}
+
+fn cover_bare(rt: &impl Print, alloc: Global) -> io::Result<()> {
+    println!(rt; "classes")?;
+    tell_pieces(rt, &bare_pieces(rt, alloc)?)
+}
+
+/// Covers texts with pieces.
+pub fn play(rt: &impl Print, alloc: Global) -> io::Result<()> {
+    cover_bare(rt, alloc)?;
     for text in COVERED {
         cover_text(rt, alloc, text)?;
     }

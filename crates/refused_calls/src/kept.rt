@@ -65,6 +65,47 @@ fn has_errors(added: Added, lexer: &Lexer, count: u32) -> io::Result<bool> {
     })
 }
 
+/// The error of a number, and, where that is refused, again.
+fn error<'a>(rt: &impl Print, alloc: Global, number: u32) -> io::Result<Error<'a>> {
+    match Error::new(alloc, span(number), SyntaxError::TS1185) {
+        Ok(error) => Ok(error),
+        Err(_) => {
+            println!(rt; "refused error")?;
+            Ok(Error::new(alloc, span(number), SyntaxError::TS1185)?)
+        }
+    }
+}
+
+/// Writes what a refusal left.
+fn tell_refused(
+    rt: &impl Print,
+    added: Added,
+    lexer: &Lexer,
+    number: u32,
+    back: &Error,
+) -> io::Result<()> {
+    let same = has_errors(added, lexer, number)?;
+    let given = back.span() == span(number);
+    println!(rt;
+        "refused {}: same errors {same}, error back {given}",
+        added.name()
+    )
+}
+
+/// Adds an error that was given back.
+fn add_again<'a>(
+    rt: &impl Print,
+    added: Added,
+    lexer: &mut Lexer<'a>,
+    number: u32,
+    back: Error<'a>,
+) -> io::Result<()> {
+    tell_refused(rt, added, lexer, number, &back)?;
+    added
+        .add(lexer, back)
+        .map_err(|_| io::Error::from(io::ErrorKind::OutOfMemory))
+}
+
 /// Adds the error of this number, from 0 on, and, where that is refused, the error that is given back.
 fn add(
     rt: &impl Print,
@@ -73,25 +114,10 @@ fn add(
     lexer: &mut Lexer,
     number: u32,
 ) -> io::Result<()> {
-    let error = match Error::new(alloc, span(number), SyntaxError::TS1185) {
-        Ok(error) => error,
-        Err(_) => {
-            println!(rt; "refused error")?;
-            Error::new(alloc, span(number), SyntaxError::TS1185)?
-        }
-    };
-    let Err(back) = added.add(lexer, error) else {
-        return Ok(());
-    };
-    let same = has_errors(added, lexer, number)?;
-    let given = back.span() == span(number);
-    println!(rt;
-        "refused {}: same errors {same}, error back {given}",
-        added.name()
-    )?;
-    added
-        .add(lexer, back)
-        .map_err(|_| io::Error::from(io::ErrorKind::OutOfMemory))
+    match added.add(lexer, error(rt, alloc, number)?) {
+        Ok(()) => Ok(()),
+        Err(back) => add_again(rt, added, lexer, number, back),
+    }
 }
 
 /// Sets the flags of a module, and, where that is refused, again.
@@ -107,16 +133,19 @@ fn enter_module(rt: &impl Print, added: Added, lexer: &mut Lexer) -> io::Result<
 }
 
 /// Adds errors to a lexer, and says that the code is a module.
-fn play_errors(rt: &impl Print, alloc: Global, added: Added) -> io::Result<()> {
-    println!(rt; "{}", added.name())?;
-    let mut lexer = opened(alloc, "a")?;
+fn add_all(rt: &impl Print, alloc: Global, added: Added, lexer: &mut Lexer) -> io::Result<()> {
     for number in 0..TIMES {
-        add(rt, alloc, added, &mut lexer, number)?;
+        add(rt, alloc, added, lexer, number)?;
     }
     let waiting = lexer.module_errors().len();
-    enter_module(rt, added, &mut lexer)?;
+    enter_module(rt, added, lexer)?;
     let recorded = lexer.take_errors().len();
     println!(rt; "waiting {waiting}, then recorded {recorded}")
+}
+
+fn play_errors(rt: &impl Print, alloc: Global, added: Added) -> io::Result<()> {
+    println!(rt; "{}", added.name())?;
+    add_all(rt, alloc, added, &mut opened(alloc, "a")?)
 }
 
 /// The two lists of a buffer.
@@ -186,14 +215,25 @@ fn push(
     Ok(())
 }
 
+fn tell_comments_of(rt: &impl Print, buffer: &mut CommentsBuffer) -> io::Result<()> {
+    tell_comments(rt, &buffer.take_comments())
+}
+
+fn push_all(
+    rt: &impl Print,
+    pushed: Pushed,
+    buffer: &mut CommentsBuffer<'static>,
+) -> io::Result<()> {
+    for number in 0..TIMES {
+        push(rt, pushed, buffer, number)?;
+    }
+    tell_comments_of(rt, buffer)?;
+    tell_comments(rt, &buffer.take_pending_leading())
+}
+
 fn play_comments(rt: &impl Print, alloc: Global, pushed: Pushed) -> io::Result<()> {
     println!(rt; "{}", pushed.name())?;
-    let mut buffer = CommentsBuffer::new(alloc);
-    for number in 0..TIMES {
-        push(rt, pushed, &mut buffer, number)?;
-    }
-    tell_comments(rt, &buffer.take_comments())?;
-    tell_comments(rt, &buffer.take_pending_leading())
+    push_all(rt, pushed, &mut CommentsBuffer::new(alloc))
 }
 
 /// Adds a context, and, where that is refused, again.

@@ -84,6 +84,20 @@ fn has_first(buffer: &CommentsBuffer<'static>, listed: Listed, count: u32) -> io
     Ok(listed.are_first(&comments, count))
 }
 
+/// Adds the comment of this number behind a refusal.
+fn push_again(
+    rt: &impl Print,
+    alloc: Global,
+    listed: Listed,
+    buffer: &mut CommentsBuffer<'static>,
+    number: u32,
+) -> io::Result<()> {
+    let same = has_first(buffer, listed, number)?;
+    println!(rt; "refused push: same comments {same}")?;
+    let text = listed.atom(alloc, number)?;
+    Ok(add(buffer, number, text)?)
+}
+
 /// Adds the comment of this number, and, where that is refused, again.
 fn push(
     rt: &impl Print,
@@ -93,13 +107,10 @@ fn push(
     number: u32,
 ) -> io::Result<()> {
     let text = atom(rt, alloc, listed, number)?;
-    if add(buffer, number, text).is_ok() {
-        return Ok(());
+    match add(buffer, number, text) {
+        Ok(()) => Ok(()),
+        Err(_) => push_again(rt, alloc, listed, buffer, number),
     }
-    let same = has_first(buffer, listed, number)?;
-    println!(rt; "refused push: same comments {same}")?;
-    let again = listed.atom(alloc, number)?;
-    Ok(add(buffer, number, again)?)
 }
 
 /// Adds the comments from this number on, up to another.
@@ -131,6 +142,16 @@ fn copied(
     }
 }
 
+fn tell_taken(
+    rt: &impl Print,
+    listed: Listed,
+    buffer: &mut CommentsBuffer<'static>,
+) -> io::Result<()> {
+    let comments = buffer.take_comments();
+    let same = listed.are_first(&comments, listed.count);
+    println!(rt; "comments {}, same comments {same}", comments.len())
+}
+
 /// Adds the comments from this number on to a copy, and says whether it has those of the list then.
 fn go_on(
     rt: &impl Print,
@@ -141,21 +162,27 @@ fn go_on(
 ) -> io::Result<()> {
     let mut copy = copied(rt, buffer)?;
     fill(rt, alloc, listed, &mut copy, from, listed.count)?;
-    let comments = copy.take_comments();
-    let same = listed.are_first(&comments, listed.count);
-    println!(rt; "comments {}, same comments {same}", comments.len())
+    tell_taken(rt, listed, &mut copy)
+}
+
+fn fill_all(
+    rt: &impl Print,
+    alloc: Global,
+    listed: Listed,
+    buffer: &mut CommentsBuffer<'static>,
+) -> io::Result<()> {
+    fill(rt, alloc, listed, buffer, 0, BLOCK)?;
+    go_on(rt, alloc, listed, buffer, BLOCK)?;
+    fill(rt, alloc, listed, buffer, BLOCK, BLOCK + 1)?;
+    go_on(rt, alloc, listed, buffer, BLOCK + 1)?;
+    fill(rt, alloc, listed, buffer, BLOCK + 1, listed.count)?;
+    go_on(rt, alloc, listed, buffer, listed.count)
 }
 
 /// Adds the comments of a list, with a copy that goes on before the first block, behind it and at the end.
 fn play_listed(rt: &impl Print, alloc: Global, listed: Listed) -> io::Result<()> {
     println!(rt; "{SHARED}")?;
-    let mut buffer = CommentsBuffer::new(alloc);
-    fill(rt, alloc, listed, &mut buffer, 0, BLOCK)?;
-    go_on(rt, alloc, listed, &buffer, BLOCK)?;
-    fill(rt, alloc, listed, &mut buffer, BLOCK, BLOCK + 1)?;
-    go_on(rt, alloc, listed, &buffer, BLOCK + 1)?;
-    fill(rt, alloc, listed, &mut buffer, BLOCK + 1, listed.count)?;
-    go_on(rt, alloc, listed, &buffer, listed.count)?;
+    fill_all(rt, alloc, listed, &mut CommentsBuffer::new(alloc))?;
     println!(rt; "{SHARED}")
 }
 

@@ -84,32 +84,32 @@ fn gather_text(
     Ok(())
 }
 
-fn play_text(rt: &impl Print, alloc: Global, text: &str, steps: &[Step]) -> io::Result<()> {
-    if !StringInput::fits(text, START) {
-        return Ok(());
-    }
-    println!(rt; "replay {text:?}")?;
-    let found = played(rt, alloc, text, steps)?;
+fn tell_replay(rt: &impl Print, found: &Replay) -> io::Result<()> {
     let answers = found.answers.len();
     let kept = found.kept.len();
     println!(rt; "answers {answers}, kept {kept}, ended {}", found.ended)?;
     tell_errors(rt, "recorded", found.errors.as_slice())?;
     tell_errors(rt, "waiting", found.waiting.as_slice())?;
-    tell_comments(rt, &found.comments)?;
+    tell_comments(rt, &found.comments)
+}
+
+fn replay_text(rt: &impl Print, alloc: Global, text: &str, steps: &[Step]) -> io::Result<()>
+    requires { 0 + length text.now < 2 ^ 32 }
+{
+    let found = played(rt, alloc, text, steps)?;
+    tell_replay(rt, &found)?;
     let numbers = [
         found.errors.len(),
         found.waiting.len(),
         found.comments.len(),
     ];
-    gather_text(
-        rt,
-        alloc,
-        text,
-        steps,
-        found.kept.as_slice(),
-        found.ended,
-        numbers,
-    )?;
+    let kept = found.kept.as_slice();
+    gather_text(rt, alloc, text, steps, kept, found.ended, numbers)
+}
+
+fn tell_canon(rt: &impl Print, alloc: Global, text: &str, steps: &[Step]) -> io::Result<()>
+    requires { 0 + length text.now < 2 ^ 32 }
+{
     match canon(rt, alloc, text, steps)? {
         Canon::Text(text) => println!(rt; "canonical {:?}", text.as_str()),
         Canon::NotClean => println!(rt; "not clean"),
@@ -117,8 +117,23 @@ fn play_text(rt: &impl Print, alloc: Global, text: &str, steps: &[Step]) -> io::
     }
 }
 
-/// Plays reads over each text, what turns out to be a module, and a way back among many contexts.
-pub fn play(rt: &impl Print, alloc: Global) -> io::Result<()> {
+fn play_text(rt: &impl Print, alloc: Global, text: &str, steps: &[Step]) -> io::Result<()> {
+    if !StringInput::fits(text, START) {
+        return Ok(());
+    }
+    println!(rt; "replay {text:?}")?;
+    replay_text(rt, alloc, text, steps)?;
+    tell_canon(rt, alloc, text, steps)
+}
+
+fn play_texts(rt: &impl Print, alloc: Global, steps: &[Step]) -> io::Result<()> {
+    for text in TEXTS {
+        play_text(rt, alloc, text, steps)?;
+    }
+    Ok(())
+}
+
+fn play_reads(rt: &impl Print, alloc: Global) -> io::Result<()> {
     let reads = [
         Step::Read,
         Step::Read,
@@ -129,11 +144,15 @@ pub fn play(rt: &impl Print, alloc: Global) -> io::Result<()> {
         Step::Read,
         Step::Read,
     ];
-    for text in TEXTS {
-        play_text(rt, alloc, text, &reads)?;
-    }
+    play_texts(rt, alloc, &reads)
+}
+
+fn play_module(rt: &impl Print, alloc: Global) -> io::Result<()> {
     let module = [Step::Read, Step::Read, Step::Read, Step::SetCtx(module())];
-    play_text(rt, alloc, "a\n-->x\nb", &module)?;
+    play_text(rt, alloc, "a\n-->x\nb", &module)
+}
+
+fn play_back(rt: &impl Print, alloc: Global) -> io::Result<()> {
     let back = [
         Step::SetContexts(contexts(alloc)?),
         Step::Read,
@@ -145,4 +164,11 @@ pub fn play(rt: &impl Print, alloc: Global) -> io::Result<()> {
         Step::TakeErrors,
     ];
     play_text(rt, alloc, DEEP, &back)
+}
+
+/// Plays reads over each text, what turns out to be a module, and a way back among many contexts.
+pub fn play(rt: &impl Print, alloc: Global) -> io::Result<()> {
+    play_reads(rt, alloc)?;
+    play_module(rt, alloc)?;
+    play_back(rt, alloc)
 }

@@ -13,6 +13,12 @@ pub enum Way {
     ReadByFlag,
 }
 
+fn read_by_slot<'a>(lexer: &mut Lexer<'a>) -> Result<Option<TokenAndSpan<'a>>, AllocError> {
+    let mut slot = None;
+    lexer.read_into(&mut slot)?;
+    Ok(slot)
+}
+
 impl Way {
     /// The name of the call.
     pub fn name(self) -> &'static str {
@@ -34,11 +40,7 @@ impl Way {
         match self {
             Way::Read => lexer.read(),
             Way::Next => lexer.next().transpose(),
-            Way::ReadInto => {
-                let mut slot = None;
-                lexer.read_into(&mut slot)?;
-                Ok(slot)
-            }
+            Way::ReadInto => read_by_slot(lexer),
             // By the flag no slash is left to be read again.
             Way::ReadByFlag if lexer.reads_again() => Ok(None),
             Way::ReadByFlag => read_by_flag(lexer),

@@ -1,9 +1,9 @@
 //! Texts read to their end, where each token is read, gone back from and read again, by checkpoints.
 //!
 //! A checkpoint of before goes back from a refused read too, so that reading goes on.
-use crate::reading::handed;
-use crate::rows::{DEEPER, TEXTS, contexts, opened};
-use crate::told::{tell_comments, tell_errors};
+use crate::reading::tell_rest;
+use crate::rows::{DEEPER, TEXTS, opened, opened_deep};
+use crate::told::tell_answer;
 use ecma_stream::{Checkpoint, Lexer, Tokens};
 use ecma_token::TokenAndSpan;
 use std::alloc::Global;
@@ -23,6 +23,26 @@ fn saved(rt: &impl Print, lexer: &Lexer) -> io::Result<Checkpoint> {
     }
 }
 
+fn is_refused(lexer: &mut Lexer) -> bool {
+    lexer.read().is_err()
+}
+
+/// Goes back from a refused read, which is refused again before.
+fn go_back(rt: &impl Print, lexer: &mut Lexer, before: &Checkpoint) -> io::Result<()> {
+    let again = is_refused(lexer);
+    let went = lexer.rewind(before)?;
+    println!(rt; "refused read to go back from: again refused {again}, went {went}")
+}
+
+fn next_again<'a>(
+    rt: &impl Print,
+    lexer: &mut Lexer<'a>,
+    before: &Checkpoint,
+) -> io::Result<Option<TokenAndSpan<'a>>> {
+    go_back(rt, lexer, before)?;
+    Ok(lexer.read()?)
+}
+
 /// The next token. Where that is refused, the lexer goes back to before, and reads it then.
 fn next<'a>(
     rt: &impl Print,
@@ -31,13 +51,13 @@ fn next<'a>(
 ) -> io::Result<Option<TokenAndSpan<'a>>> {
     match lexer.read() {
         Ok(answer) => Ok(answer),
-        Err(_) => {
-            let again = lexer.read().is_err();
-            let went = lexer.rewind(before)?;
-            println!(rt; "refused read to go back from: again refused {again}, went {went}")?;
-            Ok(lexer.read()?)
-        }
+        Err(_) => next_again(rt, lexer, before),
     }
+}
+
+fn pass(rt: &impl Print, lexer: &mut Lexer, before: &Checkpoint) -> io::Result<()> {
+    next(rt, lexer, before)?;
+    Ok(())
 }
 
 /// Goes back. Where that is refused, the contexts and the flag are those of before, and it is done again.
@@ -60,17 +80,16 @@ fn back(rt: &impl Print, lexer: &mut Lexer, to: &Checkpoint) -> io::Result<()> {
     }
 }
 
+fn step_from(rt: &impl Print, lexer: &mut Lexer, before: &Checkpoint) -> io::Result<bool> {
+    pass(rt, lexer, before)?;
+    back(rt, lexer, before)?;
+    tell_answer(rt, next(rt, lexer, before)?)
+}
+
 /// Reads the next token, goes back, and reads it again; whether there was one.
 fn step(rt: &impl Print, lexer: &mut Lexer) -> io::Result<bool> {
     let before = saved(rt, lexer)?;
-    next(rt, lexer, &before)?;
-    back(rt, lexer, &before)?;
-    let Some(token) = next(rt, lexer, &before)? else {
-        return Ok(false);
-    };
-    let span = token.span;
-    println!(rt; "{}..{} {:?}", span.lo.0, span.hi.0, token.token)?;
-    Ok(true)
+    step_from(rt, lexer, &before)
 }
 
 /// Reads to the end, and writes all that was answered, and what stands behind the tokens.
@@ -80,19 +99,23 @@ pub(crate) fn read_out(rt: &impl Print, alloc: Global, lexer: &mut Lexer) -> io:
             break;
         }
     }
-    tell_errors(rt, "recorded", lexer.take_errors().as_slice())?;
-    tell_errors(rt, "waiting", lexer.module_errors())?;
-    tell_comments(rt, handed(rt, alloc, lexer)?.as_slice())
+    tell_rest(rt, alloc, lexer)
+}
+
+fn play_text(rt: &impl Print, alloc: Global, text: &str) -> io::Result<()> {
+    println!(rt; "going back {text:?}")?;
+    read_out(rt, alloc, &mut opened(alloc, text)?)
+}
+
+fn play_deep(rt: &impl Print, alloc: Global) -> io::Result<()> {
+    println!(rt; "going back {DEEPER:?}, deep")?;
+    read_out(rt, alloc, &mut opened_deep(alloc)?)
 }
 
 /// Reads the texts, and one among as many contexts as are held in place.
 pub fn play(rt: &impl Print, alloc: Global) -> io::Result<()> {
     for text in TEXTS {
-        println!(rt; "going back {text:?}")?;
-        read_out(rt, alloc, &mut opened(alloc, text)?)?;
+        play_text(rt, alloc, text)?;
     }
-    println!(rt; "going back {DEEPER:?}, deep")?;
-    let mut lexer = opened(alloc, DEEPER)?;
-    lexer.set_token_context(contexts(alloc)?);
-    read_out(rt, alloc, &mut lexer)
+    play_deep(rt, alloc)
 }

@@ -43,19 +43,31 @@ fn made(rt: &impl Print, alloc: Global, count: usize) -> io::Result<String> {
     }
 }
 
+fn read_by_copies(rt: &impl Print, alloc: Global, text: &str) -> io::Result<()> {
+    read_out(rt, alloc, Way::Read, &mut opened(alloc, text)?)
+}
+
+fn read_by_checkpoints(rt: &impl Print, alloc: Global, text: &str) -> io::Result<()> {
+    going_back::read_out(rt, alloc, &mut opened(alloc, text)?)
+}
+
 /// Reads a text, by copies and by checkpoints.
 fn play_text(rt: &impl Print, alloc: Global, text: &str) -> io::Result<()> {
     println!(rt; "{SHARED}")?;
-    read_out(rt, alloc, Way::Read, &mut opened(alloc, text)?)?;
-    going_back::read_out(rt, alloc, &mut opened(alloc, text)?)?;
+    read_by_copies(rt, alloc, text)?;
+    read_by_checkpoints(rt, alloc, text)?;
     println!(rt; "{SHARED}")
+}
+
+fn play_count(rt: &impl Print, alloc: Global, count: usize) -> io::Result<()> {
+    let text = made(rt, alloc, count)?;
+    play_text(rt, alloc, text.as_str())
 }
 
 /// Reads texts with 65 and 200 comments.
 pub fn play(rt: &impl Print, alloc: Global) -> io::Result<()> {
     for count in [1, 136] {
-        let text = made(rt, alloc, count)?;
-        play_text(rt, alloc, text.as_str())?;
+        play_count(rt, alloc, count)?;
     }
     Ok(())
 }

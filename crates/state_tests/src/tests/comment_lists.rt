@@ -141,13 +141,18 @@ impl Both {
         }
     }
 
+    /// Adds the comment of a number.
+    fn push_one(&mut self, number: u32) -> Result<(), AllocError> {
+        let alloc = *self.numbers.allocator();
+        self.numbers.push(number)?;
+        self.buffer
+            .push(comment(alloc, number, self.owning == Some(number))?)
+    }
+
     /// Adds so many comments, with the numbers from one on.
     fn push(&mut self, from: u32, count: u32) -> Result<(), AllocError> {
-        let alloc = *self.numbers.allocator();
         for number in from..from.saturating_add(count) {
-            self.numbers.push(number)?;
-            self.buffer
-                .push(comment(alloc, number, self.owning == Some(number))?)?;
+            self.push_one(number)?;
         }
         Ok(())
     }
@@ -168,14 +173,25 @@ impl Both {
         are
     }
 
+    /// Takes the first numbers, so many of them at most. The others stay.
+    fn take_first(&mut self, room: usize) -> Result<Vec<u32>, AllocError> {
+        let others = self.numbers.split_off(room.min(self.numbers.len()))?;
+        Ok(mem::replace(&mut self.numbers, others))
+    }
+
+    /// Hands the comments over to a store with room for so many, and says whether it gets those of the first numbers, and
+    /// all where no others stay.
+    fn gives(&mut self, room: usize, first: &[u32]) -> bool {
+        let mut store = Store::new(*self.numbers.allocator(), room);
+        let handed = self.buffer.hand_over(&mut store);
+        handed.is_ok() == self.numbers.is_empty() && are_of(&store.given, first, self.owning)
+    }
+
     /// Hands the comments over to a store with room for so many, and says whether it gets those of the first numbers.
     /// The others stay.
     fn hands_over(&mut self, room: usize) -> Result<bool, AllocError> {
-        let mut store = Store::new(*self.numbers.allocator(), room);
-        let others = self.numbers.split_off(room.min(self.numbers.len()))?;
-        let first = mem::replace(&mut self.numbers, others);
-        let handed = self.buffer.hand_over(&mut store);
-        Ok(handed.is_ok() == self.numbers.is_empty() && are_of(&store.given, &first, self.owning))
+        let first = self.take_first(room)?;
+        Ok(self.gives(room, &first))
     }
 }
 
@@ -219,13 +235,17 @@ const ROWS: &[Row] = &[
     (127, 70, 70, Some(2001)),
 ];
 
+/// Adds comments to a buffer and to its copy, as a row says.
+fn go_on(buffer: &mut Both, copy: &mut Both, row: &Row) -> Result<(), AllocError> {
+    buffer.push(1000, row.1)?;
+    copy.push(2000, row.2)
+}
+
 /// Fills a buffer as a row says, and makes the copy.
 fn filled(buffer: &mut Both, row: &Row) -> Result<Both, AllocError> {
-    let (before, behind, behind_copy, _) = *row;
-    buffer.push(0, before)?;
+    buffer.push(0, row.0)?;
     let mut copy = buffer.copy()?;
-    buffer.push(1000, behind)?;
-    copy.push(2000, behind_copy)?;
+    go_on(buffer, &mut copy, row)?;
     Ok(copy)
 }
 
@@ -236,20 +256,24 @@ fn take_both(first: &mut Both, second: &mut Both) -> bool {
 }
 
 /// Whether both have their comments, where those of the copy are taken first or last.
-fn are_taken(alloc: Global, row: &Row, copy_first: bool) -> Result<bool, AllocError> {
-    let mut buffer = Both::new(alloc, row.3);
-    let mut copy = filled(&mut buffer, row)?;
+fn are_taken_of(buffer: &mut Both, row: &Row, copy_first: bool) -> Result<bool, AllocError> {
+    let mut copy = filled(buffer, row)?;
     Ok(if copy_first {
-        take_both(&mut copy, &mut buffer)
+        take_both(&mut copy, buffer)
     } else {
-        take_both(&mut buffer, &mut copy)
+        take_both(buffer, &mut copy)
     })
+}
+
+fn are_taken(alloc: Global, row: &Row, copy_first: bool) -> Result<bool, AllocError> {
+    are_taken_of(&mut Both::new(alloc, row.3), row, copy_first)
 }
 
 #[test]
 fn a_buffer_and_its_copy_have_their_own_comments(rt: HostRuntime) -> Result<(), Fail> {
     for row in ROWS {
-        assert!(rt; are_taken(rt.alloc(), row, true)? && are_taken(rt.alloc(), row, false)?);
+        assert!(rt; are_taken(rt.alloc(), row, true)?);
+        assert!(rt; are_taken(rt.alloc(), row, false)?);
     }
     Ok(())
 }
@@ -257,16 +281,28 @@ fn a_buffer_and_its_copy_have_their_own_comments(rt: HostRuntime) -> Result<(), 
 /// Whether a copy of the copy has its comments, and then the copy has, to which one was added since.
 fn are_taken_of_copies(copy: &mut Both) -> Result<bool, AllocError> {
     let mut second = copy.copy()?;
+    are_taken_behind(copy, &mut second)
+}
+
+fn are_taken_behind(copy: &mut Both, second: &mut Both) -> Result<bool, AllocError> {
     copy.push(3000, 1)?;
     second.push(4000, 65)?;
-    Ok(take_both(&mut second, copy))
+    Ok(take_both(second, copy))
+}
+
+fn are_taken_of_copy(buffer: &mut Both, row: &Row) -> Result<bool, AllocError> {
+    let mut copy = filled(buffer, row)?;
+    are_taken_of_copies(&mut copy)
+}
+
+fn are_taken_in_turn(buffer: &mut Both, row: &Row) -> Result<bool, AllocError> {
+    let are = are_taken_of_copy(buffer, row)?;
+    Ok(buffer.takes() && are)
 }
 
 /// Whether a copy of the copy, the copy and the buffer have their comments.
 fn are_taken_of_three(alloc: Global, row: &Row) -> Result<bool, AllocError> {
-    let mut buffer = Both::new(alloc, row.3);
-    let are = are_taken_of_copies(&mut filled(&mut buffer, row)?)?;
-    Ok(buffer.takes() && are)
+    are_taken_in_turn(&mut Both::new(alloc, row.3), row)
 }
 
 #[test]
@@ -280,14 +316,20 @@ fn a_copy_of_a_copy_has_its_own_comments(rt: HostRuntime) -> Result<(), Fail> {
 /// Whether what was taken is gone, and the buffer and its copy then have their comments as new ones would.
 fn begins_anew(buffer: &mut Both, row: &Row) -> Result<bool, AllocError> {
     let are = buffer.takes() && buffer.takes();
+    Ok(are_taken_of(buffer, row, false)? && are)
+}
+
+fn begin_anew(buffer: &mut Both, copy: &mut Both, row: &Row) -> Result<bool, AllocError> {
+    Ok(begins_anew(buffer, row)? && begins_anew(copy, row)?)
+}
+
+fn are_taken_twice(buffer: &mut Both, row: &Row) -> Result<bool, AllocError> {
     let mut copy = filled(buffer, row)?;
-    Ok(take_both(buffer, &mut copy) && are)
+    begin_anew(buffer, &mut copy, row)
 }
 
 fn is_taken_twice(alloc: Global, row: &Row) -> Result<bool, AllocError> {
-    let mut buffer = Both::new(alloc, row.3);
-    let mut copy = filled(&mut buffer, row)?;
-    Ok(begins_anew(&mut buffer, row)? && begins_anew(&mut copy, row)?)
+    are_taken_twice(&mut Both::new(alloc, row.3), row)
 }
 
 #[test]
@@ -306,10 +348,18 @@ fn is_handed_over(buffer: &mut Both) -> Result<bool, AllocError> {
     Ok(buffer.takes() && first && others)
 }
 
+fn is_handed_over_by_copy(buffer: &mut Both, row: &Row) -> Result<bool, AllocError> {
+    let mut copy = filled(buffer, row)?;
+    is_handed_over(&mut copy)
+}
+
+fn both_are_handed_over(buffer: &mut Both, row: &Row) -> Result<bool, AllocError> {
+    let of_copy = is_handed_over_by_copy(buffer, row)?;
+    Ok(is_handed_over(buffer)? && of_copy)
+}
+
 fn are_handed_over(alloc: Global, row: &Row) -> Result<bool, AllocError> {
-    let mut buffer = Both::new(alloc, row.3);
-    let of_copy = is_handed_over(&mut filled(&mut buffer, row)?)?;
-    Ok(is_handed_over(&mut buffer)? && of_copy)
+    both_are_handed_over(&mut Both::new(alloc, row.3), row)
 }
 
 #[test]

@@ -74,15 +74,58 @@ impl Beside {
     }
 }
 
-/// A copy of a stack at each of these depths, between which it goes up and down.
-fn copies(rt: &impl Abort, alloc: Global, depths: &[usize]) -> Result<Vec<Beside>, AllocError> {
-    let mut copies = Vec::new(alloc);
+fn add_copy(alloc: Global, copies: &mut Vec<Beside>, beside: &Beside) -> Result<(), AllocError> {
+    copies.push(beside.copy(alloc)?).map_err(|_| AllocError)
+}
+
+fn add_copies(
+    rt: &impl Abort,
+    alloc: Global,
+    copies: &mut Vec<Beside>,
+    depths: &[usize],
+) -> Result<(), AllocError> {
     let mut beside = Beside::new(alloc);
     for (round, depth) in depths.iter().enumerate() {
         beside.go_to(rt, *depth, round)?;
-        copies.push(beside.copy(alloc)?).map_err(|_| AllocError)?;
+        add_copy(alloc, copies, &beside)?;
     }
+    Ok(())
+}
+
+/// A copy of a stack at each of these depths, between which it goes up and down.
+fn copies(rt: &impl Abort, alloc: Global, depths: &[usize]) -> Result<Vec<Beside>, AllocError> {
+    let mut copies = Vec::new(alloc);
+    add_copies(rt, alloc, &mut copies, depths)?;
     Ok(copies)
+}
+
+/// Takes a copy and a copy of it up and down, in turn.
+fn go_in_turn(
+    rt: &impl Abort,
+    copy: &mut Beside,
+    other: &mut Beside,
+    round: usize,
+) -> Result<(), AllocError> {
+    other.go_to(rt, 330, round)?;
+    copy.go_to(rt, 0, round)?;
+    other.go_to(rt, 0, round)
+}
+
+fn go_with_copy(
+    rt: &impl Abort,
+    alloc: Global,
+    copy: &mut Beside,
+    round: usize,
+) -> Result<(), AllocError> {
+    copy.assert_same(rt);
+    copy.go_to(rt, 200, round)?;
+    let mut other = copy.copy(alloc)?;
+    go_in_turn(rt, copy, &mut other, round)
+}
+
+fn go_on(rt: &impl Abort, alloc: Global, copy: Beside, round: usize) -> Result<(), AllocError> {
+    let mut copy = copy;
+    go_with_copy(rt, alloc, &mut copy, round)
 }
 
 #[test]
@@ -91,15 +134,9 @@ fn copies_of_deep_contexts_go_on_by_themselves(rt: HostRuntime) -> Result<(), Fa
     const DEPTHS: &[usize] = &[
         127, 128, 129, 130, 120, 66, 64, 60, 131, 195, 130, 260, 126, 62, 300, 301, 1, 192, 0, 257,
     ];
-    let alloc = rt.alloc();
-    for (round, copy) in copies(&rt, alloc, DEPTHS)?.into_iter().enumerate() {
-        let mut copy = copy;
-        copy.assert_same(&rt);
-        copy.go_to(&rt, 200, round)?;
-        let mut other = copy.copy(alloc)?;
-        other.go_to(&rt, 330, round)?;
-        copy.go_to(&rt, 0, round)?;
-        other.go_to(&rt, 0, round)?;
+    let copies = copies(&rt, rt.alloc(), DEPTHS)?;
+    for (round, copy) in copies.into_iter().enumerate() {
+        go_on(&rt, rt.alloc(), copy, round)?;
     }
     Ok(())
 }

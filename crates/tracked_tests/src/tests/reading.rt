@@ -1,11 +1,14 @@
 //! What is read of a text, and what is expected in it. What is expected of slashes is what ECMA-262 and TypeScript's grammar
 //! say, as their parsers do.
-use super::rows::{TOKENS, opened, tokens, write_some, write_token};
+use super::rows::{TOKENS, assert_text, opened, pass, tokens, write_some, write_span};
+use ecma_place::Span;
 use ecma_stream::Tokens;
 use ecma_syntax::Context;
+use ecma_token::TokenAndSpan;
 use ecma_tracked::Tracked;
 use listing::listing::{MODULE, PLAIN, Settings, TS};
-use std::alloc::AllocError;
+use std::alloc::{AllocError, Global};
+use std::process::Abort;
 use std::test::Fail;
 
 /// What a text is read by, the text, and its tokens with a space between them.
@@ -41,30 +44,57 @@ const TEXTS: &[Row] = &[
     (PLAIN, "", ""),
 ];
 
+fn assert_tokens(rt: &impl Abort, alloc: Global, row: &Row) -> Result<(), AllocError> {
+    let (settings, text, expected) = *row;
+    let found = tokens(alloc, settings, text)?;
+    assert_text(rt, found.as_str(), expected);
+    Ok(())
+}
+
 #[test]
 fn texts_have_their_tokens(rt: HostRuntime) -> Result<(), Fail> {
     for row in TEXTS {
-        let (settings, text, expected) = *row;
-        let found = tokens(rt.alloc(), settings, text)?;
-        assert_eq!(rt; found.as_str(), expected);
+        assert_tokens(&rt, rt.alloc(), row)?;
     }
     Ok(())
 }
 
-/// Writes what is expected before each token and at the end: `+` an operand, `-` none; with `=` behind it, where that is
-/// another, behind that.
-fn write_expected(out: &mut String, tracked: &mut Tracked) -> Result<(), AllocError> {
+/// Writes what is expected: `+` an operand, `-` none; with `=` behind it, where that is another, behind that.
+fn write_operand(out: &mut String, tracked: &mut Tracked) -> Result<(), AllocError> {
+    let plain = tracked.expects_operand(false)?;
+    let assign = tracked.expects_operand(true)?;
+    out.push(if plain { '+' } else { '-' })?;
+    if assign == plain {
+        return Ok(());
+    }
+    out.push(if assign { '+' } else { '-' })
+}
+
+/// Writes what is expected before each token and at the end.
+fn write_operands(out: &mut String, tracked: &mut Tracked) -> Result<(), AllocError> {
     for _ in 0..TOKENS {
-        let plain = tracked.expects_operand(false)?;
-        let assign = tracked.expects_operand(true)?;
-        out.push(if plain { '+' } else { '-' })?;
-        if assign != plain {
-            out.push(if assign { '+' } else { '-' })?;
-        }
-        if tracked.read()?.is_none() {
+        write_operand(out, tracked)?;
+        if !pass(tracked)? {
             break;
         }
     }
+    Ok(())
+}
+
+fn write_expected(
+    alloc: Global,
+    out: &mut String,
+    settings: Settings,
+    text: &str,
+) -> Result<(), AllocError> {
+    write_operands(out, &mut opened(alloc, settings, text)?)
+}
+
+fn assert_expected(rt: &impl Abort, alloc: Global, row: &Row) -> Result<(), AllocError> {
+    let (settings, text, expected) = *row;
+    let mut out = String::new(alloc);
+    write_expected(alloc, &mut out, settings, text)?;
+    assert_text(rt, out.as_str(), expected);
     Ok(())
 }
 
@@ -79,29 +109,46 @@ const EXPECTED: &[Row] = &[
 #[test]
 fn it_says_what_is_expected(rt: HostRuntime) -> Result<(), Fail> {
     for row in EXPECTED {
-        let (settings, text, expected) = *row;
-        let mut out = String::new(rt.alloc());
-        write_expected(&mut out, &mut opened(rt.alloc(), settings, text)?)?;
-        assert_eq!(rt; out.as_str(), expected);
+        assert_expected(&rt, rt.alloc(), row)?;
     }
     Ok(())
+}
+
+/// Where an item stands, which is let go here.
+fn span_of(item: Result<TokenAndSpan, AllocError>) -> Result<Span, AllocError> {
+    let token = item?;
+    Ok(token.span)
 }
 
 /// Writes what a tracked lexer gives as an iterator.
 fn write_items(out: &mut String, text: &str, tracked: &mut Tracked) -> Result<(), AllocError> {
     for item in tracked {
-        write_token(out, text, &item?)?;
+        write_span(out, text, span_of(item)?)?;
     }
+    Ok(())
+}
+
+fn write_items_of(
+    alloc: Global,
+    out: &mut String,
+    settings: Settings,
+    text: &str,
+) -> Result<(), AllocError> {
+    write_items(out, text, &mut opened(alloc, settings, text)?)
+}
+
+fn assert_items(rt: &impl Abort, alloc: Global, row: &Row) -> Result<(), AllocError> {
+    let (settings, text, expected) = *row;
+    let mut out = String::new(alloc);
+    write_items_of(alloc, &mut out, settings, text)?;
+    assert_text(rt, out.as_str(), expected);
     Ok(())
 }
 
 #[test]
 fn items_are_the_tokens(rt: HostRuntime) -> Result<(), Fail> {
     for row in TEXTS {
-        let (settings, text, expected) = *row;
-        let mut out = String::new(rt.alloc());
-        write_items(&mut out, text, &mut opened(rt.alloc(), settings, text)?)?;
-        assert_eq!(rt; out.as_str(), expected);
+        assert_items(&rt, rt.alloc(), row)?;
     }
     Ok(())
 }
@@ -114,15 +161,18 @@ fn write_strict(out: &mut String, text: &str, tracked: &mut Tracked) -> Result<(
         ..tracked.lexer().ctx()
     };
     tracked.set_ctx(context)?;
-    write_some(out, text, tracked, TOKENS)?;
-    Ok(())
+    write_some(out, text, tracked, TOKENS)
+}
+
+fn write_strict_of(alloc: Global, out: &mut String, text: &str) -> Result<(), AllocError> {
+    write_strict(out, text, &mut opened(alloc, PLAIN, text)?)
 }
 
 #[test]
 fn flags_are_set_between_tokens(rt: HostRuntime) -> Result<(), Fail> {
     let text = "a = /b/ / c";
     let mut out = String::new(rt.alloc());
-    write_strict(&mut out, text, &mut opened(rt.alloc(), PLAIN, text)?)?;
-    assert_eq!(rt; out.as_str(), "a = /b/ / c");
+    write_strict_of(rt.alloc(), &mut out, text)?;
+    assert_text(&rt, out.as_str(), "a = /b/ / c");
     Ok(())
 }

@@ -1,7 +1,6 @@
 //! What a refusal of memory leaves: this passes whichever request for memory is refused, one in each run
 //! (`rt try --test --fail-alloc N`).
 use super::rows::opened;
-use ecma_token::TokenAndSpan;
 use ecma_tracked::{Tracked, TrackedCheckpoint};
 use listing::listing::{COLLECTING, PLAIN, Settings, TS};
 use std::alloc::{AllocError, Global};
@@ -40,26 +39,33 @@ fn went_back<'a>(tracked: &mut Tracked<'a>, here: &TrackedCheckpoint) -> Result<
     }
 }
 
-/// The next token; where memory is refused, that which is read behind the checkpoint of before.
-fn read_through<'a>(tracked: &mut Tracked<'a>) -> Result<Option<TokenAndSpan<'a>>, AllocError> {
-    let here = saved(tracked)?;
-    match tracked.read() {
-        Ok(found) => Ok(found),
-        Err(_) => {
-            if tracked.read().is_ok() || !went_back(tracked, &here)? {
-                return Err(AllocError);
-            }
-            tracked.read()
-        }
-    }
-}
-
-/// Where the next token begins; behind the end the greatest place.
-fn next_place(tracked: &mut Tracked) -> Result<u32, AllocError> {
-    match read_through(tracked)? {
+/// Reads a token, which is let go here, and says where it begins; behind the end the greatest place.
+fn read_place(tracked: &mut Tracked) -> Result<u32, AllocError> {
+    match tracked.read()? {
         Some(token) => Ok(token.span.lo.0),
         None => Ok(u32::MAX),
     }
+}
+
+/// Reads behind a refused read: it is refused again, and then done behind the checkpoint of before.
+fn read_again(tracked: &mut Tracked, here: &TrackedCheckpoint) -> Result<u32, AllocError> {
+    if read_place(tracked).is_ok() || !went_back(tracked, here)? {
+        return Err(AllocError);
+    }
+    read_place(tracked)
+}
+
+fn read_from(tracked: &mut Tracked, here: &TrackedCheckpoint) -> Result<u32, AllocError> {
+    match read_place(tracked) {
+        Ok(place) => Ok(place),
+        Err(_) => read_again(tracked, here),
+    }
+}
+
+/// Where the next token begins; where memory is refused, that which is read behind the checkpoint of before.
+fn next_place(tracked: &mut Tracked) -> Result<u32, AllocError> {
+    let here = saved(tracked)?;
+    read_from(tracked, &here)
 }
 
 /// A thousand for each token, with the place of the last.

@@ -1,10 +1,10 @@
 //! What the texts of rows are read by, and how the tokens are written that are read.
-use ecma_place::{BytePos, StringInput};
+use ecma_place::{BytePos, Span, StringInput};
 use ecma_state::Settings;
-use ecma_token::TokenAndSpan;
 use ecma_tracked::Tracked;
 use listing::listing::{Settings as Row, flags, syntax};
 use std::alloc::{AllocError, Global};
+use std::process::Abort;
 
 /// More tokens than any row has.
 pub const TOKENS: usize = 60;
@@ -24,35 +24,69 @@ pub fn opened<'a>(alloc: Global, settings: Row, text: &'a str) -> Result<Tracked
     Tracked::new(alloc, &read_by, flags(settings), text, start)
 }
 
-/// Writes a token as it stands in the text, behind a space where something was written.
-pub fn write_token(out: &mut String, text: &str, token: &TokenAndSpan) -> Result<(), AllocError> {
+/// The texts are the same. Here alone, as it brings printing into a proof.
+pub fn assert_text(rt: &impl Abort, found: &str, expected: &str) {
+    assert_eq!(rt; found, expected);
+}
+
+/// Reads a token, which is let go here, and says where it stands.
+fn next_span(tracked: &mut Tracked) -> Result<Option<Span>, AllocError> {
+    match tracked.read()? {
+        Some(token) => Ok(Some(token.span)),
+        None => Ok(None),
+    }
+}
+
+/// Reads a token; whether there was one.
+pub fn pass(tracked: &mut Tracked) -> Result<bool, AllocError> {
+    Ok(next_span(tracked)?.is_some())
+}
+
+/// Reads so many tokens.
+pub fn pass_some(tracked: &mut Tracked, count: usize) -> Result<(), AllocError> {
+    for _ in 0..count {
+        pass(tracked)?;
+    }
+    Ok(())
+}
+
+/// Writes what stands there in the text, behind a space where something was written.
+pub fn write_span(out: &mut String, text: &str, span: Span) -> Result<(), AllocError> {
     if !out.is_empty() {
         out.push(' ')?;
     }
-    let found = text.get(token.span.lo.0 as usize..token.span.hi.0 as usize);
+    let found = text.get(span.lo.0 as usize..span.hi.0 as usize);
     out.push_str(found.unwrap_or("outside"))
 }
 
-/// Writes so many tokens, or all up to the end; whether the end was not met.
+/// Writes so many tokens, or all up to the end.
 pub fn write_some(
     out: &mut String,
     text: &str,
     tracked: &mut Tracked,
     count: usize,
-) -> Result<bool, AllocError> {
+) -> Result<(), AllocError> {
     for _ in 0..count {
-        let Some(token) = tracked.read()? else {
-            return Ok(false);
+        let Some(span) = next_span(tracked)? else {
+            break;
         };
-        write_token(out, text, &token)?;
+        write_span(out, text, span)?;
     }
-    Ok(true)
+    Ok(())
+}
+
+fn write_tokens(
+    alloc: Global,
+    out: &mut String,
+    settings: Row,
+    text: &str,
+) -> Result<(), AllocError> {
+    write_some(out, text, &mut opened(alloc, settings, text)?, TOKENS)
 }
 
 /// The tokens of a text.
 pub fn tokens(alloc: Global, settings: Row, text: &str) -> Result<String, AllocError> {
     let mut out = String::new(alloc);
-    let mut tracked = opened(alloc, settings, text)?;
-    write_some(&mut out, text, &mut tracked, TOKENS)?;
+    write_tokens(alloc, &mut out, settings, text)?;
     Ok(out)
 }
