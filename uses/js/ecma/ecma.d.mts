@@ -99,7 +99,7 @@ export interface ImportSpecifier {
     /** The statement, or the call. */
     readonly ss: number;
     readonly se: number;
-    /** -1 of a statement, -2 of `import.meta`, else where the bracket of `import(` is. */
+    /** -1 of a statement and of `require`, -2 of `import.meta`, else where the bracket of `import(` is. */
     readonly d: number;
     /** Where the attributes begin (the brace behind `with`, or the second argument of a call); -1: there are none. */
     readonly a: number;
@@ -107,6 +107,12 @@ export interface ImportSpecifier {
     readonly phase: 'defer' | 'source' | undefined;
     /** Types alone are imported or exported, as TypeScript's `type` says of the whole statement. */
     readonly type: boolean;
+    /** It is a `require("x")`, as the option `commonjs` asks for. */
+    readonly require: boolean;
+}
+export interface ImportOptions extends Options {
+    /** Find each `require("x")` of CommonJS too. */
+    commonjs?: boolean;
 }
 export interface ExportSpecifier {
     readonly n: string;
@@ -123,7 +129,7 @@ export interface ExportSpecifier {
 /** What a module imports and exports. It throws for nothing that a text says. A string in place of options is ignored. */
 export function imports(
     text: Source,
-    options?: Options | string,
+    options?: ImportOptions | string,
 ): [imports: ImportSpecifier[], exports: ExportSpecifier[], facade: boolean, hasModuleSyntax: boolean];
 
 /** What a string or a name says, of its spelling without quotes. */

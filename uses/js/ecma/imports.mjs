@@ -6,7 +6,9 @@ import { cook, withoutQuotes } from './values.mjs';
 // + 65536 * flags, and two numbers of 64 bits: how many rows of exports come before its own, and how many are its own.
 const IMPORT_WIDTH = 12, IMPORT_PLACES = 7;
 const [START, END, STATEMENT_START, STATEMENT_END, PAREN, ATTRIBUTES, , FORM, FIRST_EXPORT, , EXPORTS] = Array(IMPORT_WIDTH).keys();
-const CALL = 2, META = 3, AMBIENT = 5;
+const CALL = 2, META = 3, AMBIENT = 5, REQUIRE = 6;
+/** Asks for rows of `require`. */
+const COMMONJS_BIT = 32;
 const PHASES = [undefined, 'defer', 'source'];
 // Rows of exports: name and local name, each from where to where, flags.
 const EXPORT_WIDTH = 5, EXPORT_PLACES = 4;
@@ -56,7 +58,7 @@ function importOf(row, between) {
         d: form === CALL ? row[PAREN] : form === META ? D_META : D_STATIC,
         // No attributes begin where the text does.
         a: row[ATTRIBUTES] || NO_PLACE,
-        phase: PHASES[(row[FORM] >>> 8) & 0xff], type: (flags & TYPE_ONLY) !== 0,
+        phase: PHASES[(row[FORM] >>> 8) & 0xff], type: (flags & TYPE_ONLY) !== 0, require: form === REQUIRE,
     };
 }
 
@@ -72,8 +74,9 @@ function exportOf([s, e, ls, le, flags], isForeign, between) {
 /** What a module imports and exports, as es-module-lexer answers it: `[imports, exports, facade, hasModuleSyntax]`. */
 export function imports(text, options) {
     // es-module-lexer has the name of a file there.
-    const more = typeof options === 'string' ? undefined : options;
+    const { commonjs, ...more } = typeof options === 'string' ? {} : { ...options };
     return withText(text, { module: true, ...more }, (request) => {
+        if (commonjs) request.bits |= COMMONJS_BIT;
         const [importRows, exportRows, flags] = askImports(request);
         toUnits(request, importRows, IMPORT_WIDTH, IMPORT_PLACES);
         toUnits(request, exportRows, EXPORT_WIDTH, EXPORT_PLACES);

@@ -1,7 +1,7 @@
 // `imports`: texts of module code and what es-module-lexer's page says of them.
 import assert from 'node:assert/strict';
 import test from 'node:test';
-import { imports, load } from '../ecma/ecma.mjs';
+import { count, imports, load } from '../ecma/ecma.mjs';
 
 await load();
 
@@ -89,6 +89,17 @@ test('phases, and types alone', () => {
     for (const [text, wanted] of rows) assert.deepEqual(imports(text, { typescript: true })[0].map(({ n, phase, type }) => [n, phase, type]), wanted, text);
     const names = [['export { type A, b }', [['A', true], ['b', false]]], ['export interface A {}', [['A', true]]], ['export class A {}', [['A', false]]]];
     for (const [text, wanted] of names) assert.deepEqual(imports(text, { typescript: true })[1].map(({ n, type }) => [n, type]), wanted, text);
+});
+
+test('require, where it is asked for', () => {
+    const text = 'const a = require("b"), c = d.require("e"), f = require(g), { h } = require(\'i\')';
+    assert.deepEqual(imports(text)[0], []);
+    const found = imports(text, { commonjs: true, module: false })[0];
+    assert.deepEqual(found.map(({ n, s, e, ss, se, d, require }) => [n, text.slice(s, e), text.slice(ss, se), d, require]), [
+        ['b', 'b', 'require("b")', -1, true], ['i', 'i', "require('i')", -1, true],
+    ]);
+    assert.deepEqual(imports('import "a"; require("b")', { commonjs: true })[0].map(({ n, require }) => [n, require]), [['a', false], ['b', true]]);
+    assert.throws(() => count('a', { commonjs: true }), { code: 'BAD_OPTION' });
 });
 
 test('bytes have places in bytes', () => {
