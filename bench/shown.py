@@ -101,8 +101,8 @@ def declarations(folder):
     return KEPT[folder]
 
 
-def reached_sum(folder, below, parts, others):
-    """A sum of what the crate in the folder reaches of those in the folders `below`."""
+def reached(folder, below, parts, others):
+    """What the crate in the folder reaches of those in the folders `below`: rows of crate, path and declaration, in order."""
     wanted = set().union(*(words_of(text_of(path)) for path in [*files_below(folder, parts), *filter(os.path.isfile, others)]))
     by_name, whole = {}, []
     for crate in below:
@@ -111,16 +111,20 @@ def reached_sum(folder, below, parts, others):
             whole.append(row)
             for name in shown.names:
                 by_name.setdefault(name, []).append(row)
-    reached, queue, asked = set(), list(wanted), set(wanted)
+    found, queue, asked = set(), list(wanted), set(wanted)
     while queue:
         for row in by_name.get(queue.pop(), []):
-            if id(row) not in reached:
-                reached.add(id(row))
+            if id(row) not in found:
+                found.add(id(row))
                 new = row[2].uses - asked
                 asked |= new
                 queue += new
+    return [row for row in whole if id(row) in found]
+
+
+def reached_sum(folder, below, parts, others):
+    """A sum of what the crate in the folder reaches of those in the folders `below`."""
     total = hashlib.sha256()
-    for row in whole:
-        if id(row) in reached:
-            total.update(f"{row[0]} {row[1]}\n{row[2].text}\n".encode())
+    for crate, path, shown in reached(folder, below, parts, others):
+        total.update(f"{crate} {path}\n{shown.text}\n".encode())
     return total.hexdigest()[:16]
