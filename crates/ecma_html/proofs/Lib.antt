@@ -1,2 +1,3 @@
+pub mod MarkedLemmas
 pub mod MarkupLemmas
 pub mod PageLemmas

@@ -1,17 +1,16 @@
 -- Markup is taken away again; and pieces that cover a text lie in it.
-use Rattle.std.proofs.Common.{◌≡◌, ◌∙◌, ℕ, ◌+◌, ◌-◌, ◌<◌, ◌≤◌, Bool, true, false, cond, ◌==◌, List, [], ◌∷◌, ◌++◌, add-one, append_assoc, append-nil, Option, Some, None, length, drop, drop-cons, drop-drop, drop_of_length-le, refl, sym, subst, ap, arith}
+use Rattle.std.proofs.Common.{◌≡◌, ◌∙◌, ℕ, ◌+◌, ◌<◌, ◌≤◌, Bool, true, false, cond, ◌==◌, List, [], ◌∷◌, ◌++◌, add-one, append_assoc, append-nil, Option, Some, None, length, drop, drop-cons, refl, sym, subst, ap, arith}
 use Rattle.std.specs.Prelude.{codes, flat_map, fold, get_or, slice_range}
 use Rattle.std.proofs.lemmas.Bool.{eqb-true}
 use Rattle.std.proofs.lemmas.List.Sums.{fold-append}
-use Rattle.ecma_classes.specs.Classes.{Tile, joined}
-use Rattle.ecma_classes.specs.declared.piece.Class as piece
+use Rattle.ecma_classes.specs.Classes.{Tile}
 use Rattle.ecma_classes.specs.declared.piece.Class.TheVariants as pieces
 use Rattle.ecma_classes.specs.declared.piece.Piece.{Piece}
 use Rattle.ecma_styles.specs.declared.«class».Class.{Class}
 use Rattle.ecma_styles.specs.declared.«class».Class.TheVariants.{Keyword, Literal, Name, Property, Function, ClassName, TypeName, Decorator, Meta, BuiltIn, Text, Template, Number, Expression, Comment, Wrong}
 use Rattle.ecma_html.specs.Markup.{close_tag, escaped, escaped_byte, html_of, open_tag, piece_html, pieces_html, styled_html}
-use Rattle.ecma_styles.specs.Styles.{Styled, class_name, left_classes, piece_class, styled}
-use Rattle.ecma_html.specs.Unmark.{Inside, Outside, Reference, Tag, Unmarked, at, in_text, read_byte, shown, shown_byte, unmark}
+use Rattle.ecma_styles.specs.Styles.{Styled, class_name}
+use Rattle.ecma_html.specs.Unmark.{Inside, Outside, Reference, Tag, Unmarked, at, in_text, read_byte, shown, shown_byte}
 
 -- Places
 
@@ -37,20 +36,12 @@ no_piece = record { span = record { lo = record { 0 = 0 }; hi = record { 0 = 0 }
 
 -- a piece of those that are left
 
-left-of : (ps : List Piece) (i : ℕ) (d : Piece) → i < length ps → drop i ps ≡ get_or ps i d ∷ drop (i + 1) ps
+pub left-of : (ps : List Piece) (i : ℕ) (d : Piece) → i < length ps → drop i ps ≡ get_or ps i d ∷ drop (i + 1) ps
 left-of ps i d h = rw (add-one, drop-cons ps i d) refl
 
 pub item-within : (ps : List Piece) (i : ℕ) (d : Piece) (high : ℕ) → i < length ps → Covers (drop i ps) high
     → ((get_or ps i d).span.lo.0 ≤ (get_or ps i d).span.hi.0) × ((get_or ps i d).span.hi.0 ≤ high) × Covers (drop (i + 1) ps) high
 item-within ps i d high h covers = first-within (get_or ps i d) (drop (i + 1) ps) high (subst (λ qs. Covers qs high) (left-of ps i d h) covers)
-
-pub item-html : (bytes : List ℕ) (classes left : List (Option Class)) (ps : List Piece) (i : ℕ) (d : Piece) → i < length ps → left ≡ left_classes (get_or ps i d).class classes
-    → pieces_html bytes (styled classes (drop i ps))
-    ≡ styled_html (piece_class (get_or ps i d).class classes) (slice_range bytes (get_or ps i d).span.lo.0 (get_or ps i d).span.hi.0) ++ pieces_html bytes (styled left (drop (i + 1) ps))
-item-html bytes classes left ps i d h is =
-    let p : Piece = get_or ps i d in
-    ap (λ qs. pieces_html bytes (styled classes qs)) (left-of ps i d h)
-    ∙ ap (λ cs. styled_html (piece_class p.class classes) (slice_range bytes p.span.lo.0 p.span.hi.0) ++ pieces_html bytes (styled cs (drop (i + 1) ps))) (sym is)
 
 -- Bytes
 
@@ -147,30 +138,8 @@ pieces-back before source (s ∷ ss) =
     ∙ ap (at Inside) (append_assoc before (shown own) (shown (bytes_of source ss)) ∙ ap (λ more. before ++ more) (sym (shown-append own (bytes_of source ss))))
 
 -- right behind the tag that opens the element a line feed is passed
-html-read : (source : List ℕ) (pieces : List Styled) → fold read_byte (at Outside []) (html_of source pieces) ≡ at Outside (shown (bytes_of source pieces))
+pub html-read : (source : List ℕ) (pieces : List Styled) → fold read_byte (at Outside []) (html_of source pieces) ≡ at Outside (shown (bytes_of source pieces))
 html-read source pieces =
     fold-append read_byte (at Outside []) open_tag (pieces_html source pieces ++ close_tag)
     ∙ fold-append read_byte (at Inside []) (pieces_html source pieces) close_tag
     ∙ ap (λ u. fold read_byte u close_tag) (pieces-back [] source pieces)
-
-html-back : (source : List ℕ) (pieces : List Styled) → unmark (html_of source pieces) ≡ shown (bytes_of source pieces)
-html-back source pieces = ap (λ u. u.text) (html-read source pieces)
-
--- no tag is open behind it, and what was read is what is left of it
-pub html-closed : (source html : List ℕ) (pieces : List Styled) → html ≡ html_of source pieces → fold read_byte (at Outside []) html ≡ at Outside (unmark html)
-html-closed source html pieces is =
-    let read : fold read_byte (at Outside []) html ≡ at Outside (shown (bytes_of source pieces)) = ap (fold read_byte (at Outside [])) is ∙ html-read source pieces in
-    read ∙ ap (λ u. at Outside u.text) (sym read)
-
-styled-bytes : (source : List ℕ) (classes : List (Option Class)) (pieces : List Piece) → bytes_of source (styled classes pieces) ≡ joined 0 source pieces
-styled-bytes source classes [] = refl
-styled-bytes source classes (p ∷ ps) =
-    let low : p.span.lo.0 ≡ p.span.lo.0 - 0 = omega arith in
-    let high : p.span.hi.0 ≡ p.span.hi.0 - 0 = omega arith in
-    ap (λ l. slice_range source l p.span.hi.0 ++ bytes_of source (styled (left_classes p.class classes) ps)) low
-    ∙ ap (λ h. slice_range source (p.span.lo.0 - 0) h ++ bytes_of source (styled (left_classes p.class classes) ps)) high
-    ∙ ap (λ more. slice_range source (p.span.lo.0 - 0) (p.span.hi.0 - 0) ++ more) (styled-bytes source (left_classes p.class classes) ps)
-
--- where the pieces cover the text, the text is what is left of its HTML
-pub unmarked-text : (source : List ℕ) (classes : List (Option Class)) (pieces : List Piece) → joined 0 source pieces ≡ source → unmark (html_of source (styled classes pieces)) ≡ shown source
-unmarked-text source classes pieces whole = html-back source (styled classes pieces) ∙ ap shown (styled-bytes source classes pieces ∙ whole)

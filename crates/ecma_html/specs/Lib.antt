@@ -1,3 +1,4 @@
+pub mod Marked
 pub mod Markup
 pub mod Page
 pub mod Text

@@ -10,6 +10,8 @@ use Rattle.ecma_comments.specs.declared.comments_buffer.BufferedComment.{Buffere
 use Rattle.ecma_state.specs.declared.kept.Kept.{Kept}
 use Rattle.ecma_state.specs.declared.settings.Settings.{Settings}
 use Rattle.ecma_state.specs.declared.step.Step.{Step}
+use Rattle.ecma_place.specs.declared.place.BytePos.{BytePos}
+use Rattle.ecma_html.specs.Marked.{marked}
 use Rattle.ecma_html.specs.Markup.{html_of}
 use Rattle.ecma_styles.specs.Styles.{styled}
 use Rattle.ecma_styles.specs.Tokens.{token_classes}
@@ -17,6 +19,10 @@ use Rattle.ecma_styles.specs.Tokens.{token_classes}
 -- of these tokens and comments of a text
 abbrev pub html_kept : List ℕ → List Kept → List BufferedComment → List ℕ
 html_kept bytes kept comments = html_of bytes (styled (token_classes kept) (classes_of 0 (length bytes) kept comments))
+
+-- the same, in which the pieces where errors lie are shown as errors
+abbrev pub html_marked_kept : List ℕ → List Kept → List BufferedComment → List BytePos → List ℕ
+html_marked_kept bytes kept comments places = html_of bytes (marked places (styled (token_classes kept) (classes_of 0 (length bytes) kept comments)))
 
 -- of what a run keeps and collects of a text
 abbrev pub html_from : List ℕ → Session → List ℕ

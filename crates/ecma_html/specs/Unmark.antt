@@ -1,7 +1,7 @@
 -- What is left of HTML once its markup is taken away: what stands in the element `pre` of class `ecma`, without its tags and
 -- with references as what they stand for. As in a browser (HTML, 13.2.6.4.7), a line feed right behind the tag that opens it is
 -- no part of it.
-use Rattle.std.specs.Prelude.{ℕ, ◌==◌, ◌&&◌, Bool, true, false, List, [], ◌∷◌, ◌++◌, codes, flat_map, fold, if◌then◌else◌}
+use Rattle.std.specs.Prelude.{◌≡◌, ℕ, ◌==◌, ◌&&◌, Bool, true, false, List, [], ◌∷◌, ◌++◌, codes, flat_map, fold, if◌then◌else◌}
 
 -- where a reader of HTML is
 pub data Place : Type 0 where
@@ -61,8 +61,15 @@ read_at (Reference name) text c = if c == 59 then at Inside (text ++ meant name)
 abbrev pub read_byte : Unmarked → ℕ → Unmarked
 read_byte u c = read_at u.place u.text c
 
+abbrev pub read : List ℕ → Unmarked
+read html = fold read_byte (at Outside []) html
+
 abbrev pub unmark : List ℕ → List ℕ
-unmark html = (fold read_byte (at Outside []) html).text
+unmark html = (read html).text
+
+-- no element is open behind it, nor a tag
+abbrev pub IsClosed : List ℕ → Type 0
+IsClosed html = (read html).place ≡ Outside
 
 -- What is shown of a text: U+FFFD in the place of each NUL, which HTML can't hold.
 

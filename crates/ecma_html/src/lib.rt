@@ -1,16 +1,17 @@
 //! A text as HTML: its bytes, each token and comment in a span that names its class.
 //!
 //! Call [`html_text`], from a text to its markup. Promised: what a browser shows of the markup is the text, with U+FFFD
-//! for NUL. `markup.rt` writes a text with spans over pieces that cover it, `text.rt` a whole text, `page.rt` a whole page with a
-//! stylesheet. `ecma_styles/specs/Styles.antt` says which piece has which class, `Markup.antt` and `Page.antt` what is written,
-//! `Unmark.antt` what a reader of HTML makes of it;
-//! `proofs/MarkupLemmas.antt` that this is the text.
+//! for NUL. [`html_with_errors`] takes the places where errors begin, and shows each piece that one lies in as an error, in place
+//! of its own class. `markup.rt` writes a text with spans over pieces that cover it, `text.rt` a whole text, `page.rt` a whole
+//! page with a stylesheet. `ecma_styles/specs/Styles.antt` says which piece has which class, `Marked.antt` which is shown as an
+//! error, `Markup.antt` and `Page.antt` what is written, `Unmark.antt` what a reader of HTML makes of it;
+//! `proofs/MarkupLemmas.antt` and `proofs/MarkedLemmas.antt` that this is the text.
 #![tactic(auto)]
 
 mod markup;
 mod page;
 mod text;
 
-pub use markup::html;
+pub use markup::{html, html_marked};
 pub use page::page_of_gathered;
-pub use text::{html_of_gathered, html_of_steps, html_text};
+pub use text::{html_of_gathered, html_of_steps, html_text, html_with_errors};

@@ -1,11 +1,14 @@
 //! A text with its markup.
-ghost use Rattle.std.specs.Prelude.{◌≡◌, [], ◌∷◌, ◌++◌, codes, drop, length, IfOk, OnOk, MatchOption};
+ghost use Rattle.std.specs.Prelude.{◌≡◌, [], ◌∷◌, ◌++◌, codes, drop, length, nat_lt, IfOk, OnOk, MatchOption};
 ghost use Rattle.ecma_classes.specs.Classes.{Tile, joined};
+ghost use Rattle.ecma_html.specs.Marked as marks;
+ghost use Rattle.ecma_html.specs.Marked.{AreInOrder, WereAdded, marked};
 ghost use Rattle.ecma_html.specs.Markup as markup;
 ghost use Rattle.ecma_styles.specs.Styles.{class_name, left_classes, piece_class, styled};
-ghost use Rattle.ecma_html.specs.Unmark.{shown, unmark};
+ghost use Rattle.ecma_html.specs.Unmark.{IsClosed, shown, unmark};
 
 use ecma_classes::Piece;
+use ecma_place::{BytePos, Span};
 use ecma_styles::{Class, class_of_piece, taken_behind};
 use std::alloc::{AllocError, Global};
 
@@ -82,24 +85,84 @@ fn push_styled(out: &mut Vec<u8>, class: Option<Class>, bytes: &[u8]) -> Result<
     Ok(())
 }
 
-/// Adds the pieces of a text that starts at the place 0.
+/// Whether one of the places, which are in order, lies in the span.
+fn has_place(places: &[BytePos], span: Span) -> bool
+    ensures { AreInOrder places.now → result ≡ marks.has_place places.now span }
+{
+    // Most texts have no errors.
+    if places.is_empty() {
+        return false;
+    }
+    let first = places.partition_point(
+        |place: &BytePos| -> bool
+            ensures { result ≡ nat_lt place.now.0 span.lo.0 }
+        { place.0 < span.lo.0 },
+    );
+    first < places.len() && places[first].0 < span.hi.0
+}
+
+/// The class that a piece is shown with: its own, or that of errors where one of the places lies in it.
+fn marked_style(places: &[BytePos], span: Span, style: Option<Class>) -> Option<Class>
+    ensures { AreInOrder places.now → result ≡ marks.marked_style places.now span style }
+{
+    if has_place(places, span) {
+        Some(Class::Wrong)
+    } else {
+        style
+    }
+}
+
+/// Adds the pieces of a text that starts at the place 0. Those in which one of the places lies are shown as errors.
 fn push_pieces(
     out: &mut Vec<u8>,
     bytes: &[u8],
     classes: &[Option<Class>],
     pieces: &[Piece],
+    places: &[BytePos],
 ) -> Result<(), AllocError>
     requires { Tile 0 pieces.now (length bytes.now) }
-    ensures { OnOk result (out.new.items ≡ out.old.items ++ markup.pieces_html bytes.now (styled classes.now pieces.now)) }
+    ensures same { AreInOrder places.now → OnOk result (out.new.items ≡ out.old.items ++ markup.pieces_html bytes.now (marked places.now (styled classes.now pieces.now))) }
+    ensures added { OnOk result (WereAdded bytes.now pieces.now out.old.items out.new.items) }
 {
     let mut taken = 0;
     for piece in pieces {
         let class = class_of_piece(piece.class, classes, taken);
+        let style = marked_style(places, piece.span, class);
         let own = &bytes[piece.span.lo.0 as usize..piece.span.hi.0 as usize];
-        push_styled(out, class, own)?;
+        push_styled(out, style, own)?;
         taken = taken_behind(piece.class, classes, taken);
     }
     Ok(())
+}
+
+/// A text as HTML ([`html`]), in which each piece that one of the places lies in is shown as an error, in place of its own
+/// class. The places are those of errors, in order; one that lies in no piece changes nothing.
+///
+/// Whatever the places are, what is left without the markup is the text, as of [`html`].
+///
+/// The caller knows that the pieces cover the text, which starts at the place 0.
+///
+/// # Errors
+///
+/// `AllocError` where allocation fails.
+pub fn html_marked(
+    alloc: Global,
+    source: &str,
+    classes: &[Option<Class>],
+    pieces: &[Piece],
+    places: &[BytePos],
+) -> Result<Vec<u8>, AllocError>
+    requires tiles { Tile 0 pieces.now (length source.now) }
+    requires whole { joined 0 source.now pieces.now ≡ source.now }
+    ensures same { AreInOrder places.now → IfOk result (λ v. v.items ≡ markup.html_of source.now (marked places.now (styled classes.now pieces.now))) }
+    ensures back { IfOk result (λ v. unmark v.items ≡ shown source.now) }
+    ensures closed { IfOk result (λ v. IsClosed v.items) }
+{
+    let mut out = Vec::new(alloc);
+    out.extend_from_slice(b"<pre class=\"ecma\">\n")?;
+    push_pieces(&mut out, source.as_bytes(), classes, pieces, places)?;
+    out.extend_from_slice(b"</pre>\n")?;
+    Ok(out)
 }
 
 /// A text as HTML: an element `pre` of class `ecma`, in which each piece of the text is in a span that names its class,
@@ -124,9 +187,5 @@ pub fn html(
     ensures same { IfOk result (λ v. v.items ≡ markup.html_of source.now (styled classes.now pieces.now)) }
     ensures back { IfOk result (λ v. unmark v.items ≡ shown source.now) }
 {
-    let mut out = Vec::new(alloc);
-    out.extend_from_slice(b"<pre class=\"ecma\">\n")?;
-    push_pieces(&mut out, source.as_bytes(), classes, pieces)?;
-    out.extend_from_slice(b"</pre>\n")?;
-    Ok(out)
+    html_marked(alloc, source, classes, pieces, &[])
 }

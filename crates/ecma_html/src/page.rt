@@ -3,12 +3,14 @@ ghost use Rattle.std.specs.Prelude.{◌≡◌, ◌++◌, ◌<◌, ◌^◌, lengt
 ghost use Rattle.std.specs.Str.{chars};
 ghost use Rattle.ecma_classes.specs.Classes.{begin};
 ghost use Rattle.ecma_pieces.specs.Covered.{MayBeCovered};
+ghost use Rattle.ecma_html.specs.Marked.{AreInOrder};
 ghost use Rattle.ecma_html.specs.Page as page;
-ghost use Rattle.ecma_html.specs.Text.{html_kept};
+ghost use Rattle.ecma_html.specs.Text.{html_marked_kept};
 ghost use Rattle.ecma_html.specs.Unmark.{shown, unmark};
 
 use crate::markup::push_escaped;
-use crate::text::html_of_gathered;
+use crate::text::html_with_errors;
+use ecma_place::BytePos;
 use ecma_replay::Gathered;
 use std::alloc::{AllocError, Global};
 
@@ -109,11 +111,12 @@ fn push_front(out: &mut Vec<u8>, title: &str, bytes: &[u8]) -> Result<(), AllocE
     Ok(())
 }
 
-/// A whole page of a text (HTML of today), with this title: the text as [`html_of_gathered`] has it, beside it a number for each
+/// A whole page of a text (HTML of today), with this title: the text as [`html_with_errors`] has it, beside it a number for each
 /// line, which is not copied with the text, and a stylesheet for light and dark. It names no other file. Line feeds alone end
-/// lines, and a line is also behind the last one. Our own.
+/// lines, and a line is also behind the last one. The places are those where errors of the text begin, in order. Our own.
 ///
-/// What is left of it without its markup is the text, with U+FFFD for each NUL, as of [`html_of_gathered`].
+/// Whatever the places are, what is left of it without its markup is the text, with U+FFFD for each NUL, as of
+/// [`html_with_errors`].
 ///
 /// The caller knows that pieces can cover the text with these tokens and comments.
 ///
@@ -125,13 +128,14 @@ pub fn page_of_gathered(
     title: &str,
     source: &str,
     gathered: &Gathered,
+    places: &[BytePos],
 ) -> Result<Vec<u8>, AllocError>
     requires fits { length source.now < 2 ^ 32 }
     requires covered { MayBeCovered (begin 0 (chars source.now)) gathered.now.kept.items gathered.now.comments.items }
-    ensures same { IfOk result (λ v. v.items ≡ page.page_of title.now source.now (html_kept source.now gathered.now.kept.items gathered.now.comments.items)) }
+    ensures same { AreInOrder places.now → IfOk result (λ v. v.items ≡ page.page_of title.now source.now (html_marked_kept source.now gathered.now.kept.items gathered.now.comments.items places.now)) }
     ensures back { IfOk result (λ v. unmark v.items ≡ shown source.now) }
 {
-    let html = html_of_gathered(alloc, source, gathered)?;
+    let html = html_with_errors(alloc, source, gathered, places)?;
     let mut out = Vec::new(alloc);
     push_front(&mut out, title, source.as_bytes())?;
     out.extend_from_slice(&html)?;

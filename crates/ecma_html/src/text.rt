@@ -3,10 +3,11 @@ ghost use Rattle.std.specs.Prelude.{◌≡◌, ◌<◌, ◌^◌, length, IfOk};
 ghost use Rattle.std.specs.Str.{chars};
 ghost use Rattle.ecma_classes.specs.Classes.{begin};
 ghost use Rattle.ecma_pieces.specs.Covered.{MayBeCovered};
-ghost use Rattle.ecma_html.specs.Text.{html_kept, html_of_steps, html_text_of};
-ghost use Rattle.ecma_html.specs.Unmark.{shown, unmark};
+ghost use Rattle.ecma_html.specs.Marked.{AreInOrder};
+ghost use Rattle.ecma_html.specs.Text.{html_kept, html_marked_kept, html_of_steps, html_text_of};
+ghost use Rattle.ecma_html.specs.Unmark.{IsClosed, shown, unmark};
 
-use crate::markup::html;
+use crate::markup::html_marked;
 use ecma_classes::classes;
 use ecma_place::BytePos;
 use ecma_reader::tokenize;
@@ -17,7 +18,36 @@ use ecma_styles::token_classes;
 use ecma_syntax::Context;
 use std::alloc::{AllocError, Global};
 
-/// A text as HTML ([`html`]), by what was gathered of it: the tokens that were kept, and the comments that were collected. The
+/// A text as HTML ([`html_of_gathered`]), in which each piece that one of the places lies in is shown as an error, in place of
+/// its own class ([`html_marked`]). The places are those where errors of the text begin, in order. Our own.
+///
+/// Whatever the places are, what is left without the markup is the text, with U+FFFD for each NUL.
+///
+/// The caller knows that pieces can cover the text with these tokens and comments.
+///
+/// # Errors
+///
+/// `AllocError` where allocation fails.
+pub fn html_with_errors(
+    alloc: Global,
+    source: &str,
+    gathered: &Gathered,
+    places: &[BytePos],
+) -> Result<Vec<u8>, AllocError>
+    requires fits { length source.now < 2 ^ 32 }
+    requires covered { MayBeCovered (begin 0 (chars source.now)) gathered.now.kept.items gathered.now.comments.items }
+    ensures same { AreInOrder places.now → IfOk result (λ v. v.items ≡ html_marked_kept source.now gathered.now.kept.items gathered.now.comments.items places.now) }
+    ensures back { IfOk result (λ v. unmark v.items ≡ shown source.now) }
+    ensures closed { IfOk result (λ v. IsClosed v.items) }
+{
+    let kept = gathered.kept.as_slice();
+    let comments = gathered.comments.as_slice();
+    let pieces = classes(alloc, source, BytePos(0), kept, comments)?;
+    let styles = token_classes(alloc, kept)?;
+    html_marked(alloc, source, &styles, &pieces, places)
+}
+
+/// A text as HTML ([`html`](crate::html)), by what was gathered of it: the tokens that were kept, and the comments that were collected. The
 /// text starts at the place 0. Our own.
 ///
 /// The caller knows that pieces can cover the text with these tokens and comments, as with what
@@ -36,14 +66,10 @@ pub fn html_of_gathered(
     ensures same { IfOk result (λ v. v.items ≡ html_kept source.now gathered.now.kept.items gathered.now.comments.items) }
     ensures back { IfOk result (λ v. unmark v.items ≡ shown source.now) }
 {
-    let kept = gathered.kept.as_slice();
-    let comments = gathered.comments.as_slice();
-    let pieces = classes(alloc, source, BytePos(0), kept, comments)?;
-    let styles = token_classes(alloc, kept)?;
-    html(alloc, source, &styles, &pieces)
+    html_with_errors(alloc, source, gathered, &[])
 }
 
-/// A text as HTML ([`html`]), by what a list of steps keeps of it and collects: tokens and comments that the steps did not come
+/// A text as HTML ([`html`](crate::html)), by what a list of steps keeps of it and collects: tokens and comments that the steps did not come
 /// to have no class, nor have comments where the settings collect none. The text starts at the place 0. Our own.
 ///
 /// # Errors

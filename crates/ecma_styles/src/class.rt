@@ -2,6 +2,7 @@
 ghost use Rattle.std.specs.Prelude.{◌≡◌};
 ghost use Rattle.ecma_styles.specs.Styles as style;
 
+use crate::beside::names_property;
 use ecma_syntax::WordKind;
 use ecma_token::TokenKind;
 
@@ -31,7 +32,7 @@ pub enum Class {
     Expression,
     /// A comment, or a shebang.
     Comment,
-    /// A token that is an error.
+    /// A token that is an error, or in which an error lies.
     Wrong,
 }
 
@@ -77,7 +78,7 @@ impl Class {
     {
         match kind {
             TokenKind::Word(word) => {
-                if matches!(previous, Some(TokenKind::Dot | TokenKind::Hash)) {
+                if names_property(previous) {
                     Some(Class::Property)
                 } else {
                     Some(Class::of_word(word))

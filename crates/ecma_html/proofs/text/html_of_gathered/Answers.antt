@@ -1,7 +1,14 @@
+use Rattle.std.proofs.Common.{◌≡◌, IfOk, length, subst}
+use Rattle.ecma_classes.specs.Classes.{classes_of}
+use Rattle.ecma_styles.specs.Styles.{styled}
+use Rattle.ecma_styles.specs.Tokens.{token_classes}
+use Rattle.ecma_html.specs.Markup.{html_of}
+use Rattle.ecma_html.proofs.MarkedLemmas.{marked-none, none-in-order}
 use Rattle.ecma_html.proofs.text.html_of_gathered.Goals as goal
 
-pub classes-requires-clause-tokens : goal.classes-requires-clause-tokens
-classes-requires-clause-tokens c = rw c.as_slice-kept.ensures.value c.requires.covered.tokens_stand
-
-pub classes-requires-clause-comments : goal.classes-requires-clause-comments
-classes-requires-clause-comments c = rw c.as_slice-comments.ensures.value c.requires.covered.comments_stand
+pub returns-clause-same : goal.returns-clause-same
+returns-clause-same c =
+    let source = c.args.source.now in
+    let kept = c.args.gathered.now.kept.items in
+    let parts = styled (token_classes kept) (classes_of 0 (length source) kept c.args.gathered.now.comments.items) in
+    subst (λ ps. IfOk c.html_with_errors.result (λ v. v.items ≡ html_of source ps)) (marked-none parts) (c.html_with_errors.ensures.same none-in-order)
