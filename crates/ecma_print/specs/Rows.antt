@@ -11,7 +11,7 @@ use Rattle.ecma_print.specs.declared.row.Imported.{Imported}
 use Rattle.ecma_print.specs.declared.row.More.{More}
 use Rattle.ecma_print.specs.declared.row.More.TheVariants.{Nothing, LineBreak, Valued, Message, Beside, Import, Export}
 use Rattle.ecma_print.specs.declared.row.Row.{Row}
-use Rattle.ecma_print.specs.Values.{ValueView, no_value, digits_text, flags_text, form_text, value_field, value_text, value_view, with_digits, with_flags, with_form, with_value}
+use Rattle.ecma_print.specs.Values.{ValueView, no_value, form_text, value_field, value_text, value_view, with_digits, with_flags, with_form, with_value}
 
 abbrev pub needs_escape : ℕ → Bool
 needs_escape byte = nat_lt byte 32 || (byte == 34 || byte == 92)

@@ -1,4 +1,2 @@
-pub mod ModuleLemmas
-pub mod PieceLemmas
 pub mod ReportLemmas
-pub mod TokenLemmas
+pub mod WholeLemmas

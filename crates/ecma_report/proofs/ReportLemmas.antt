@@ -1,5 +1,8 @@
 -- What a report is of, and what was added to it.
-use Rattle.std.proofs.Common.{◌≡◌, ◌∙◌, ℕ, List, [], ◌++◌, append-nil, append_assoc, Option, Some, None, refl, sym, ap, subst}
+use Rattle.std.proofs.Common.{◌≡◌, ◌∙◌, ℕ, ◌+◌, ◌<◌, List, [], ◌∷◌, ◌++◌, add-one, append-nil, append_assoc, get_or, length, take, Option, Some, None, refl, sym, ap, subst}
+use Rattle.std.specs.Prelude.{flat_map}
+use Rattle.std.proofs.Math.Seq.{take-suc}
+use Rattle.std.proofs.lemmas.Grind.{flat_map-append}
 use Rattle.std.specs.Io.KnownBytes.{Appends}
 use Rattle.ecma_print.specs.Lines.{Counts}
 use Rattle.ecma_report.specs.Reports.{Adds, IsOf, Stays, look_of}
@@ -22,7 +25,7 @@ stays-on a b c first then =
     }
 
 pub same-look : (old new : Report) → Stays old new → look_of new ≡ look_of old
-same-look old new stays = ap (λ a. look a new.among.names) stays.asked ∙ ap (λ m. look old.asked m.names) stays.among
+same-look old new stays = ap (λ a. look a new.among) stays.asked ∙ ap (look old.asked) stays.among
 
 pub stays-of : (l : Look) (file bytes : List ℕ) (old new : Report) → Stays old new → IsOf l file bytes old → IsOf l file bytes new
 stays-of l file bytes old new stays of =
@@ -73,6 +76,11 @@ adds-held known held now xs e = record { sent = []; written = appends-none known
 pub adds-sent : (before after : Option (List ℕ)) (held now : List ℕ) → Appends before after held → now ≡ [] → Adds before after held now []
 adds-sent before after held now written none = record { sent = held; written = written; left = ap (λ l. held ++ l) none }
 
+-- and these bytes behind them
+pub adds-behind : (before between after : Option (List ℕ)) (held now bytes : List ℕ) → Appends before between held → Appends between after bytes → now ≡ [] → Adds before after held now bytes
+adds-behind before between after held now bytes first then none =
+    record { sent = held ++ bytes; written = appends-on before between after held bytes first then; left = ap (λ l. (held ++ bytes) ++ l) none ∙ append-nil (held ++ bytes) }
+
 -- where nothing is held any more, all was written
 pub all-sent : (before after : Option (List ℕ)) (held xs : List ℕ) → Adds before after held [] xs → Appends before after (held ++ xs)
 all-sent before after held xs adds = subst (Appends before after) (sym (append-nil adds.sent) ∙ adds.left) adds.written
@@ -83,3 +91,19 @@ flushed-all before between after held left now xs told written none =
     let sent = adds-sent between after left now written none in
     let all = adds-on before between after held left now xs [] told sent in
     all-sent before after held xs (subst (λ n. Adds before after held n xs) none (subst (Adds before after held now) (append-nil xs) all))
+
+-- Rows of a list, one more at a time
+
+-- the rows of one more
+rows-on : {A : Type 0} (f : A → List ℕ) (xs : List A) (i : ℕ) (d : A) → i < length xs → flat_map f (take (i + 1) xs) ≡ flat_map f (take i xs) ++ f (get_or xs i d)
+rows-on f xs i d low =
+    ap (λ n. flat_map f (take n xs)) (add-one i) ∙ ap (flat_map f) (take-suc xs i d low) ∙ flat_map-append f (take i xs) (get_or xs i d ∷ []) ∙ ap (λ l. flat_map f (take i xs) ++ l) (append-nil (f (get_or xs i d)))
+
+pub row-added : {A : Type 0} (f : A → List ℕ) (xs : List A) (i : ℕ) (d : A) (a b c : Option (List ℕ)) (held now pushed then : List ℕ) → i < length xs
+    → Adds a b held now (flat_map f (take i xs)) → pushed ≡ now ++ f (get_or xs i d) → Adds b c pushed then [] → Adds a c held then (flat_map f (take (i + 1) xs))
+row-added f xs i d a b c held now pushed then low adds added passed =
+    let row = f (get_or xs i d) in
+    let before = flat_map f (take i xs) in
+    let held_on = adds-on a b b held now pushed before row adds (adds-held b now pushed row added) in
+    let all = adds-on a b c held pushed then (before ++ row) [] held_on passed in
+    subst (Adds a c held then) (append-nil (before ++ row) ∙ sym (rows-on f xs i d low)) all

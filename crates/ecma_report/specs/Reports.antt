@@ -8,7 +8,7 @@ use Rattle.ecma_report.specs.declared.words.Face.{Face}
 use Rattle.ecma_report.specs.declared.words.Face.TheVariants.{Canonical, Errors}
 
 abbrev pub look_of : Report → Look
-look_of report = look report.asked report.among.names
+look_of report = look report.asked report.among
 
 -- of a text with these bytes, under this name, as it is asked for, and its count of lines stands in that text
 pub record IsOf (l : Look) (file bytes : List ℕ) (report : Report) : Type 0 where

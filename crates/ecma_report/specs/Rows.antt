@@ -1,5 +1,5 @@
 -- A row of a report.
-use Rattle.std.specs.Prelude.{ℕ, List, [], ◌∷◌, ◌++◌, ◌||◌, Bool, ◌&&◌, if◌then◌else◌, length, nat_le, nat_lt, slice_index, slice_range, Option, Some, None}
+use Rattle.std.specs.Prelude.{ℕ, List, [], ◌∷◌, ◌++◌, ◌||◌, Bool, false, ◌&&◌, if◌then◌else◌, length, nat_le, nat_lt, slice_index, slice_range, Option, Some, None}
 use Rattle.serde_json.specs.Data.{object}
 use Rattle.serde_json.specs.Written.{compact_text}
 use Rattle.ecma_place.specs.declared.place.BytePos.{BytePos}
@@ -7,21 +7,26 @@ use Rattle.ecma_place.specs.declared.place.Span.{Span}
 use Rattle.ecma_stdio.specs.Escaped.{escaped}
 use Rattle.ecma_positions.specs.Columns.{position_by}
 use Rattle.ecma_positions.specs.declared.position.Position.{Position}
-use Rattle.ecma_print.specs.Rows.{MoreView, head_of, members, more_view, own_text}
+use Rattle.ecma_print.specs.Rows.{MoreView, head_of, members, more_view, own_text, text_data}
 use Rattle.ecma_print.specs.declared.row.Row.{Row}
+use Rattle.ecma_report.specs.declared.words.Among.{Among}
 use Rattle.ecma_report.specs.declared.words.Asked.{Asked}
 
--- what is asked for, and whether each line names the file
+-- what is asked for, and how the file is written of beside others
 pub record Look : Type 0 where
   pub asked : Asked
-  pub names : Bool
+  pub among : Among
 
-abbrev pub look : Asked → Bool → Look
-look asked names = record { asked = asked; names = names }
+abbrev pub look : Asked → Among → Look
+look asked among = record { asked = asked; among = among }
+
+-- as the only file
+abbrev pub alone : Among
+alone = record { several = false; names = false }
 
 -- the name of the file, where it is asked for
 abbrev pub name_asked : Look → List ℕ → List ℕ
-name_asked l file = if l.names then escaped file ++ 58 ∷ [] else []
+name_asked l file = if l.among.names then escaped file ++ 58 ∷ [] else []
 
 -- its line and column, where they are asked for
 abbrev pub place_asked : Asked → List ℕ → BytePos → Option Position
@@ -45,6 +50,10 @@ row_parts l file text row = parts_of l file text row.kind.now row.span (more_vie
 
 abbrev pub row_text : Look → List ℕ → List ℕ → Row → List ℕ
 row_text l file text row = row_of l file text row.kind.now row.span (more_view row.more) row.text.now
+
+-- a text that is written whole: its bytes, or an object in a line; of several files each text ends with a line feed
+abbrev pub whole_text : Look → List ℕ → List ℕ → List ℕ
+whole_text l file bytes = if l.asked.json then compact_text (text_data file bytes) ++ 10 ∷ [] else if l.among.several then bytes ++ 10 ∷ [] else bytes
 
 -- The text at a span, where it begins and ends with characters
 

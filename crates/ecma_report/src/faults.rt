@@ -63,11 +63,7 @@ fn tell_error(report: &mut Report, found: &Found) -> Result<(), AllocError>
 }
 
 /// Tells of errors, in order.
-pub(crate) fn tell_found<W: Write>(
-    report: &mut Report,
-    found: &[Found],
-    out: &mut W,
-) -> Result<(), Stop>
+pub fn tell_found<W: Write>(report: &mut Report, found: &[Found], out: &mut W) -> Result<(), Stop>
     ensures adds { writes_errors report.old.asked.face ≡ false
         → OnOk result (Adds (W.contents out.old) (W.contents out.new) report.old.out.items report.new.out.items []) }
     ensures rows { (look : Look) (name text : List ℕ) → IsOf look name text report.old → writes_errors report.old.asked.face ≡ true
@@ -82,7 +78,7 @@ pub(crate) fn tell_found<W: Write>(
 }
 
 /// Takes the error of the token that was read, where it is one, and adds it to the errors. What the slot then holds is not said.
-pub(crate) fn keep_error<'a>(
+pub fn keep_error<'a>(
     errors: &mut Vec<Error<'a>>,
     slot: &mut Option<TokenAndSpan<'a>>,
 ) -> Result<(), AllocError>
@@ -95,7 +91,7 @@ pub(crate) fn keep_error<'a>(
 }
 
 /// Reads to the end, and keeps the errors of tokens.
-pub(crate) fn pass_tokens<'a>(
+pub fn pass_tokens<'a>(
     reader: &mut Reader<'a>,
     errors: &mut Vec<Error<'a>>,
 ) -> Result<(), AllocError>
@@ -114,7 +110,7 @@ pub(crate) fn pass_tokens<'a>(
 
 /// Writes a row for each error, in order of place: those of tokens, those that were recorded, and those that count in a module
 /// alone.
-pub(crate) fn write_errors<'a, W: Write>(
+pub fn write_errors<'a, W: Write>(
     report: &mut Report<'a>,
     named: Named<'a>,
     out: &mut W,

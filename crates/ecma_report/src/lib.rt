@@ -1,18 +1,11 @@
-//! The work of `ecma`: its words, and what it writes of a text, while the text is read.
+//! A report of a text, as `ecma` writes it: its words, its rows, and its errors.
 //!
-//! `words.rt` has the command line (the kit's `clap`) and what a file's ending means, `telling.rt` what is reported of
-//! a text, by a face: `tokens.rt` (with `values.rt`), `comments.rt` and `imports.rt` are loops over a `Reader`, `whole.rt` has what needs
-//! all tokens, `slashes.rt` opens the reader and finds places that are no slash's. `faults.rt` reports errors, and
-//! `report.rt` has the rows of a report and the block that they leave in.
+//! `words.rt` has the command line (the kit's `clap`) and what a file's ending means, `report.rt` the rows of a report and the
+//! block that they leave in, `slashes.rt` opens the reader and finds places that are no slash's, `faults.rt` reports errors.
+//! What is written of a text by each face is in `ecma_faces`.
 #![tactic(auto)]
 
-mod comments;
-mod faults;
-mod imports;
+pub mod faults;
 pub mod report;
-mod slashes;
-pub mod telling;
-mod tokens;
-mod values;
-mod whole;
+pub mod slashes;
 pub mod words;

@@ -1,11 +1,12 @@
 //! What is written of a text: lines, or JSON objects, in blocks.
-ghost use Rattle.std.specs.Prelude.{◌≡◌, ◌++◌, [], false, IfOk, OnOk, OnErr};
+ghost use Rattle.std.specs.Prelude.{◌≡◌, ◌++◌, ◌∷◌, [], IfOk, OnOk, OnErr};
 ghost use Rattle.std.specs.Io.KnownBytes.{Appends};
 ghost use Rattle.ecma_positions.specs.Columns.{position_by};
 ghost use Rattle.ecma_print.specs.Lines.{Counts};
 ghost use Rattle.ecma_report.specs.Reports.{Adds, IsOf, Stays, look_of};
-ghost use Rattle.ecma_print.specs.Rows.{head, more_view, own_text};
-ghost use Rattle.ecma_report.specs.Rows.{line_text, look, name_asked, part_at, place_asked, row_parts, row_text};
+ghost use Rattle.ecma_print.specs.Rows.{head, more_view, own_text, text_data};
+ghost use Rattle.serde_json.specs.Written.{compact_text};
+ghost use Rattle.ecma_report.specs.Rows.{alone, line_text, look, name_asked, part_at, place_asked, row_parts, row_text, whole_text};
 
 use crate::words::{Among, Asked};
 use ecma_place::{BytePos, Span};
@@ -62,7 +63,7 @@ pub struct Report<'a> {
 /// # Errors
 ///
 /// `Closed` where not all of them went out.
-pub(crate) fn write_all<W: Write>(out: &mut W, bytes: &[u8]) -> Result<(), Stop>
+fn write_all<W: Write>(out: &mut W, bytes: &[u8]) -> Result<(), Stop>
     ensures { OnOk result (Appends (W.contents out.old) (W.contents out.new) bytes.now) }
 {
     if send(out, 0, bytes) == FAILED {
@@ -83,7 +84,7 @@ impl<'a> Report<'a> {
         name: &'a str,
         text: &'a str,
     ) -> Result<Report<'a>, AllocError>
-        ensures { IfOk result (λ report. IsOf (look asked false) name.now text.now report × (report.out.items ≡ [])) }
+        ensures { IfOk result (λ report. IsOf (look asked alone) name.now text.now report × (report.out.items ≡ [])) }
     {
         Ok(Report {
             alloc,
@@ -118,7 +119,7 @@ impl<'a> Report<'a> {
     /// # Errors
     ///
     /// `Closed` where not all of them went out.
-    pub(crate) fn flush<W: Write>(&mut self, out: &mut W) -> Result<(), Stop>
+    pub fn flush<W: Write>(&mut self, out: &mut W) -> Result<(), Stop>
         ensures written { OnOk result (Appends (W.contents out.old) (W.contents out.new) self.old.out.items) }
         ensures none { OnOk result (self.new.out.items ≡ []) }
         ensures stays { Stays self.old self.new }
@@ -133,7 +134,7 @@ impl<'a> Report<'a> {
     /// # Errors
     ///
     /// `Closed` where not all of them went out.
-    pub(crate) fn pass_on<W: Write>(&mut self, out: &mut W) -> Result<(), Stop>
+    pub fn pass_on<W: Write>(&mut self, out: &mut W) -> Result<(), Stop>
         ensures adds { OnOk result (Adds (W.contents out.old) (W.contents out.new) self.old.out.items self.new.out.items []) }
         ensures stays { Stays self.old self.new }
     {
@@ -241,9 +242,46 @@ impl<'a> Report<'a> {
     }
 
     /// Adds a whole text with these bytes as a JSON object in a line.
-    pub(crate) fn push_text(&mut self, bytes: &[u8]) -> Result<(), AllocError> {
+    fn push_text(&mut self, bytes: &[u8]) -> Result<(), AllocError>
+        ensures added { OnOk result (self.new.out.items ≡ self.old.out.items ++ (compact_text (text_data self.old.name.now bytes.now) ++ 10 ∷ [])) }
+        ensures stays { Stays self.old self.new }
+    {
         push_text_object(&mut self.out, self.name, bytes)?;
         self.out.push(b'\n')?;
+        Ok(())
+    }
+
+    /// Writes these bytes behind the rows that were added.
+    ///
+    /// # Errors
+    ///
+    /// `Closed` where not all of them went out.
+    pub fn write_behind<W: Write>(&mut self, bytes: &[u8], out: &mut W) -> Result<(), Stop>
+        ensures adds { OnOk result (Adds (W.contents out.old) (W.contents out.new) self.old.out.items self.new.out.items bytes.now) }
+        ensures stays { Stays self.old self.new }
+    {
+        self.flush(out)?;
+        write_all(out, bytes)?;
+        Ok(())
+    }
+
+    /// Writes a text as a whole: its bytes, or an object in a line. Of several files each text ends with a line feed.
+    ///
+    /// # Errors
+    ///
+    /// `Closed` where not all of it went out, `OutOfMemory` where there is no memory.
+    pub fn write_whole<W: Write>(&mut self, bytes: &[u8], out: &mut W) -> Result<(), Stop>
+        ensures adds { OnOk result (Adds (W.contents out.old) (W.contents out.new) self.old.out.items self.new.out.items
+            (whole_text (look_of self.old) self.old.name.now bytes.now)) }
+        ensures stays { Stays self.old self.new }
+    {
+        if self.asked.json {
+            return Ok(self.push_text(bytes)?);
+        }
+        self.write_behind(bytes, out)?;
+        if self.among.several {
+            self.write_behind(b"\n", out)?;
+        }
         Ok(())
     }
 

@@ -15,10 +15,10 @@ use ecma_token::{TokenAndSpan, TokenKind};
 use std::alloc::AllocError;
 
 /// The place at which a text starts.
-pub(crate) const START: BytePos = BytePos(0);
+pub const START: BytePos = BytePos(0);
 
 /// Which slashes begin regular expressions: those at the places, or where there are none those of the other rule.
-pub(crate) fn slashes_at<'a>(named: Named<'a>) -> Slashes<'a>
+pub fn slashes_at<'a>(named: Named<'a>) -> Slashes<'a>
     ensures rule { rule_of result ≡ rule_at named.entry }
     ensures in_order { is_in_order (rule_of result) ≡ true }
 {
@@ -32,7 +32,7 @@ pub(crate) fn slashes_at<'a>(named: Named<'a>) -> Slashes<'a>
 }
 
 /// A reader of the text that a report is of. `comments` says whether comments are collected.
-pub(crate) fn open<'a>(
+pub fn open<'a>(
     report: &Report<'a>,
     named: Named<'a>,
     comments: bool,
@@ -101,7 +101,7 @@ fn unmet_lines(
 
 /// Tells of the places that were named and are not that of a token that begins with a slash, where so many slashes were read
 /// again. The text is read once more where these are fewer than there are places. The lines come before all other faults.
-pub(crate) fn tell_unmet<'a>(
+pub fn tell_unmet<'a>(
     report: &mut Report<'a>,
     named: Named<'a>,
     rereads: usize,

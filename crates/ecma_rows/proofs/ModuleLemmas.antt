@@ -7,11 +7,11 @@ use Rattle.ecma_state.specs.declared.kept.Kept.{Kept}
 use Rattle.ecma_module_table.specs.declared.rows.Export.{Export}
 use Rattle.ecma_module_table.specs.declared.rows.Import.{Import}
 use Rattle.ecma_module_table.specs.declared.rows.ModuleOptions.{ModuleOptions}
-use Rattle.ecma_modules.specs.Modules.{GatheringView, exports_at_end, exports_of, gathered, gathered_with, imports_at_end, imports_of, is_facade}
+use Rattle.ecma_modules.specs.Modules.{GatheringView, exports_at_end, exports_of, gathered, gathered_over, gathered_with, imports_at_end, imports_of, is_facade}
 use Rattle.ecma_modules.specs.Scans.{ended_scan}
 use Rattle.ecma_modules.proofs.GoOnLemmas.{gathered-on}
 use Rattle.ecma_reader.specs.Readers.{tokens_found}
-use Rattle.ecma_rows.specs.ModuleRows.{gathered_over, module_view, view_of}
+use Rattle.ecma_rows.specs.ModuleRows.{module_view, view_of}
 
 -- what is gathered of the tokens so far
 abbrev pub Gathers : ModuleOptions → GatheringView → List SpannedView → Type 0

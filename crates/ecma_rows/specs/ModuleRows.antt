@@ -1,7 +1,6 @@
 -- Rows of imports and exports. Their form is our own choice.
-use Rattle.std.specs.Prelude.{ℕ, ◌+◌, ◌-◌, ◌*◌, ◌==◌, ◌&&◌, ◌||◌, ◌≡◌, Bool, true, false, List, [], ◌∷◌, Option, Some, None, Result, Ok, Err, if◌then◌else◌, length, map, nat_le, slice_range}
+use Rattle.std.specs.Prelude.{ℕ, ◌+◌, ◌-◌, ◌*◌, ◌==◌, ◌&&◌, ◌||◌, ◌≡◌, Bool, false, List, [], ◌∷◌, Option, Some, None, Result, Ok, Err, if◌then◌else◌, length, map, nat_le, slice_range}
 use Rattle.std.specs.List.{list_any}
-use Rattle.ecma_place.specs.declared.place.BytePos.{BytePos}
 use Rattle.ecma_place.specs.declared.place.Span.{Span}
 use Rattle.ecma_state.specs.Session.{kept_of}
 use Rattle.ecma_state.specs.declared.kept.Kept.{Kept}
@@ -15,7 +14,7 @@ use Rattle.ecma_module_table.specs.declared.rows.Phase.{Phase}
 use Rattle.ecma_module_table.specs.declared.rows.Phase.TheVariants as phase
 use Rattle.ecma_module_table.specs.declared.rows.Specifier.{Specifier}
 use Rattle.ecma_modules.specs.Modules as modules
-use Rattle.ecma_modules.specs.Modules.{GatheringView, exports_of, gathered_with, imports_of}
+use Rattle.ecma_modules.specs.Modules.{exports_of, imports_of}
 use Rattle.ecma_modules.specs.declared.module.Module.{Module}
 use Rattle.ecma_reader.specs.Readers.{tokens_by}
 use Rattle.ecma_slashes.specs.Rereads.{steps_to_end_by}
@@ -135,11 +134,6 @@ module_options commonjs asked = record { typescript = asked.options.typescript; 
 -- the tokens that are kept of a text
 abbrev pub kept_by : AskedView → List Kept
 kept_by asked = map kept_of (tokens_by asked.rule (begin false asked))
-
--- what is gathered of tokens behind others
-abbrev pub gathered_over : GatheringView → List Kept → GatheringView
-gathered_over g [] = g
-gathered_over g (k ∷ ks) = gathered_over (gathered_with g k) ks
 
 -- the rows of a text, and what it is as a whole; its slashes are met or not
 pub record ModuleView : Type 0 where

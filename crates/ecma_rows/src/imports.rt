@@ -2,13 +2,13 @@
 ghost use Rattle.std.specs.Prelude.{◌≡◌, Ok, [], false, map, option_map, IfOk, OnErr, OnOk};
 ghost use Rattle.ecma_token.specs.View.{spanned_view};
 ghost use Rattle.ecma_module_table.specs.declared.rows.ModuleOptions.{ModuleOptions};
-ghost use Rattle.ecma_modules.specs.Modules.{gathered};
+ghost use Rattle.ecma_modules.specs.Modules.{gathered, gathered_over};
 ghost use Rattle.ecma_state.specs.Session.{Session, kept_of};
 ghost use Rattle.ecma_slashes.specs.Rereads.{SlashRule};
 ghost use Rattle.ecma_reader.specs.Readers.{HasRead, IsReady, Shows, tokens_by, tokens_found};
 ghost use Rattle.ecma_rows.specs.Asked.{asked_view, judged, place_at};
 ghost use Rattle.ecma_rows.specs.ModuleRows as rows;
-ghost use Rattle.ecma_rows.specs.ModuleRows.{TellsModule, gathered_over, module_told};
+ghost use Rattle.ecma_rows.specs.ModuleRows.{TellsModule, module_told};
 ghost use Rattle.ecma_rows.specs.Told.{written};
 
 use crate::bits::{is_commonjs, reading_bits};
@@ -109,23 +109,23 @@ fn module_options(asked: Asked, bits: u32) -> ModuleOptions
 
 /// Writes rows of imports and exports, as many as fit, where each place that was named is that of a slash, or not.
 fn write(
-    module: &Module,
+    found: &Module,
     text: &[u8],
     is_met: bool,
     imports: &mut [ImportRow],
     exports: &mut [ExportRow],
 ) -> ModuleAnswer
-    ensures { TellsModule (Ok (rows.view_of_module is_met module.now text.now)) imports.old imports.new exports.old exports.new result }
+    ensures { TellsModule (Ok (rows.view_of_module is_met found.now text.now)) imports.old imports.new exports.old exports.new result }
 {
-    let fits = module.imports.len() <= imports.len() && module.exports.len() <= exports.len();
-    write_import_rows(text, &module.imports, imports);
-    write_export_rows(text, &module.exports, exports);
+    let fits = found.imports.len() <= imports.len() && found.exports.len() <= exports.len();
+    write_import_rows(text, &found.imports, imports);
+    write_export_rows(text, &found.exports, exports);
     ModuleAnswer {
         status: status_of(is_met, fits),
-        imports: module.imports.len(),
-        exports: module.exports.len(),
-        is_facade: module.is_facade,
-        has_module_syntax: module.has_module_syntax,
+        imports: found.imports.len(),
+        exports: found.exports.len(),
+        is_facade: found.is_facade,
+        has_module_syntax: found.has_module_syntax,
     }
 }
 

@@ -1,9 +1,9 @@
 //! What is told of texts: rows over each face, with what the command wrote before its faces could be called.
+use ecma_faces::telling::tell;
 use ecma_options::Options;
 use ecma_place::{BytePos, StringInput};
 use ecma_positions::Columns;
 use ecma_report::report::{Report, Stop};
-use ecma_report::telling::tell;
 use ecma_report::words::{
     Among, Asked, Chosen, Face, Named, command, is_by_flag, is_chosen, slash_places,
 };
@@ -489,8 +489,23 @@ const WHOLE: &[Told] = &[
         "html",
         "a = \"\n1__0",
         true,
-        "<pre class=\"ecma\">\n<span class=\"name\">a</span> = <span class=\"string\">\"</span>\n<span class=\"number\">1__0</span></pre>\n",
+        "<pre class=\"ecma\">\n<span class=\"name\">a</span> = <span class=\"error\">\"</span>\n<span class=\"error\">1__0</span></pre>\n",
         "a.js:1:5: Unterminated string constant\na.js:2:1: A numeric separator is only allowed between two digits\n",
+    ),
+    (
+        "html --module",
+        "<!-- a",
+        true,
+        "<pre class=\"ecma\">\n<span class=\"error\">&lt;</span><span class=\"comment\">!-- a</span></pre>\n",
+        "a.js:1:1: Legacy comments cannot be used in module code\n",
+    ),
+    // An error that counts in a module alone is not marked.
+    (
+        "html",
+        "<!-- a",
+        false,
+        "<pre class=\"ecma\">\n&lt;<span class=\"comment\">!-- a</span></pre>\n",
+        "",
     ),
     ("html", "", false, "<pre class=\"ecma\">\n</pre>\n", ""),
 ];

@@ -1,9 +1,9 @@
 //! Pages of texts.
+use ecma_faces::telling::tell;
 use ecma_options::Options;
 use ecma_place::{BytePos, StringInput};
 use ecma_positions::Columns;
 use ecma_report::report::Report;
-use ecma_report::telling::tell;
 use ecma_report::words::{Asked, Face, Named};
 use std::alloc::{AllocError, Global};
 use std::test::Fail;

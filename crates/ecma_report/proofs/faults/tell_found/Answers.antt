@@ -6,7 +6,7 @@ use Rattle.ecma_faults.specs.Faults.{view}
 use Rattle.ecma_faults.specs.declared.found.Found.{Found}
 use Rattle.ecma_report.specs.Errors.{error_row}
 use Rattle.ecma_report.specs.Reports.{Adds, writes_errors}
-use Rattle.ecma_report.proofs.ModuleLemmas.{row-added}
+use Rattle.ecma_report.proofs.ReportLemmas.{row-added}
 use Rattle.ecma_report.proofs.ReportLemmas.{adds-none, adds-on, stays-of, stays-on, stays-same}
 use Rattle.ecma_report.proofs.faults.tell_found.Goals as goal
 

@@ -1,0 +1,4 @@
+pub mod ModuleLemmas
+pub mod ReadLemmas
+pub mod TokenLemmas
+pub mod WholeLemmas

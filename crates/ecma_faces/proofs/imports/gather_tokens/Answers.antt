@@ -1,0 +1,32 @@
+use Rattle.std.specs.Prelude.{option_map}
+use Rattle.ecma_token.specs.View.{spanned_view}
+use Rattle.ecma_reader.proofs.FoldLemmas.{told-end, told-next, told-start}
+use Rattle.ecma_faces.proofs.ModuleLemmas.{Gathers, gathered-token}
+use Rattle.ecma_faces.proofs.imports.gather_tokens.Goals as goal
+
+pub read_into-requires : goal.read_into-requires
+read_into-requires c = record { ready = c.tokens.invariant.0 }
+
+pub tokens-init : goal.tokens-init
+tokens-init c = (
+  c.requires.ready,
+  λ rule begin options shows so. told-start rule begin (Gathers options c.args.gathering.now) c.args.reader.now shows so,
+)
+
+pub tokens-preserved : goal.tokens-preserved
+tokens-preserved c =
+    let ok = c.in_ok-read_into.ensures in
+    let found = option_map spanned_view c.read_into.new.slot in (
+      ok.ready c.if-branch.true,
+      λ rule begin options shows so.
+          let tells = c.tokens.invariant.1 rule begin options shows so in
+          told-next rule begin (Gathers options c.tokens.gathering) (Gathers options c.gather_slot.new.gathering) c.tokens.reader c.read_into.new.self found _ tells
+          (ok.reads rule begin tells.tokens tells.shows) c.if-branch.true
+          (λ t is told. gathered-token options c.tokens.gathering c.gather_slot.new.gathering found tells.tokens t told is c.in_ok-gather_slot.ensures),
+    )
+
+pub returns : goal.returns
+returns c = λ rule begin options shows so.
+    let tells = c.tokens.invariant.1 rule begin options shows so in
+    let found = option_map spanned_view c.read_into.new.slot in
+    (told-end rule begin (Gathers options c.tokens.gathering) c.tokens.reader c.read_into.new.self found _ tells (c.in_ok-read_into.ensures.reads rule begin tells.tokens tells.shows) c.if-branch.false).0

@@ -1,0 +1,6 @@
+use Rattle.std.proofs.Common.{ap}
+use Rattle.ecma_report.specs.Reports.{writes_errors}
+use Rattle.ecma_faces.proofs.telling.write_face.Goals as goal
+
+pub returns-in-Errors-clause-errors : goal.returns-in-Errors-clause-errors
+returns-in-Errors-clause-errors g c = λ look name text of is. c.write_errors.ensures look name text of (ap writes_errors is)

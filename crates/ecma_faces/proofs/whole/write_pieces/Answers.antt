@@ -1,0 +1,27 @@
+use Rattle.std.proofs.Common.{◌∙◌, ap, length, subst}
+use Rattle.ecma_classes.specs.Classes.{classes_of}
+use Rattle.ecma_faces.specs.Pieces.{piece_rows}
+use Rattle.ecma_report.specs.Reports.{Adds}
+use Rattle.ecma_faces.proofs.whole.write_pieces.Goals as goal
+
+pub classes-requires-clause-tokens : goal.classes-requires-clause-tokens
+classes-requires-clause-tokens g c = rw c.as_slice-kept.ensures.value c.requires.covered.tokens_stand
+
+pub classes-requires-clause-comments : goal.classes-requires-clause-comments
+classes-requires-clause-comments g c = rw c.as_slice-comments.ensures.value c.requires.covered.comments_stand
+
+pub returns : goal.returns
+returns g c = λ ask file bytes of.
+    let first = c.args.report.now in
+    let last = c.push_pieces.new.report in
+    let kept = c.args.gathered.now.kept.items in
+    let comments = c.args.gathered.now.comments.items in
+    let before = g.W.Write.contents c.args.out.now in
+    let after = g.W.Write.contents c.push_pieces.new.out in
+    let same =
+    c.deref.ensures.value
+    ∙ c.in_ok-pieces.ensures.same
+    ∙ ap (λ k. classes_of 0 (length first.text.now) k c.as_slice-comments.result.now) c.as_slice-kept.ensures.value
+    ∙ ap (λ b. classes_of 0 (length first.text.now) kept b) c.as_slice-comments.ensures.value
+    ∙ ap (λ t. classes_of 0 (length t) kept comments) of.text in
+    subst (λ pieces. Adds before after first.out.items last.out.items (piece_rows ask file bytes pieces)) same (c.in_ok-push_pieces.ensures ask file bytes of)

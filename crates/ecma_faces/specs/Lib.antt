@@ -1,0 +1,6 @@
+pub mod Comments
+pub mod Modules
+pub mod Pieces
+pub mod Tokens
+pub mod Values
+pub mod Whole

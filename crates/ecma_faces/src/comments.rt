@@ -1,0 +1,78 @@
+//! Rows of comments.
+ghost use Rattle.std.specs.Prelude.{◌≡◌, ◌++◌, ◌<◌, ◌^◌, List, false, length, ℕ, OnOk};
+ghost use Rattle.ecma_faces.specs.Comments as rows;
+ghost use Rattle.ecma_faces.specs.Comments.{comment_rows, comments_by};
+ghost use Rattle.ecma_report.specs.Reports.{Adds, IsOf, Stays, writes_errors};
+ghost use Rattle.ecma_report.specs.Rows.{Look};
+
+use ecma_faults::in_order;
+use ecma_names::{comment_name, side_name};
+use ecma_reader::Outcome;
+use ecma_report::faults::{pass_tokens, tell_found};
+use ecma_report::report::{More, Report, Row, Stop};
+use ecma_report::slashes::{open, tell_unmet};
+use ecma_report::words::Named;
+use ecma_state::BufferedComment;
+use std::alloc::AllocError;
+use std::io::Write;
+
+/// Adds the row of a comment.
+fn push_comment(report: &mut Report, buffered: &BufferedComment) -> Result<(), AllocError>
+    ensures added { (look : Look) (name text : List ℕ) → IsOf look name text report.old
+        → OnOk result (report.new.out.items ≡ report.old.out.items ++ rows.comment_row look name text buffered.now) }
+    ensures stays { Stays report.old report.new }
+{
+    report.push_row(Row {
+        kind: comment_name(buffered.comment.kind),
+        span: buffered.comment.span,
+        more: More::Beside {
+            side: side_name(buffered.kind),
+            token: buffered.pos,
+        },
+        text: buffered.comment.text.as_str(),
+    })
+}
+
+/// Writes the rows of comments.
+fn push_comments<W: Write>(
+    report: &mut Report,
+    comments: &[BufferedComment],
+    out: &mut W,
+) -> Result<(), Stop>
+    ensures { (look : Look) (name text : List ℕ) → IsOf look name text report.old
+        → OnOk result (Adds (W.contents out.old) (W.contents out.new) report.old.out.items report.new.out.items (comment_rows look name text comments.now)) }
+{
+    'comments: for buffered in comments {
+        push_comment(report, buffered)?;
+        report.pass_on(out)?;
+    }
+    Ok(())
+}
+
+/// Writes a row for each comment, and tells of errors. A lexer hands its comments over at the end.
+pub(crate) fn write_comments<'a, W: Write>(
+    report: &mut Report<'a>,
+    named: Named<'a>,
+    out: &mut W,
+) -> Result<(), Stop>
+    requires { length report.old.text.now < 2 ^ 32 }
+    ensures { (look : Look) (name text : List ℕ) → IsOf look name text report.old → writes_errors look.asked.face ≡ false
+        → OnOk result (Adds (W.contents out.old) (W.contents out.new) report.old.out.items report.new.out.items (comment_rows look name text (comments_by named.entry look text))) }
+{
+    let mut reader = open(report, named, true)?;
+    let mut errors = Vec::new(report.alloc);
+    pass_tokens(&mut reader, &mut errors)?;
+    let Outcome {
+        errors: recorded,
+        waiting: _,
+        comments,
+        ended: _,
+        rereads,
+    } = reader.finish();
+    let waiting = Vec::new(report.alloc);
+    let found = in_order(report.alloc, errors, recorded.into_vec(), waiting)?;
+    tell_unmet(report, named, rereads)?;
+    tell_found(report, &found, out)?;
+    push_comments(report, &comments, out)?;
+    Ok(())
+}

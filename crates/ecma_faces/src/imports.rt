@@ -1,0 +1,230 @@
+//! Rows of what is imported and exported.
+ghost use Rattle.std.specs.Prelude.{◌≡◌, ◌++◌, ◌<◌, ◌^◌, List, [], false, length, map, option_map, ℕ, IfOk, OnOk};
+ghost use Rattle.ecma_token.specs.View.{spanned_view};
+ghost use Rattle.ecma_module_table.specs.declared.rows.ModuleOptions.{ModuleOptions};
+ghost use Rattle.ecma_modules.specs.Modules.{exports_of, gathered, gathered_over, imports_of};
+ghost use Rattle.ecma_state.specs.Session.{Session, kept_of};
+ghost use Rattle.ecma_slashes.specs.Rereads.{SlashRule};
+ghost use Rattle.ecma_reader.specs.Readers.{IsReady, Shows, tokens_by, tokens_found};
+ghost use Rattle.ecma_print.specs.Rows.{text_behind};
+ghost use Rattle.ecma_faces.specs.Modules as rows;
+ghost use Rattle.ecma_faces.specs.Modules.{export_rows, import_rows, kept_by};
+ghost use Rattle.ecma_report.specs.Reports.{Adds, IsOf, Stays, writes_errors};
+ghost use Rattle.ecma_report.specs.Rows.{Look};
+
+use ecma_faults::in_order;
+use ecma_module_table::rows::{Export, Form, Import, ModuleOptions, Phase};
+use ecma_modules::{Gathering, Module};
+use ecma_place::Span;
+use ecma_print::row::Imported;
+use ecma_reader::Reader;
+use ecma_report::faults::{keep_error, tell_found};
+use ecma_report::report::{More, Report, Row, Stop};
+use ecma_report::slashes::{open, tell_unmet};
+use ecma_report::words::{Asked, Named};
+use ecma_state::Kept;
+use ecma_token::{Error, TokenAndSpan};
+use std::alloc::AllocError;
+use std::io::Write;
+
+/// What a row says of how a module is named.
+fn form_name(form: Form) -> &'static str
+    ensures { result.now ≡ rows.form_name form }
+{
+    match form {
+        Form::Static => "static",
+        Form::Reexport => "reexport",
+        Form::Call => "dynamic",
+        Form::Meta => "meta",
+        Form::Equals => "equals",
+        Form::Ambient => "ambient",
+        Form::Require => "require",
+    }
+}
+
+/// What a row says of the phase up to which a module is brought, where it is not evaluated at once.
+fn phase_name(phase: Phase) -> Option<&'static str>
+    ensures { text_behind result ≡ rows.phase_name phase }
+{
+    match phase {
+        Phase::Evaluation => None,
+        Phase::Defer => Some("defer"),
+        Phase::Source => Some("source"),
+    }
+}
+
+/// Where the row of an import lies: the string that names the module; else the argument of a call, or the statement.
+fn span_of(import: Import) -> Span
+    ensures { result ≡ rows.span_of import }
+{
+    match (import.specifier, import.argument) {
+        (Some(specifier), _) => specifier.span,
+        (None, Some(argument)) => argument.span,
+        (None, None) => import.statement,
+    }
+}
+
+/// Adds the row of an import.
+fn push_import(report: &mut Report, import: Import) -> Result<(), AllocError>
+    ensures added { (look : Look) (name text : List ℕ) → IsOf look name text report.old
+        → OnOk result (report.new.out.items ≡ report.old.out.items ++ rows.import_row look name text import) }
+    ensures stays { Stays report.old report.new }
+{
+    let span = span_of(import);
+    let text = report.at(span);
+    report.push_row(Row {
+        kind: form_name(import.form),
+        span,
+        more: More::Import(Imported {
+            phase: phase_name(import.phase),
+            is_type: import.is_type,
+            statement: import.statement,
+            attributes: import.attributes,
+        }),
+        text,
+    })
+}
+
+/// Adds the row of an export.
+fn push_export(report: &mut Report, export: Export) -> Result<(), AllocError>
+    ensures added { (look : Look) (name text : List ℕ) → IsOf look name text report.old
+        → OnOk result (report.new.out.items ≡ report.old.out.items ++ rows.export_row look name text export) }
+    ensures stays { Stays report.old report.new }
+{
+    let text = report.at(export.name);
+    let local = match export.local {
+        Some(span) => Some(report.at(span)),
+        None => None,
+    };
+    report.push_row(Row {
+        kind: if export.is_type { "type" } else { "export" },
+        span: export.name,
+        more: More::Export {
+            local,
+            is_type: export.is_type,
+        },
+        text,
+    })
+}
+
+/// Writes the rows of imports.
+fn push_imports<W: Write>(report: &mut Report, imports: &[Import], out: &mut W) -> Result<(), Stop>
+    ensures { (look : Look) (name text : List ℕ) → IsOf look name text report.old
+        → OnOk result (Adds (W.contents out.old) (W.contents out.new) report.old.out.items report.new.out.items (import_rows look name text imports.now)) }
+{
+    'imports: for import in imports {
+        push_import(report, *import)?;
+        report.pass_on(out)?;
+    }
+    Ok(())
+}
+
+/// Writes the rows of exports.
+fn push_exports<W: Write>(report: &mut Report, exports: &[Export], out: &mut W) -> Result<(), Stop>
+    ensures { (look : Look) (name text : List ℕ) → IsOf look name text report.old
+        → OnOk result (Adds (W.contents out.old) (W.contents out.new) report.old.out.items report.new.out.items (export_rows look name text exports.now)) }
+{
+    'exports: for export in exports {
+        push_export(report, *export)?;
+        report.pass_on(out)?;
+    }
+    Ok(())
+}
+
+/// Gathers what the token that was read tells, if there is one.
+fn gather_slot(gathering: &mut Gathering, slot: &Option<TokenAndSpan>) -> Result<(), AllocError>
+    ensures { OnOk result (gathering.new ≡ gathered_over gathering.old (map kept_of (tokens_found (option_map spanned_view slot.now)))) }
+{
+    if let Some(token) = slot {
+        gathering.take(&Kept::of(token))?;
+    }
+    Ok(())
+}
+
+/// Reads to the end, gathers what each token tells, and keeps the errors of tokens.
+fn gather_tokens<'a>(
+    reader: &mut Reader<'a>,
+    gathering: &mut Gathering,
+    errors: &mut Vec<Error<'a>>,
+) -> Result<(), AllocError>
+    requires ready { IsReady reader.old }
+    ensures { (rule : SlashRule) (begin : Session) (options : ModuleOptions) → Shows rule begin [] reader.old → gathering.old ≡ gathered options []
+        → OnOk result (gathering.new ≡ gathered options (map kept_of (tokens_by rule begin))) }
+{
+    let mut slot = None;
+    'tokens: while reader.read_into(&mut slot)? {
+        gather_slot(gathering, &slot)?;
+        keep_error(errors, &mut slot)?;
+    }
+    Ok(())
+}
+
+/// What is looked for in a text.
+fn module_options(asked: Asked) -> ModuleOptions
+    ensures { result ≡ rows.module_options asked }
+{
+    ModuleOptions {
+        typescript: asked.options.typescript,
+        commonjs: asked.commonjs,
+    }
+}
+
+/// Reads the text, tells of its errors, and answers what it imports and exports.
+fn read_module<'a, W: Write>(
+    report: &mut Report<'a>,
+    named: Named<'a>,
+    out: &mut W,
+) -> Result<Module, Stop>
+    requires { length report.old.text.now < 2 ^ 32 }
+    ensures imports { (look : Look) (name text : List ℕ) → IsOf look name text report.old
+        → IfOk result (λ m. m.imports.items ≡ imports_of (rows.module_options look.asked) (kept_by named.entry look text)) }
+    ensures exports { (look : Look) (name text : List ℕ) → IsOf look name text report.old
+        → IfOk result (λ m. m.exports.items ≡ exports_of (rows.module_options look.asked) (kept_by named.entry look text)) }
+    ensures nothing { writes_errors report.old.asked.face ≡ false
+        → OnOk result (Adds (W.contents out.old) (W.contents out.new) report.old.out.items report.new.out.items []) }
+    ensures stays { OnOk result (Stays report.old report.new) }
+{
+    let mut reader = open(report, named, false)?;
+    let mut gathering = Gathering::new(report.alloc, module_options(report.asked));
+    let mut errors = Vec::new(report.alloc);
+    gather_tokens(&mut reader, &mut gathering, &mut errors)?;
+    let outcome = reader.finish();
+    let rereads = outcome.rereads;
+    let waiting = Vec::new(report.alloc);
+    let found = in_order(report.alloc, errors, outcome.errors.into_vec(), waiting)?;
+    tell_unmet(report, named, rereads)?;
+    tell_found(report, &found, out)?;
+    Ok(gathering.finish()?)
+}
+
+/// Writes a row for each import, and tells of errors.
+pub(crate) fn write_imports<'a, W: Write>(
+    report: &mut Report<'a>,
+    named: Named<'a>,
+    out: &mut W,
+) -> Result<(), Stop>
+    requires { length report.old.text.now < 2 ^ 32 }
+    ensures { (look : Look) (name text : List ℕ) → IsOf look name text report.old → writes_errors look.asked.face ≡ false
+        → OnOk result (Adds (W.contents out.old) (W.contents out.new) report.old.out.items report.new.out.items
+        (import_rows look name text (imports_of (rows.module_options look.asked) (kept_by named.entry look text)))) }
+{
+    let module = read_module(report, named, out)?;
+    push_imports(report, &module.imports, out)?;
+    Ok(())
+}
+
+/// Writes a row for each export, and tells of errors.
+pub(crate) fn write_exports<'a, W: Write>(
+    report: &mut Report<'a>,
+    named: Named<'a>,
+    out: &mut W,
+) -> Result<(), Stop>
+    requires { length report.old.text.now < 2 ^ 32 }
+    ensures { (look : Look) (name text : List ℕ) → IsOf look name text report.old → writes_errors look.asked.face ≡ false
+        → OnOk result (Adds (W.contents out.old) (W.contents out.new) report.old.out.items report.new.out.items
+        (export_rows look name text (exports_of (rows.module_options look.asked) (kept_by named.entry look text)))) }
+{
+    let module = read_module(report, named, out)?;
+    push_exports(report, &module.exports, out)?;
+    Ok(())
+}

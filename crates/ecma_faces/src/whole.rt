@@ -1,0 +1,312 @@
+//! What is told of a text by all of its tokens: the canonical text, the pieces, and the text as HTML.
+ghost use Rattle.std.specs.Prelude.{◌≡◌, ◌++◌, ◌<◌, ◌^◌, Bool, List, length, map, ℕ, IfOk, OnOk};
+ghost use Rattle.std.specs.Str.{chars};
+ghost use Rattle.ecma_state.specs.Run.{start_of};
+ghost use Rattle.ecma_state.specs.declared.settings.Settings.{Settings};
+ghost use Rattle.ecma_state.specs.declared.step.Step.{Step};
+ghost use Rattle.ecma_replay.specs.Replay.{Gathers};
+ghost use Rattle.ecma_options.specs.Begin.{context, settings, whole};
+ghost use Rattle.ecma_options.specs.declared.options.Options.{Options};
+ghost use Rattle.ecma_slashes.specs.Rereads.{SlashRule, text_steps_by};
+ghost use Rattle.ecma_canonical.specs.Canonical.{GathersPlainly, IsCanon};
+ghost use Rattle.ecma_classes.specs.Classes.{begin, classes_of};
+ghost use Rattle.ecma_pieces.specs.Covered.{MayBeCovered};
+ghost use Rattle.ecma_faults.specs.Faults.{view};
+ghost use Rattle.ecma_html.specs.Marked.{AreInOrder};
+ghost use Rattle.ecma_html.specs.Unmark.{shown, unmark};
+ghost use Rattle.ecma_looks.specs.Shown.{IsShown};
+ghost use Rattle.ecma_faces.specs.Pieces as rows;
+ghost use Rattle.ecma_faces.specs.Pieces.{piece_rows, pieces_by};
+ghost use Rattle.ecma_faces.specs.Whole as whole_specs;
+ghost use Rattle.ecma_faces.specs.Whole.{OfCanon, OfHtml, OfLines, OfShown, canon_written, html_by, html_written, plainly, shown_head, steps_by};
+ghost use Rattle.ecma_report.specs.Reports as reports;
+ghost use Rattle.ecma_report.specs.Reports.{Adds, IsOf, Stays, look_of};
+ghost use Rattle.ecma_report.specs.Rows.{Look};
+ghost use Rattle.ecma_report.specs.Slashes.{rule_at};
+ghost use Rattle.ecma_report.specs.declared.words.Face.TheVariants as face;
+
+use ecma_canonical::{Canon, canonical_of_gathered};
+use ecma_classes::{Piece, classes};
+use ecma_faults::{Found, in_order};
+use ecma_html::{html_with_errors, page_of_gathered};
+use ecma_looks::show_text;
+use ecma_names::piece_name;
+use ecma_place::{BytePos, Spanned};
+use ecma_reader::{ReadOut, read_out};
+use ecma_replay::Gathered;
+use ecma_report::faults::tell_found;
+use ecma_report::report::{More, Report, Row, Stop};
+use ecma_report::slashes::{START, slashes_at, tell_unmet};
+use ecma_report::words::{Face, Named};
+use std::alloc::{AllocError, Global};
+use std::io::Write;
+
+/// The canonical text of a text, by what was gathered of it.
+fn canon_of(alloc: Global, text: &str, gathered: &Gathered) -> Result<Canon, AllocError>
+    requires fits { length text.now < 2 ^ 32 }
+    requires plain { (settings : Settings) × (steps : List Step) × GathersPlainly settings (begin 0 (chars text.now)) steps gathered.now }
+    // Whatever the options are, whether comments are collected, and whichever slashes were read again.
+    ensures { (comments : Bool) (options : Options) (rule : SlashRule)
+        → Gathers (start_of (settings comments options) (whole text.now)) (text_steps_by rule (settings comments options) (context options) (whole text.now)) gathered.now
+        → IfOk result (IsCanon (settings comments options) 0 (chars text.now) (text_steps_by rule (settings comments options) (context options) (whole text.now))) }
+{
+    canonical_of_gathered(alloc, text, START, gathered)
+}
+
+/// Writes a canonical text, and nothing where there is none.
+fn write_canon<W: Write>(report: &mut Report, canon: &Canon, out: &mut W) -> Result<(), Stop>
+    ensures { (look : Look) (name text : List ℕ) → IsOf look name text report.old
+        → OnOk result (Adds (W.contents out.old) (W.contents out.new) report.old.out.items report.new.out.items (canon_written look name canon.now)) }
+{
+    match canon {
+        Canon::Text(text) => report.write_whole(text.as_bytes(), out),
+        Canon::NotClean | Canon::TooLong => {
+            report.is_faulty = true;
+            Ok(())
+        }
+    }
+}
+
+fn write_canonical<W: Write>(
+    report: &mut Report,
+    gathered: &Gathered,
+    out: &mut W,
+) -> Result<(), Stop>
+    requires fits { length report.old.text.now < 2 ^ 32 }
+    requires plain { (settings : Settings) × (steps : List Step) × GathersPlainly settings (begin 0 (chars report.old.text.now)) steps gathered.now }
+    ensures { (look : Look) (name text : List ℕ) (rule : SlashRule) → IsOf look name text report.old
+        → Gathers (start_of (plainly look) (whole text)) (steps_by rule look text) gathered.now
+        → OnOk result (OfCanon look name (plainly look) (chars text) (steps_by rule look text)
+        (λ all. Adds (W.contents out.old) (W.contents out.new) report.old.out.items report.new.out.items all)) }
+{
+    let canon = canon_of(report.alloc, report.text, gathered)?;
+    write_canon(report, &canon, out)?;
+    Ok(())
+}
+
+/// Adds the row of a piece.
+fn push_piece(report: &mut Report, piece: Piece) -> Result<(), AllocError>
+    ensures added { (look : Look) (name text : List ℕ) → IsOf look name text report.old
+        → OnOk result (report.new.out.items ≡ report.old.out.items ++ rows.piece_row look name text piece) }
+    ensures stays { Stays report.old report.new }
+{
+    let text = report.at(piece.span);
+    report.push_row(Row {
+        kind: piece_name(piece.class),
+        span: piece.span,
+        more: More::Nothing,
+        text,
+    })
+}
+
+/// Writes the rows of pieces.
+fn push_pieces<W: Write>(report: &mut Report, pieces: &[Piece], out: &mut W) -> Result<(), Stop>
+    ensures { (look : Look) (name text : List ℕ) → IsOf look name text report.old
+        → OnOk result (Adds (W.contents out.old) (W.contents out.new) report.old.out.items report.new.out.items (piece_rows look name text pieces.now)) }
+{
+    'pieces: for piece in pieces {
+        push_piece(report, *piece)?;
+        report.pass_on(out)?;
+    }
+    Ok(())
+}
+
+fn write_pieces<W: Write>(report: &mut Report, gathered: &Gathered, out: &mut W) -> Result<(), Stop>
+    requires fits { length report.old.text.now < 2 ^ 32 }
+    requires covered { MayBeCovered (begin 0 (chars report.old.text.now)) gathered.now.kept.items gathered.now.comments.items }
+    ensures { (look : Look) (name text : List ℕ) → IsOf look name text report.old
+        → OnOk result (Adds (W.contents out.old) (W.contents out.new) report.old.out.items report.new.out.items
+        (piece_rows look name text (classes_of 0 (length text) gathered.now.kept.items gathered.now.comments.items))) }
+{
+    let kept = gathered.kept.as_slice();
+    let comments = gathered.comments.as_slice();
+    let pieces = classes(report.alloc, report.text, START, kept, comments)?;
+    push_pieces(report, &pieces, out)?;
+    Ok(())
+}
+
+/// The places at which errors begin.
+fn places_of(alloc: Global, found: &[Found]) -> Result<Vec<BytePos>, AllocError>
+    ensures { IfOk result (λ v. v.items ≡ whole_specs.places_of (map view found.now)) }
+{
+    let mut places = Vec::new(alloc);
+    'found: for one in found {
+        places.push(one.error.span().lo)?;
+    }
+    Ok(places)
+}
+
+/// The text as HTML, or a whole page of it where that is asked for, with errors at these places.
+fn html_asked(
+    report: &Report,
+    gathered: &Gathered,
+    places: &[BytePos],
+) -> Result<Vec<u8>, AllocError>
+    requires fits { length report.now.text.now < 2 ^ 32 }
+    requires covered { MayBeCovered (begin 0 (chars report.now.text.now)) gathered.now.kept.items gathered.now.comments.items }
+    ensures same { AreInOrder places.now
+        → IfOk result (λ v. v.items ≡ html_by report.now.asked.page report.now.name.now report.now.text.now gathered.now.kept.items gathered.now.comments.items places.now) }
+    // Whichever it is, it is the text that is left without the markup.
+    ensures back { IfOk result (λ v. unmark v.items ≡ shown report.now.text.now) }
+{
+    if report.asked.page {
+        return page_of_gathered(report.alloc, report.name, report.text, gathered, places);
+    }
+    html_with_errors(report.alloc, report.text, gathered, places)
+}
+
+fn write_html<W: Write>(
+    report: &mut Report,
+    gathered: &Gathered,
+    found: &[Found],
+    out: &mut W,
+) -> Result<(), Stop>
+    requires fits { length report.old.text.now < 2 ^ 32 }
+    requires covered { MayBeCovered (begin 0 (chars report.old.text.now)) gathered.now.kept.items gathered.now.comments.items }
+    ensures { (look : Look) (name text : List ℕ) → IsOf look name text report.old → AreInOrder (whole_specs.places_of (map view found.now))
+        → OnOk result (Adds (W.contents out.old) (W.contents out.new) report.old.out.items report.new.out.items
+        (html_written look name text gathered.now.kept.items gathered.now.comments.items (map view found.now))) }
+{
+    let places = places_of(report.alloc, found)?;
+    let html = html_asked(report, gathered, &places)?;
+    report.write_whole(&html, out)?;
+    Ok(())
+}
+
+/// Writes the name of the file in a line of its own, where lines name their file.
+fn write_shown_head<W: Write>(report: &mut Report, out: &mut W) -> Result<(), Stop>
+    ensures adds { OnOk result (Adds (W.contents out.old) (W.contents out.new) report.old.out.items report.new.out.items (shown_head (look_of report.old) report.old.name.now)) }
+    ensures stays { Stays report.old report.new }
+{
+    if report.among.names && !report.asked.json {
+        let name = report.name;
+        report.write_behind(name.as_bytes(), out)?;
+        report.write_behind(b":\n", out)?;
+    }
+    Ok(())
+}
+
+/// The text as a terminal shows it, with these errors below their lines.
+fn lines_shown(report: &Report, gathered: &Gathered, found: &[Found]) -> Result<Vec<u8>, AllocError>
+    requires fits { length report.now.text.now < 2 ^ 32 }
+    requires covered { MayBeCovered (begin 0 (chars report.now.text.now)) gathered.now.kept.items gathered.now.comments.items }
+    ensures { IfOk result (λ lines. IsShown report.now.text.now gathered.now.kept.items gathered.now.comments.items (map view found.now) report.now.asked.colours lines.items) }
+{
+    show_text(
+        report.alloc,
+        report.text,
+        gathered.kept.as_slice(),
+        gathered.comments.as_slice(),
+        found,
+        report.asked.colours,
+    )
+}
+
+/// Writes a text as it is shown in a terminal, with these errors below their lines, and of several files behind a line with its
+/// name.
+fn write_shown<W: Write>(
+    report: &mut Report,
+    gathered: &Gathered,
+    found: &[Found],
+    out: &mut W,
+) -> Result<(), Stop>
+    requires fits { length report.old.text.now < 2 ^ 32 }
+    requires covered { MayBeCovered (begin 0 (chars report.old.text.now)) gathered.now.kept.items gathered.now.comments.items }
+    ensures { (look : Look) (name text : List ℕ) → IsOf look name text report.old
+        → OnOk result (OfLines look name text gathered.now.kept.items gathered.now.comments.items (map view found.now)
+        (λ all. Adds (W.contents out.old) (W.contents out.new) report.old.out.items report.new.out.items all)) }
+{
+    let lines = lines_shown(report, gathered, found)?;
+    write_shown_head(report, out)?;
+    report.write_whole(&lines, out)?;
+    Ok(())
+}
+
+/// Writes what is asked for of a text, by what was gathered of it.
+fn write_gathered<W: Write>(
+    report: &mut Report,
+    gathered: &Gathered,
+    found: &[Found],
+    out: &mut W,
+) -> Result<(), Stop>
+    requires fits { length report.old.text.now < 2 ^ 32 }
+    requires plain { (settings : Settings) × (steps : List Step) × GathersPlainly settings (begin 0 (chars report.old.text.now)) steps gathered.now }
+    requires covered { MayBeCovered (begin 0 (chars report.old.text.now)) gathered.now.kept.items gathered.now.comments.items }
+    ensures classes { (look : Look) (name text : List ℕ) → IsOf look name text report.old → look.asked.face ≡ face.Classes
+        → OnOk result (Adds (W.contents out.old) (W.contents out.new) report.old.out.items report.new.out.items
+        (piece_rows look name text (classes_of 0 (length text) gathered.now.kept.items gathered.now.comments.items))) }
+    ensures html { (look : Look) (name text : List ℕ) → IsOf look name text report.old → look.asked.face ≡ face.Html → AreInOrder (whole_specs.places_of (map view found.now))
+        → OnOk result (Adds (W.contents out.old) (W.contents out.new) report.old.out.items report.new.out.items
+        (html_written look name text gathered.now.kept.items gathered.now.comments.items (map view found.now))) }
+    ensures shown { (look : Look) (name text : List ℕ) → IsOf look name text report.old → look.asked.face ≡ face.Show
+        → OnOk result (OfLines look name text gathered.now.kept.items gathered.now.comments.items (map view found.now)
+        (λ all. Adds (W.contents out.old) (W.contents out.new) report.old.out.items report.new.out.items all)) }
+    ensures canonical { (look : Look) (name text : List ℕ) (rule : SlashRule) → IsOf look name text report.old → look.asked.face ≡ face.Canonical
+        → Gathers (start_of (plainly look) (whole text)) (steps_by rule look text) gathered.now
+        → OnOk result (OfCanon look name (plainly look) (chars text) (steps_by rule look text)
+        (λ all. Adds (W.contents out.old) (W.contents out.new) report.old.out.items report.new.out.items all)) }
+{
+    match report.asked.face {
+        Face::Classes => write_pieces(report, gathered, out),
+        Face::Html => write_html(report, gathered, found, out),
+        Face::Show => write_shown(report, gathered, found, out),
+        _ => write_canonical(report, gathered, out),
+    }
+}
+
+/// Whether comments are collected for it.
+fn collects_comments(face: Face) -> bool
+    ensures { result ≡ reports.collects_comments face }
+{
+    match face {
+        Face::Canonical => false,
+        _ => true,
+    }
+}
+
+/// Gathers the tokens of a text, and the comments but for the canonical text, tells of errors, and writes what is asked for.
+pub(crate) fn tell_gathered<'a, W: Write>(
+    report: &mut Report<'a>,
+    named: Named<'a>,
+    out: &mut W,
+) -> Result<(), Stop>
+    requires { length report.old.text.now < 2 ^ 32 }
+    ensures classes { (look : Look) (name text : List ℕ) → IsOf look name text report.old → look.asked.face ≡ face.Classes
+        → OnOk result (Adds (W.contents out.old) (W.contents out.new) report.old.out.items report.new.out.items (piece_rows look name text (pieces_by named.entry look text))) }
+    ensures html { (look : Look) (name text : List ℕ) → IsOf look name text report.old → look.asked.face ≡ face.Html
+        → OnOk result (OfHtml named.entry look name text
+        (λ all. Adds (W.contents out.old) (W.contents out.new) report.old.out.items report.new.out.items all)) }
+    ensures shown { (look : Look) (name text : List ℕ) → IsOf look name text report.old → look.asked.face ≡ face.Show
+        → OnOk result (OfShown named.entry look name text
+        (λ all. Adds (W.contents out.old) (W.contents out.new) report.old.out.items report.new.out.items all)) }
+    ensures canonical { (look : Look) (name text : List ℕ) → IsOf look name text report.old → look.asked.face ≡ face.Canonical
+        → OnOk result (OfCanon look name (plainly look) (chars text) (steps_by (rule_at named.entry) look text)
+        (λ all. Adds (W.contents out.old) (W.contents out.new) report.old.out.items report.new.out.items all)) }
+{
+    let settings = report
+        .asked
+        .options
+        .settings(collects_comments(report.asked.face));
+    let context = report.asked.options.context();
+    let slashes = slashes_at(named);
+    let read = read_out(
+        report.alloc,
+        &settings,
+        context,
+        report.text,
+        START,
+        slashes,
+    )?;
+    let ReadOut {
+        gathered,
+        rereads,
+        refusals,
+    } = read;
+    let recorded = gathered.errors.copy(report.alloc)?;
+    let waiting = Vec::new(report.alloc);
+    let found = in_order(report.alloc, refusals, recorded.into_vec(), waiting)?;
+    tell_unmet(report, named, rereads)?;
+    tell_found(report, &found, out)?;
+    write_gathered(report, &gathered, &found, out)?;
+    Ok(())
+}
