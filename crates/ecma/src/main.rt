@@ -1,8 +1,8 @@
 //! The command `ecma`: what a lexer finds in files.
 //!
 //! `arguments.rt` reads its words, `files.rt` finds the files that they name, in directories and lists too, `source.rt`
-//! reads one, `watched.rt` remembers why a read or a write failed, `faults.rt` has the lines on standard error, and
-//! `main.rt` reports on each file (docs/COMMAND.md).
+//! reads one, `watched.rt` remembers why a read or a write failed, `faults.rt` has the lines on standard error,
+//! `progress.rt` shows on a terminal how many files are done, and `main.rt` reports on each file (docs/COMMAND.md).
 #![tactic(auto)]
 
 ghost use Rattle.std.specs.Prelude.{◌<◌, ◌^◌, length};
@@ -11,6 +11,7 @@ mod arguments;
 mod colours;
 mod faults;
 mod files;
+mod progress;
 mod source;
 mod watched;
 
@@ -18,12 +19,13 @@ use crate::arguments::arguments;
 use crate::colours::takes_colours;
 use crate::faults::{FAULTY, Refusal, refuse, refuse_output, refuse_text};
 use crate::files::Files;
+use crate::progress::Progress;
 use crate::source::{STANDARD_INPUT, read};
 use crate::watched::Watched;
 use clap::ArgMatches;
+use ecma_faces::telling::tell;
 use ecma_place::BytePos;
 use ecma_report::report::{Report, Stop};
-use ecma_report::telling::tell;
 use ecma_report::words::{Among, Asked, Chosen, Named, command, has_jsx, is_by_flag, slash_places};
 use ecma_stdio::{Fault, Halt, exit_code, send, text_of};
 use std::alloc::AllocError;
@@ -46,6 +48,7 @@ struct Job<'a> {
     named: Named<'a>,
     /// Whether files that have JSX are read too.
     as_is: bool,
+    progress: Progress,
 }
 
 /// How the report on a file ended.
@@ -66,7 +69,9 @@ fn tell_text<'t>(rt: &HostRuntime, job: Job<'t>, name: &'t str, text: &'t str) -
     };
     report.among = job.among;
     let mut out = Watched::new(rt.stdout());
-    match tell(&mut report, job.named, &mut out) {
+    let told = tell(&mut report, job.named, &mut out);
+    job.progress.clear(rt);
+    match told {
         Ok(()) => {
             let status = if report.is_faulty { FAULTY } else { 0 };
             Ended::Status(send(&mut rt.stderr(), status, &report.faults))
@@ -76,25 +81,33 @@ fn tell_text<'t>(rt: &HostRuntime, job: Job<'t>, name: &'t str, text: &'t str) -
     }
 }
 
+/// Writes why there is nothing to report of a file.
+fn refuse_file(rt: &HostRuntime, job: Job, name: &str, refusal: Refusal) -> Ended {
+    job.progress.clear(rt);
+    Ended::Status(refuse_text(rt, name, refusal))
+}
+
 /// Writes what is asked for of a file, and its faults.
 fn tell_file(rt: &HostRuntime, job: Job, name: &str) -> Ended {
     if has_jsx(name) && !job.as_is {
+        job.progress.clear(rt);
         return Ended::Status(refuse(rt, name, JSX));
     }
     let bytes = match read(rt, name) {
         Ok(bytes) => bytes,
-        Err(refusal) => return Ended::Status(refuse_text(rt, name, refusal)),
+        Err(refusal) => return refuse_file(rt, job, name, refusal),
     };
     match text_of(&bytes) {
         Ok(text) => tell_text(rt, job, name, text),
-        Err(fault) => Ended::Status(refuse_text(rt, name, Refusal::from(Halt::Fault(fault)))),
+        Err(fault) => refuse_file(rt, job, name, Refusal::from(Halt::Fault(fault))),
     }
 }
 
 /// Reports on each file, and answers the status. Where standard output takes no more, no further file is read.
 fn tell_all(rt: &HostRuntime, job: Job, files: &[String]) -> u8 {
     let mut status = 0;
-    for file in files {
+    for (done, file) in files.iter().enumerate() {
+        job.progress.show(rt, done, files.len());
         match tell_file(rt, job, file.as_str()) {
             Ended::Status(own) => status = own.max(status),
             Ended::Closed(own) => return own.max(status),
@@ -142,6 +155,7 @@ fn run_subcommand(
             by_flag: is_by_flag(matches),
         },
         as_is: matches.get_flag("as-is"),
+        progress: Progress::new(rt),
     };
     Ok(tell_all(rt, job, &files.names).max(files.status))
 }
