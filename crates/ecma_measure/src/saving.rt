@@ -5,21 +5,35 @@ use ecma_stdio::Fault;
 use ecma_stream::{Checkpoint, Lexer};
 use std::alloc::AllocError;
 
-/// Saves where the lexer is. A call of its own, so that the checkpoint is written.
+/// Saves where the lexer is. A call of its own, as is each of the three: what one writes is then no cost of another.
 #[inline(never)]
+fn keep(lexer: &Lexer, kept: &mut Option<Checkpoint>) -> Result<(), AllocError> {
+    *kept = Some(lexer.checkpoint()?);
+    Ok(())
+}
+
+/// Saves where the lexer is, and goes back.
+#[inline(never)]
+fn keep_and_rewind(lexer: &mut Lexer) -> Result<(), AllocError> {
+    let here = lexer.checkpoint()?;
+    lexer.rewind(&here)?;
+    Ok(())
+}
+
+/// Copies the lexer, and goes back to the copy.
+#[inline(never)]
+fn copy_and_go_back(lexer: &mut Lexer) -> Result<(), AllocError> {
+    let copy = lexer.copy()?;
+    lexer.go_back(copy);
+    Ok(())
+}
+
 fn save(lexer: &mut Lexer, saves: Saves, kept: &mut Option<Checkpoint>) -> Result<(), AllocError> {
     match saves {
-        Saves::Checkpoint => *kept = Some(lexer.checkpoint()?),
-        Saves::CheckpointAndBack => {
-            let here = lexer.checkpoint()?;
-            lexer.rewind(&here)?;
-        }
-        Saves::CopyAndBack => {
-            let copy = lexer.copy()?;
-            lexer.go_back(copy);
-        }
+        Saves::Checkpoint => keep(lexer, kept),
+        Saves::CheckpointAndBack => keep_and_rewind(lexer),
+        Saves::CopyAndBack => copy_and_go_back(lexer),
     }
-    Ok(())
 }
 
 /// Reads to the end, and each slash again that the lexer's flag names, with a save every so many tokens. Says how many tokens
