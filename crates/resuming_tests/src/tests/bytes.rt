@@ -1,6 +1,7 @@
 //! Checkpoints as bytes.
-use super::going::behind;
+use super::going::checkpoint_behind;
 use ecma_stored::{decode, encode};
+use ecma_stream::Checkpoint;
 use listing::listing::{FROM_SEVEN, PLAIN, Settings};
 use std::alloc::{AllocError, Global};
 use std::process::Abort;
@@ -38,14 +39,20 @@ fn stored(
     text: &str,
     reads: usize,
 ) -> Result<Vec<u8>, AllocError> {
-    let from = behind(alloc, settings, text, reads)?.checkpoint()?;
+    let from = checkpoint_behind(alloc, settings, text, reads)?;
     encode(alloc, &from)
 }
 
-fn assert_byte(rt: &impl Abort, alloc: Global, row: &Row) -> Result<(), Fail> {
-    let (settings, text, reads, index, expected) = row;
-    let bytes = stored(alloc, *settings, text, *reads)?;
-    assert_eq!(rt; bytes.get(*index).copied(), Some(*expected));
+/// The byte of a row, where there is one.
+fn byte_of(alloc: Global, row: &Row) -> Result<Option<u8>, AllocError> {
+    let (settings, text, reads, index, _) = *row;
+    let bytes = stored(alloc, settings, text, reads)?;
+    Ok(bytes.get(index).copied())
+}
+
+fn assert_byte(rt: &impl Abort, alloc: Global, row: &Row) -> Result<(), AllocError> {
+    let found = byte_of(alloc, row)?;
+    assert_eq!(rt; found, Some(row.4));
     Ok(())
 }
 
@@ -66,12 +73,28 @@ const LENGTHS: &[(&str, usize, usize)] = &[
     ("/re", 1, 91),
 ];
 
-/// The bytes of the checkpoint of bytes.
-fn again(alloc: Global, bytes: &[u8]) -> Result<Vec<u8>, AllocError> {
+/// Whether a checkpoint has these bytes.
+fn has_bytes(alloc: Global, from: &Checkpoint, bytes: &[u8]) -> Result<bool, AllocError> {
+    let again = encode(alloc, from)?;
+    Ok(again.as_slice() == bytes)
+}
+
+/// Whether bytes are read back to a checkpoint that has the same.
+fn are_read_back(alloc: Global, bytes: &[u8]) -> Result<bool, AllocError> {
     match decode(alloc, bytes)? {
-        Some(from) => encode(alloc, &from),
-        None => Ok(Vec::new(alloc)),
+        Some(from) => has_bytes(alloc, &from, bytes),
+        None => Ok(false),
     }
+}
+
+fn assert_length(rt: &impl Abort, bytes: &[u8], length: usize) {
+    assert_eq!(rt; bytes.len(), length);
+}
+
+fn assert_same(rt: &impl Abort, alloc: Global, bytes: &[u8]) -> Result<(), AllocError> {
+    let are = are_read_back(alloc, bytes)?;
+    assert!(rt; are);
+    Ok(())
 }
 
 /// The checkpoint behind so many tokens has so many bytes, which are read back to one that has the same.
@@ -81,12 +104,10 @@ fn assert_back(
     text: &str,
     reads: usize,
     length: usize,
-) -> Result<(), Fail> {
+) -> Result<(), AllocError> {
     let bytes = stored(alloc, PLAIN, text, reads)?;
-    assert_eq!(rt; bytes.len(), length);
-    let again = again(alloc, bytes.as_slice())?;
-    assert!(rt; again.as_slice() == bytes.as_slice());
-    Ok(())
+    assert_length(rt, bytes.as_slice(), length);
+    assert_same(rt, alloc, bytes.as_slice())
 }
 
 #[test]
@@ -119,16 +140,21 @@ const CHANGED: &[(usize, u8, bool)] = &[
     (20, 255, false),
 ];
 
-fn changed(mut bytes: Vec<u8>, index: usize, byte: u8) -> Vec<u8> {
+fn change(bytes: &mut [u8], index: usize, byte: u8) {
     if let Some(place) = bytes.get_mut(index) {
         *place = byte;
     }
-    bytes
 }
 
 /// Whether bytes are those of a checkpoint.
 fn is_checkpoint(alloc: Global, bytes: &[u8]) -> Result<bool, AllocError> {
     Ok(decode(alloc, bytes)?.is_some())
+}
+
+fn is_changed_checkpoint(alloc: Global, index: usize, byte: u8) -> Result<bool, AllocError> {
+    let mut bytes = stored(alloc, PLAIN, "a", 1)?;
+    change(&mut bytes, index, byte);
+    is_checkpoint(alloc, bytes.as_slice())
 }
 
 fn assert_changed(
@@ -137,9 +163,9 @@ fn assert_changed(
     index: usize,
     byte: u8,
     expected: bool,
-) -> Result<(), Fail> {
-    let bytes = changed(stored(alloc, PLAIN, "a", 1)?, index, byte);
-    assert_eq!(rt; is_checkpoint(alloc, bytes.as_slice())?, expected);
+) -> Result<(), AllocError> {
+    let found = is_changed_checkpoint(alloc, index, byte)?;
+    assert_eq!(rt; found, expected);
     Ok(())
 }
 
@@ -151,11 +177,20 @@ fn other_bytes_are_no_checkpoint(rt: HostRuntime) -> Result<(), Fail> {
     Ok(())
 }
 
-/// The first bytes, as many as this, are those of a checkpoint or not.
-fn assert_first(rt: &impl Abort, alloc: Global, count: usize, expected: bool) -> Result<(), Fail> {
+fn is_first_checkpoint(alloc: Global, count: usize) -> Result<bool, AllocError> {
     let bytes = stored(alloc, PLAIN, "a", 1)?;
-    let first = bytes.get(..count).unwrap_or(&[]);
-    assert_eq!(rt; is_checkpoint(alloc, first)?, expected);
+    is_checkpoint(alloc, bytes.get(..count).unwrap_or(&[]))
+}
+
+/// The first bytes, as many as this, are those of a checkpoint or not.
+fn assert_first(
+    rt: &impl Abort,
+    alloc: Global,
+    count: usize,
+    expected: bool,
+) -> Result<(), AllocError> {
+    let found = is_first_checkpoint(alloc, count)?;
+    assert_eq!(rt; found, expected);
     Ok(())
 }
 
@@ -164,5 +199,6 @@ fn too_few_bytes_are_no_checkpoint(rt: HostRuntime) -> Result<(), Fail> {
     assert_first(&rt, rt.alloc(), 0, false)?;
     assert_first(&rt, rt.alloc(), 89, false)?;
     assert_first(&rt, rt.alloc(), 90, true)?;
-    assert_first(&rt, rt.alloc(), 91, true)
+    assert_first(&rt, rt.alloc(), 91, true)?;
+    Ok(())
 }

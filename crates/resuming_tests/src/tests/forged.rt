@@ -1,10 +1,10 @@
 //! Checkpoints that don't fit a text, and later checkpoints.
-use super::going::{behind, lexer_settings, read_over};
+use super::going::{assert_text, behind, checkpoint_behind, lexer_settings, pass, write_over};
 use ecma_place::BytePos;
 use ecma_resuming::{begin_of, resume};
 use ecma_stream::{Checkpoint, Lexer};
 use listing::listing::PLAIN;
-use std::alloc::Global;
+use std::alloc::{AllocError, Global};
 use std::process::Abort;
 use std::test::Fail;
 
@@ -48,17 +48,27 @@ fn forge(to: &mut Checkpoint, forgery: Forgery) {
     }
 }
 
+fn write_forged(
+    alloc: Global,
+    out: &mut String,
+    forgery: Forgery,
+    rest: &str,
+) -> Result<(), AllocError> {
+    let mut from = checkpoint_behind(alloc, PLAIN, "a / b", 2)?;
+    forge(&mut from, forgery);
+    write_over(alloc, out, PLAIN, &from, rest)
+}
+
 fn assert_row(
     rt: &impl Abort,
     alloc: Global,
     forgery: Forgery,
     rest: &str,
     expected: &str,
-) -> Result<(), Fail> {
-    let mut from = behind(alloc, PLAIN, "a / b", 2)?.checkpoint()?;
-    forge(&mut from, forgery);
-    let found = read_over(alloc, PLAIN, &from, rest)?;
-    assert_eq!(rt; found.as_str(), expected);
+) -> Result<(), AllocError> {
+    let mut out = String::new(alloc);
+    write_forged(alloc, &mut out, forgery, rest)?;
+    assert_text(rt, out.as_str(), expected);
     Ok(())
 }
 
@@ -70,42 +80,75 @@ fn checkpoints_that_do_not_fit_are_not_gone_on_from(rt: HostRuntime) -> Result<(
     Ok(())
 }
 
-/// The lexer goes to where the other is.
-fn assert_goes_to(rt: &impl Abort, lexer: &mut Lexer, other: &Lexer) -> Result<(), Fail> {
+/// Whether the lexer goes to where the other is.
+fn goes_to(lexer: &mut Lexer, other: &Lexer) -> Result<bool, AllocError> {
     let to = other.checkpoint()?;
-    let went = lexer.rewind(&to)?;
+    lexer.rewind(&to)
+}
+
+fn assert_goes_to(rt: &impl Abort, lexer: &mut Lexer, other: &Lexer) -> Result<(), AllocError> {
+    let went = goes_to(lexer, other)?;
     assert!(rt; went);
     Ok(())
 }
 
 /// Each of the lexers goes to where the other is.
-fn assert_both(rt: &impl Abort, whole: &mut Lexer, part: &mut Lexer) -> Result<(), Fail> {
-    let _ = part.read()?;
+fn assert_both(rt: &impl Abort, whole: &mut Lexer, part: &mut Lexer) -> Result<(), AllocError> {
+    pass(part)?;
     assert_goes_to(rt, whole, part)?;
     assert_goes_to(rt, part, whole)
+}
+
+/// There is one.
+fn assert_none(rt: &impl Abort) -> Result<(), AllocError> {
+    assert!(rt; false);
+    Ok(())
+}
+
+fn assert_part(rt: &impl Abort, whole: &mut Lexer, part: Option<Lexer>) -> Result<(), AllocError> {
+    match part {
+        Some(mut part) => assert_both(rt, whole, &mut part),
+        None => assert_none(rt),
+    }
+}
+
+/// A lexer that goes on from where another is.
+fn part_of(alloc: Global, whole: &Lexer) -> Result<Option<Lexer<'static>>, AllocError> {
+    let from = whole.checkpoint()?;
+    resume(alloc, &lexer_settings(PLAIN), &from, " b c")
+}
+
+fn assert_both_ways(rt: &impl Abort, alloc: Global, whole: &mut Lexer) -> Result<(), AllocError> {
+    let part = part_of(alloc, whole)?;
+    assert_part(rt, whole, part)
+}
+
+fn assert_from_one(rt: &impl Abort, alloc: Global) -> Result<(), AllocError> {
+    let mut whole = behind(alloc, PLAIN, "a b c", 1)?;
+    assert_both_ways(rt, alloc, &mut whole)
 }
 
 /// A lexer over the whole text goes back to a checkpoint of one that goes on over the rest, and the other way round.
 #[test]
 fn checkpoints_go_both_ways(rt: HostRuntime) -> Result<(), Fail> {
-    let mut whole = behind(rt.alloc(), PLAIN, "a b c", 1)?;
-    let from = whole.checkpoint()?;
-    match resume(rt.alloc(), &lexer_settings(PLAIN), &from, " b c")? {
-        Some(mut part) => assert_both(&rt, &mut whole, &mut part),
-        None => assert_none(&rt),
-    }
-}
-
-/// There is one.
-fn assert_none(rt: &impl Abort) -> Result<(), Fail> {
-    assert!(rt; false);
+    assert_from_one(&rt, rt.alloc())?;
     Ok(())
 }
 
+fn begin_behind(alloc: Global, reads: usize) -> Result<u32, AllocError> {
+    let from = checkpoint_behind(alloc, PLAIN, "a / b", reads)?;
+    Ok(begin_of(&from).0)
+}
+
 /// Where the rest begins from behind so many tokens of `a / b`.
-fn assert_begins(rt: &impl Abort, alloc: Global, reads: usize, begin: u32) -> Result<(), Fail> {
-    let from = behind(alloc, PLAIN, "a / b", reads)?.checkpoint()?;
-    assert_eq!(rt; begin_of(&from).0, begin);
+fn assert_begins(
+    rt: &impl Abort,
+    alloc: Global,
+    reads: usize,
+    begin: u32,
+) -> Result<(), AllocError> {
+    let found = begin_behind(alloc, reads)?;
+    assert_eq!(rt; found, begin);
     Ok(())
 }
 
@@ -115,5 +158,6 @@ fn rests_begin_at_slashes(rt: HostRuntime) -> Result<(), Fail> {
     assert_begins(&rt, rt.alloc(), 0, 0)?;
     assert_begins(&rt, rt.alloc(), 1, 1)?;
     assert_begins(&rt, rt.alloc(), 2, 2)?;
-    assert_begins(&rt, rt.alloc(), 3, 5)
+    assert_begins(&rt, rt.alloc(), 3, 5)?;
+    Ok(())
 }

@@ -7,6 +7,7 @@ use listing::listing::{
     Settings, opened, set_flags, syntax, write_next, write_note, write_rest, write_tokens,
 };
 use std::alloc::{AllocError, Global};
+use std::process::Abort;
 
 /// The settings of a lexer.
 pub fn lexer_settings(settings: Settings) -> LexerSettings {
@@ -18,10 +19,23 @@ pub fn lexer_settings(settings: Settings) -> LexerSettings {
     }
 }
 
-pub fn read_times(lexer: &mut Lexer, times: usize) -> Result<(), AllocError> {
-    for _ in 0..times {
-        let _ = lexer.read()?;
+/// Reads a token, which is let go by a call: at the end of a scope the proof goes through the end of each variant.
+pub fn pass(lexer: &mut Lexer) -> Result<(), AllocError> {
+    drop(lexer.read()?);
+    Ok(())
+}
+
+fn drop_found(lexer: &mut Lexer) {
+    drop(lexer.take_found());
+}
+
+/// Reads so many tokens. What was found is let go.
+fn go_behind(lexer: &mut Lexer, settings: Settings, reads: usize) -> Result<(), AllocError> {
+    set_flags(lexer, settings)?;
+    for _ in 0..reads {
+        pass(lexer)?;
     }
+    drop_found(lexer);
     Ok(())
 }
 
@@ -33,20 +47,27 @@ pub fn behind<'a>(
     reads: usize,
 ) -> Result<Lexer<'a>, AllocError> {
     let mut lexer = opened(alloc, settings, text)?;
-    set_flags(&mut lexer, settings)?;
-    read_times(&mut lexer, reads)?;
-    drop(lexer.take_found());
+    go_behind(&mut lexer, settings, reads)?;
     Ok(lexer)
 }
 
-/// The tokens up to the end, and the errors, the comments and the contexts then.
-pub fn read_on(alloc: Global, lexer: &mut Lexer) -> Result<String, AllocError> {
-    let mut out = String::new(alloc);
-    write_next(&mut out, lexer)?;
+/// The checkpoint behind so many tokens of a text.
+pub fn checkpoint_behind(
+    alloc: Global,
+    settings: Settings,
+    text: &str,
+    reads: usize,
+) -> Result<Checkpoint, AllocError> {
+    let lexer = behind(alloc, settings, text, reads)?;
+    lexer.checkpoint()
+}
+
+/// Writes the tokens up to the end, and the errors, the comments and the contexts then.
+pub fn write_on(alloc: Global, out: &mut String, lexer: &mut Lexer) -> Result<(), AllocError> {
+    write_next(out, lexer)?;
     lexer.set_next_regexp(None);
-    write_tokens(&mut out, lexer)?;
-    write_rest(alloc, &mut out, lexer)?;
-    Ok(out)
+    write_tokens(out, lexer)?;
+    write_rest(alloc, out, lexer)
 }
 
 /// The rest of a text that a lexer goes on over from a checkpoint.
@@ -58,34 +79,49 @@ pub fn rest_of<'a>(settings: Settings, text: &'a str, from: &Checkpoint) -> &'a 
     }
 }
 
-/// What a lexer reads that goes on over such a rest.
-pub fn read_over(
+/// Writes what a lexer reads that goes on, or that there is none.
+fn write_resumed(
     alloc: Global,
+    out: &mut String,
+    resumed: Option<Lexer>,
+) -> Result<(), AllocError> {
+    match resumed {
+        Some(mut lexer) => write_on(alloc, out, &mut lexer),
+        None => write_note(out, "none"),
+    }
+}
+
+/// Writes what a lexer reads that goes on over such a rest.
+pub fn write_over(
+    alloc: Global,
+    out: &mut String,
     settings: Settings,
     from: &Checkpoint,
     rest: &str,
-) -> Result<String, AllocError> {
-    match resume(alloc, &lexer_settings(settings), from, rest)? {
-        Some(mut lexer) => read_on(alloc, &mut lexer),
-        None => none(alloc),
-    }
+) -> Result<(), AllocError> {
+    write_resumed(
+        alloc,
+        out,
+        resume(alloc, &lexer_settings(settings), from, rest)?,
+    )
 }
 
 /// The same in a whole text.
-pub fn read_in(
+pub fn write_in(
     alloc: Global,
+    out: &mut String,
     settings: Settings,
     from: &Checkpoint,
     input: StringInput,
-) -> Result<String, AllocError> {
-    match Lexer::resume(alloc, &lexer_settings(settings), from, input)? {
-        Some(mut lexer) => read_on(alloc, &mut lexer),
-        None => none(alloc),
-    }
+) -> Result<(), AllocError> {
+    write_resumed(
+        alloc,
+        out,
+        Lexer::resume(alloc, &lexer_settings(settings), from, input)?,
+    )
 }
 
-fn none(alloc: Global) -> Result<String, AllocError> {
-    let mut out = String::new(alloc);
-    write_note(&mut out, "none")?;
-    Ok(out)
+/// The texts are the same. Here alone, as it brings printing into a proof.
+pub fn assert_text(rt: &impl Abort, found: &str, expected: &str) {
+    assert_eq!(rt; found, expected);
 }

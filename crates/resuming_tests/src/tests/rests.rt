@@ -1,5 +1,7 @@
 //! The rest of a text is read as in the whole text, from each token on.
-use super::going::{behind, read_in, read_on, read_over, rest_of};
+use super::going::{
+    assert_text, behind, checkpoint_behind, rest_of, write_in, write_on, write_over,
+};
 use ecma_place::{BytePos, StringInput};
 use ecma_stream::Checkpoint;
 use listing::listing::{COLLECTING, FROM_SEVEN, MODULE, PLAIN, STRICT, Settings, TS};
@@ -41,12 +43,27 @@ const ROWS: &[Row] = &[
     ),
 ];
 
-fn assert_row(rt: &impl Abort, alloc: Global, row: &Row) -> Result<(), Fail> {
-    let (settings, text, reads, expected) = row;
-    let from = behind(alloc, *settings, text, *reads)?.checkpoint()?;
-    let rest = rest_of(*settings, text, &from);
-    let found = read_over(alloc, *settings, &from, rest)?;
-    assert_eq!(rt; found.as_str(), *expected);
+/// Writes what is read from a checkpoint on, over the rest of the text.
+fn write_from(
+    alloc: Global,
+    out: &mut String,
+    settings: Settings,
+    text: &str,
+    from: &Checkpoint,
+) -> Result<(), AllocError> {
+    write_over(alloc, out, settings, from, rest_of(settings, text, from))
+}
+
+fn write_row(alloc: Global, out: &mut String, row: &Row) -> Result<(), AllocError> {
+    let (settings, text, reads, _) = *row;
+    let from = checkpoint_behind(alloc, settings, text, reads)?;
+    write_from(alloc, out, settings, text, &from)
+}
+
+fn assert_row(rt: &impl Abort, alloc: Global, row: &Row) -> Result<(), AllocError> {
+    let mut out = String::new(alloc);
+    write_row(alloc, &mut out, row)?;
+    assert_text(rt, out.as_str(), row.3);
     Ok(())
 }
 
@@ -58,8 +75,10 @@ fn rests_are_read(rt: HostRuntime) -> Result<(), Fail> {
     Ok(())
 }
 
-/// Texts, each with more tokens than are counted here.
-const TEXTS: &[(Settings, &str, usize)] = &[
+/// What a text is read by, the text, and a count of tokens, of which it has more.
+type Text = (Settings, &'static str, usize);
+
+const TEXTS: &[Text] = &[
     (PLAIN, "f(a / b, /re/g) { x => `y${ {z: 1__2} }w` }", 24),
     (
         COLLECTING,
@@ -75,75 +94,91 @@ const TEXTS: &[(Settings, &str, usize)] = &[
     (PLAIN, "\u{2028}é / ŷ\r\n'\u{1F600}'", 4),
 ];
 
-/// What the lexer over the whole text reads behind so many tokens.
-fn read_behind(
-    alloc: Global,
-    settings: Settings,
-    text: &str,
-    reads: usize,
-) -> Result<String, AllocError> {
-    read_on(alloc, &mut behind(alloc, settings, text, reads)?)
-}
-
-/// Behind so many tokens the rest is read as by the lexer over the whole text, and so is the whole text again.
-fn assert_same(
-    rt: &impl Abort,
-    alloc: Global,
-    settings: Settings,
-    text: &str,
-    reads: usize,
-) -> Result<(), Fail> {
-    let wanted = read_behind(alloc, settings, text, reads)?;
-    let from = behind(alloc, settings, text, reads)?.checkpoint()?;
-    assert_over(rt, alloc, settings, text, &from, wanted.as_str())?;
-    assert_in_whole(rt, alloc, settings, text, &from, wanted.as_str())
-}
-
 fn assert_over(
     rt: &impl Abort,
     alloc: Global,
-    settings: Settings,
-    text: &str,
+    text: &Text,
     from: &Checkpoint,
     wanted: &str,
-) -> Result<(), Fail> {
-    let found = read_over(alloc, settings, from, rest_of(settings, text, from))?;
-    assert_eq!(rt; found.as_str(), wanted);
+) -> Result<(), AllocError> {
+    let mut out = String::new(alloc);
+    write_from(alloc, &mut out, text.0, text.1, from)?;
+    assert_text(rt, out.as_str(), wanted);
+    Ok(())
+}
+
+fn assert_in(
+    rt: &impl Abort,
+    alloc: Global,
+    settings: Settings,
+    input: StringInput,
+    from: &Checkpoint,
+    wanted: &str,
+) -> Result<(), AllocError> {
+    let mut out = String::new(alloc);
+    write_in(alloc, &mut out, settings, from, input)?;
+    assert_text(rt, out.as_str(), wanted);
     Ok(())
 }
 
 fn assert_in_whole(
     rt: &impl Abort,
     alloc: Global,
-    settings: Settings,
-    text: &str,
+    text: &Text,
     from: &Checkpoint,
     wanted: &str,
-) -> Result<(), Fail> {
-    let start = BytePos(settings.start);
-    assert!(rt; StringInput::fits(text, start));
-    let found = read_in(alloc, settings, from, StringInput::new(text, start))?;
-    assert_eq!(rt; found.as_str(), wanted);
-    Ok(())
+) -> Result<(), AllocError> {
+    let start = BytePos(text.0.start);
+    assert!(rt; StringInput::fits(text.1, start));
+    let input = StringInput::new(text.1, start);
+    assert_in(rt, alloc, text.0, input, from, wanted)
 }
 
-fn assert_each(
+fn assert_from(
     rt: &impl Abort,
     alloc: Global,
-    settings: Settings,
-    text: &str,
-    many: usize,
-) -> Result<(), Fail> {
-    for reads in 0..many {
-        assert_same(rt, alloc, settings, text, reads)?;
+    text: &Text,
+    reads: usize,
+    wanted: &str,
+) -> Result<(), AllocError> {
+    let from = checkpoint_behind(alloc, text.0, text.1, reads)?;
+    assert_over(rt, alloc, text, &from, wanted)?;
+    assert_in_whole(rt, alloc, text, &from, wanted)
+}
+
+/// Writes what the lexer over the whole text reads behind so many tokens.
+fn write_behind(
+    alloc: Global,
+    out: &mut String,
+    text: &Text,
+    reads: usize,
+) -> Result<(), AllocError> {
+    write_on(alloc, out, &mut behind(alloc, text.0, text.1, reads)?)
+}
+
+/// Behind so many tokens the rest is read as by the lexer over the whole text, and so is the whole text again.
+fn assert_same(
+    rt: &impl Abort,
+    alloc: Global,
+    text: &Text,
+    reads: usize,
+) -> Result<(), AllocError> {
+    let mut wanted = String::new(alloc);
+    write_behind(alloc, &mut wanted, text, reads)?;
+    assert_from(rt, alloc, text, reads, wanted.as_str())
+}
+
+fn assert_each(rt: &impl Abort, alloc: Global, text: &Text) -> Result<(), AllocError> {
+    for reads in 0..text.2 {
+        assert_same(rt, alloc, text, reads)?;
     }
     Ok(())
 }
 
 #[test]
 fn each_token_may_be_gone_on_from(rt: HostRuntime) -> Result<(), Fail> {
-    for (settings, text, many) in TEXTS {
-        assert_each(&rt, rt.alloc(), *settings, text, *many)?;
+    for text in TEXTS {
+        assert_each(&rt, rt.alloc(), text)?;
     }
     Ok(())
 }
