@@ -1,6 +1,6 @@
 //! The debug text of a token of each variant.
 
-use super::{assert_debug_text, error_token, owned, span};
+use super::{assert_debug_text, owned, span};
 use ecma_place::Atom;
 use ecma_syntax::{AssignOp, BinOpToken, Word};
 use ecma_token::{Error, Radix, SyntaxError, Token, TokenKind};
@@ -73,7 +73,7 @@ fn assert_punctuator(
     alloc: Global,
     kind: TokenKind,
     want: &str,
-) -> Result<(), AllocError> {
+) -> Result<(), Fail> {
     match punctuator(kind) {
         Some(token) => assert_debug_text(rt, alloc, token, want),
         None => panic!(rt; "no punctuator"),
@@ -148,89 +148,63 @@ fn debug_texts_of_words_and_literals(rt: HostRuntime) -> Result<(), Fail> {
     Ok(())
 }
 
-fn cooked_template<'a>(cooked: Atom<'a>) -> Token<'a> {
-    Token::Template {
+fn template<'a>(alloc: Global) -> Result<Token<'a>, AllocError> {
+    let cooked = owned(alloc, "a\n")?;
+    Ok(Token::Template {
         raw: Atom::from("a\\n"),
         cooked: Ok(cooked),
-    }
-}
-
-fn template<'a>(alloc: Global) -> Result<Token<'a>, AllocError> {
-    Ok(cooked_template(owned(alloc, "a\n")?))
-}
-
-fn refused<'a>(error: Error<'a>) -> Token<'a> {
-    Token::Template {
-        raw: Atom::from("\\u{}"),
-        cooked: Err(error),
-    }
+    })
 }
 
 fn refused_template<'a>(alloc: Global) -> Result<Token<'a>, AllocError> {
-    let place = span(1, 10);
-    Ok(refused(Error::new(alloc, place, SyntaxError::InvalidStrEscape)?))
+    let refused = Error::new(alloc, span(1, 10), SyntaxError::InvalidStrEscape)?;
+    Ok(Token::Template {
+        raw: Atom::from("\\u{}"),
+        cooked: Err(refused),
+    })
 }
 
-fn binary_two<'a>(digits: Atom<'a>) -> Token<'a> {
-    Token::Num {
+fn separated_number<'a>(alloc: Global) -> Result<Token<'a>, AllocError> {
+    let digits = owned(alloc, "10")?;
+    Ok(Token::Num {
         raw: Atom::from("0b1_0"),
         radix: Radix::Binary,
         digits,
         whole: Some(2),
-    }
-}
-
-fn separated_number<'a>(alloc: Global) -> Result<Token<'a>, AllocError> {
-    Ok(binary_two(owned(alloc, "10")?))
+    })
 }
 
 fn unexpected_nul<'a>(alloc: Global) -> Result<Token<'a>, AllocError> {
     let unexpected = SyntaxError::UnexpectedChar { c: '\0' };
-    error_token(alloc, span(0, 0), unexpected)
+    Ok(Token::Error(Error::new(alloc, span(0, 0), unexpected)?))
 }
 
-fn assert_template(rt: &impl Abort, alloc: Global) -> Result<(), AllocError> {
-    assert_debug_text(rt, alloc, template(alloc)?, "template token (a\\n)")
-}
-
-fn assert_refused_template(rt: &impl Abort, alloc: Global) -> Result<(), AllocError> {
+#[test]
+fn debug_texts_of_templates(rt: HostRuntime) -> Result<(), Fail> {
+    let alloc = rt.alloc();
+    assert_debug_text(&rt, alloc, template(alloc)?, "template token (a\\n)")?;
     assert_debug_text(
-        rt,
+        &rt,
         alloc,
         refused_template(alloc)?,
         "template token (\\u{})",
     )
 }
 
-fn assert_number(rt: &impl Abort, alloc: Global) -> Result<(), AllocError> {
+#[test]
+fn debug_text_of_a_number_with_a_separator(rt: HostRuntime) -> Result<(), Fail> {
+    let alloc = rt.alloc();
     assert_debug_text(
-        rt,
+        &rt,
         alloc,
         separated_number(alloc)?,
         "numeric literal (0b1_0)",
     )
 }
 
-fn assert_error(rt: &impl Abort, alloc: Global) -> Result<(), AllocError> {
-    let want = "<lexing error: Unexpected character '\\0'>";
-    assert_debug_text(rt, alloc, unexpected_nul(alloc)?, want)
-}
-
-#[test]
-fn debug_texts_of_templates(rt: HostRuntime) -> Result<(), Fail> {
-    assert_template(&rt, rt.alloc())?;
-    assert_refused_template(&rt, rt.alloc())?;
-    Ok(())
-}
-
-#[test]
-fn debug_text_of_a_number_with_a_separator(rt: HostRuntime) -> Result<(), Fail> {
-    assert_number(&rt, rt.alloc())?;
-    Ok(())
-}
-
 #[test]
 fn debug_text_of_an_error(rt: HostRuntime) -> Result<(), Fail> {
-    assert_error(&rt, rt.alloc())?;
-    Ok(())
+    let alloc = rt.alloc();
+    let want = "<lexing error: Unexpected character '\\0'>";
+    assert_debug_text(&rt, alloc, unexpected_nul(alloc)?, want)
 }

@@ -3,7 +3,7 @@
 use super::names::named;
 use super::{assert_message, span};
 use ecma_token::{Error, FixedError, SyntaxError};
-use std::alloc::{AllocError, Global};
+use std::alloc::Global;
 use std::process::Abort;
 use std::test::Fail;
 
@@ -518,25 +518,17 @@ const TYPES: &[Row] = &[
 ];
 
 // The error is the constant of its own name.
-fn name_of(plain: FixedError) -> Option<FixedError> {
+fn assert_named(rt: &impl Abort, plain: FixedError) {
     let error = SyntaxError::Fixed(plain);
     let found = named(&error);
     drop(error);
-    found
-}
-
-fn assert_named(rt: &impl Abort, plain: FixedError) {
-    assert_eq!(rt; name_of(plain), Some(plain));
-}
-
-fn assert_row(rt: &impl Abort, alloc: Global, row: &Row) -> Result<(), AllocError> {
-    assert_named(rt, row.0);
-    assert_message(rt, alloc, SyntaxError::Fixed(row.0), row.1)
+    assert_eq!(rt; found, Some(plain));
 }
 
 fn assert_rows(rt: &impl Abort, alloc: Global, rows: &[Row]) -> Result<(), Fail> {
-    for row in rows {
-        assert_row(rt, alloc, row)?;
+    for (plain, want) in rows {
+        assert_named(rt, *plain);
+        assert_message(rt, alloc, SyntaxError::Fixed(*plain), want)?;
     }
     Ok(())
 }
@@ -566,19 +558,10 @@ fn typescript_messages_of_types(rt: HostRuntime) -> Result<(), Fail> {
     assert_rows(&rt, rt.alloc(), TYPES)
 }
 
-fn assert_hash(rt: &impl Abort, kind: &SyntaxError) {
-    assert!(rt; matches!(kind, &SyntaxError::Hash));
-    assert!(rt; !matches!(kind, &SyntaxError::Eof));
-}
-
-fn assert_hash_error(rt: &impl Abort, error: Error) {
-    assert_hash(rt, error.kind());
-    drop(error);
-}
-
 #[test]
 fn an_error_is_matched_by_its_name(rt: HostRuntime) -> Result<(), Fail> {
     let error = Error::new(rt.alloc(), span(1, 2), SyntaxError::Hash)?;
-    assert_hash_error(&rt, error);
+    assert!(rt; matches!(error.kind(), &SyntaxError::Hash));
+    assert!(rt; !matches!(error.kind(), &SyntaxError::Eof));
     Ok(())
 }

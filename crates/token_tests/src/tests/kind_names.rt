@@ -1,20 +1,13 @@
 //! The names of kinds: those of upstream's variants, of a word that of its kind.
 
-use super::assert_text;
 use ecma_syntax::{AssignOp, BinOpToken, Word};
 use ecma_token::TokenKind;
-use std::alloc::{AllocError, Global};
+use std::alloc::Global;
 use std::process::Abort;
 use std::test::Fail;
 
-fn assert_name(
-    rt: &impl Abort,
-    alloc: Global,
-    kind: TokenKind,
-    want: &str,
-) -> Result<(), AllocError> {
-    let name = kind.to_string(alloc)?;
-    assert_text(rt, name.as_str(), want);
+fn assert_name(rt: &impl Abort, alloc: Global, kind: TokenKind, want: &str) -> Result<(), Fail> {
+    assert_eq!(rt; kind.to_string(alloc)?.as_str(), want);
     Ok(())
 }
 

@@ -1,6 +1,6 @@
 //! The bytes of the messages of the lexer's errors, and of those that hold something.
 
-use super::{assert_message, boxed_error, boxed_token, span};
+use super::{assert_message, span};
 use ecma_place::Atom;
 use ecma_token::{Error, Radix, SyntaxError, Token};
 use std::alloc::{AllocError, Global};
@@ -165,7 +165,7 @@ fn assert_suggestions(
     alloc: Global,
     candidates: &[&'static str],
     want: &str,
-) -> Result<(), AllocError> {
+) -> Result<(), Fail> {
     let candidate_list = candidates.to_vec(alloc)?;
     let error = SyntaxError::UnexpectedTokenWithSuggestions { candidate_list };
     assert_message(rt, alloc, error, want)
@@ -207,77 +207,53 @@ fn unexpected_brace<'a>(alloc: Global) -> Result<SyntaxError<'a>, AllocError> {
 
 fn expected_semicolon<'a>(alloc: Global) -> Result<SyntaxError<'a>, AllocError> {
     let name = String::from_str(alloc, "x")?;
-    Ok(SyntaxError::Expected(boxed_token(alloc, Token::Semi)?, name))
+    Ok(SyntaxError::Expected(Box::new(alloc, Token::Semi)?, name))
 }
 
 fn labelled_hash<'a>(alloc: Global) -> Result<SyntaxError<'a>, AllocError> {
     let hash = Error::new(alloc, span(1, 2), SyntaxError::Hash)?;
     Ok(SyntaxError::WithLabel {
-        inner: boxed_error(alloc, hash)?,
+        inner: Box::new(alloc, hash)?,
         span: span(0, 1),
         note: "here",
     })
 }
 
-fn assert_unary(rt: &impl Abort, alloc: Global) -> Result<(), AllocError> {
-    let want = "'**' cannot be applied to unary/await expression.";
-    assert_message(rt, alloc, unary_in_exp(alloc)?, want)
-}
-
-fn assert_brace(rt: &impl Abort, alloc: Global) -> Result<(), AllocError> {
-    let want = "Unexpected token `}`. Expected a name";
-    assert_message(rt, alloc, unexpected_brace(alloc)?, want)
-}
-
 #[test]
 fn messages_with_owned_texts(rt: HostRuntime) -> Result<(), Fail> {
-    assert_unary(&rt, rt.alloc())?;
-    assert_brace(&rt, rt.alloc())?;
-    Ok(())
-}
-
-fn assert_expected(rt: &impl Abort, alloc: Global) -> Result<(), AllocError> {
-    assert_message(
-        rt,
-        alloc,
-        expected_semicolon(alloc)?,
-        "Expected ';', got 'x'",
-    )
-}
-
-fn assert_labelled(rt: &impl Abort, alloc: Global) -> Result<(), AllocError> {
-    assert_message(rt, alloc, labelled_hash(alloc)?, "Unexpected token '#'")
+    let alloc = rt.alloc();
+    let unary = "'**' cannot be applied to unary/await expression.";
+    assert_message(&rt, alloc, unary_in_exp(alloc)?, unary)?;
+    let brace = "Unexpected token `}`. Expected a name";
+    assert_message(&rt, alloc, unexpected_brace(alloc)?, brace)
 }
 
 #[test]
 fn messages_with_owned_errors(rt: HostRuntime) -> Result<(), Fail> {
-    assert_expected(&rt, rt.alloc())?;
-    assert_labelled(&rt, rt.alloc())?;
-    Ok(())
-}
-
-fn assert_statement(rt: &impl Abort, alloc: Global) -> Result<(), AllocError> {
-    let semicolon = SyntaxError::ExpectedSemiForExprStmt { expr: span(0, 1) };
-    assert_message(rt, alloc, semicolon, "Expected ';', '}' or <eof>")
-}
-
-fn assert_second_default(rt: &impl Abort, alloc: Global) -> Result<(), AllocError> {
-    let second = SyntaxError::MultipleDefault {
-        previous: span(0, 7),
-    };
+    let alloc = rt.alloc();
     assert_message(
-        rt,
+        &rt,
         alloc,
-        second,
-        "A switch block cannot have multiple defaults",
-    )
+        expected_semicolon(alloc)?,
+        "Expected ';', got 'x'",
+    )?;
+    assert_message(&rt, alloc, labelled_hash(alloc)?, "Unexpected token '#'")
 }
 
 #[test]
 fn messages_with_places(rt: HostRuntime) -> Result<(), Fail> {
-    assert_statement(&rt, rt.alloc())?;
-    assert_second_default(&rt, rt.alloc())?;
-    Ok(())
+    let alloc = rt.alloc();
+    let semicolon = SyntaxError::ExpectedSemiForExprStmt { expr: span(0, 1) };
+    assert_message(&rt, alloc, semicolon, "Expected ';', '}' or <eof>")?;
+    let second = SyntaxError::MultipleDefault {
+        previous: span(0, 7),
+    };
+    assert_message(
+        &rt,
+        alloc,
+        second,
+        "A switch block cannot have multiple defaults",
+    )
 }
 
 // An error of the parser, and the words that it holds.
