@@ -48,8 +48,8 @@ fn go_on(rt: &impl Print, alloc: Global, from: &Checkpoint) -> io::Result<()> {
 fn behind_two<'a>(alloc: Global) -> io::Result<Lexer<'a>> {
     let mut lexer = opened(alloc, TEXT)?;
     lexer.set_token_context(contexts(alloc)?);
-    let _ = lexer.read()?;
-    let _ = lexer.read()?;
+    drop(lexer.read()?);
+    drop(lexer.read()?);
     Ok(lexer)
 }
 

@@ -24,7 +24,7 @@ pub enum Command {
 
 pub fn read_times(lexer: &mut Lexer, times: usize) -> Result<(), AllocError> {
     for _ in 0..times {
-        let _ = lexer.read()?;
+        drop(lexer.read()?);
     }
     Ok(())
 }
