@@ -1,5 +1,4 @@
 //! Buffers of comments.
-use super::assert_text;
 use ecma_place::{Atom, BytePos, Comment, CommentKind, Span};
 use ecma_state::attachment::Around;
 use ecma_state::{BufferedComment, BufferedCommentKind, CommentsBuffer};
@@ -10,7 +9,7 @@ use std::process::Abort;
 use std::test::Fail;
 
 /// A comment that stands there.
-fn comment<'a>(kind: CommentKind, lo: u32, hi: u32) -> Comment<'a> {
+fn comment(kind: CommentKind, lo: u32, hi: u32) -> Comment<'static> {
     Comment {
         kind,
         span: Span {
@@ -22,7 +21,7 @@ fn comment<'a>(kind: CommentKind, lo: u32, hi: u32) -> Comment<'a> {
 }
 
 /// A block comment that belongs to a token at that place.
-fn block<'a>(kind: BufferedCommentKind, pos: u32, lo: u32, hi: u32) -> BufferedComment<'a> {
+fn block(kind: BufferedCommentKind, pos: u32, lo: u32, hi: u32) -> BufferedComment<'static> {
     BufferedComment {
         kind,
         pos: BytePos(pos),
@@ -30,11 +29,11 @@ fn block<'a>(kind: BufferedCommentKind, pos: u32, lo: u32, hi: u32) -> BufferedC
     }
 }
 
-fn leading<'a>(pos: u32, lo: u32, hi: u32) -> BufferedComment<'a> {
+fn leading(pos: u32, lo: u32, hi: u32) -> BufferedComment<'static> {
     block(BufferedCommentKind::Leading, pos, lo, hi)
 }
 
-fn trailing<'a>(pos: u32, lo: u32, hi: u32) -> BufferedComment<'a> {
+fn trailing(pos: u32, lo: u32, hi: u32) -> BufferedComment<'static> {
     block(BufferedCommentKind::Trailing, pos, lo, hi)
 }
 
@@ -59,18 +58,14 @@ fn write_in_order(
     write_taken(out, buffer)
 }
 
-fn write_new_in_order(alloc: Global, out: &mut String) -> Result<(), AllocError> {
-    write_in_order(out, &mut CommentsBuffer::new(alloc))
-}
-
 #[test]
 fn comments_are_taken_in_order(rt: HostRuntime) -> Result<(), Fail> {
-    let mut out = String::new(rt.alloc());
-    write_new_in_order(rt.alloc(), &mut out)?;
-    assert_text(
-        &rt,
+    let alloc = rt.alloc();
+    let mut out = String::new(alloc);
+    write_in_order(&mut out, &mut CommentsBuffer::new(alloc))?;
+    assert_eq!(rt;
         out.as_str(),
-        "trailing 3 4..9 Block [t]; leading 20 10..15 Block [t]; again",
+        "trailing 3 4..9 Block [t]; leading 20 10..15 Block [t]; again"
     );
     Ok(())
 }
@@ -88,18 +83,14 @@ fn write_waiting_first(
     write_taken(out, buffer)
 }
 
-fn write_new_waiting_first(alloc: Global, out: &mut String) -> Result<(), AllocError> {
-    write_waiting_first(out, &mut CommentsBuffer::new(alloc))
-}
-
 #[test]
 fn waiting_comments_are_taken_by_themselves(rt: HostRuntime) -> Result<(), Fail> {
-    let mut out = String::new(rt.alloc());
-    write_new_waiting_first(rt.alloc(), &mut out)?;
-    assert_text(
-        &rt,
+    let alloc = rt.alloc();
+    let mut out = String::new(alloc);
+    write_waiting_first(&mut out, &mut CommentsBuffer::new(alloc))?;
+    assert_eq!(rt;
         out.as_str(),
-        "leading 0 1..5 Block [t]; leading 0 12..16 Block [t]; again; trailing 6 7..11 Block [t]",
+        "leading 0 1..5 Block [t]; leading 0 12..16 Block [t]; again; trailing 6 7..11 Block [t]"
     );
     Ok(())
 }
@@ -108,15 +99,12 @@ fn write_copy(alloc: Global, out: &mut String, copied: &BufferedComment) -> Resu
     write_comment(out, &copied.copy(alloc)?)
 }
 
-fn write_copy_of_one(alloc: Global, out: &mut String) -> Result<(), AllocError> {
-    write_copy(alloc, out, &trailing(3, 4, 9))
-}
-
 #[test]
 fn a_copied_comment_is_the_same(rt: HostRuntime) -> Result<(), Fail> {
-    let mut out = String::new(rt.alloc());
-    write_copy_of_one(rt.alloc(), &mut out)?;
-    assert_text(&rt, out.as_str(), "trailing 3 4..9 Block [t]");
+    let alloc = rt.alloc();
+    let mut out = String::new(alloc);
+    write_copy(alloc, &mut out, &trailing(3, 4, 9))?;
+    assert_eq!(rt; out.as_str(), "trailing 3 4..9 Block [t]");
     Ok(())
 }
 
@@ -168,69 +156,48 @@ const READS: &[Read] = &[
     ),
 ];
 
-fn gather(comments: &mut Vec<(Comment, bool)>, found: &[Found]) -> Result<(), AllocError> {
+/// These comments of one read.
+fn gathered(alloc: Global, found: &[Found]) -> Result<Vec<(Comment<'static>, bool)>, AllocError> {
+    let mut comments = Vec::new(alloc);
     for (kind, lo, hi, is_for_next) in found {
         comments.push((comment(*kind, *lo, *hi), *is_for_next))?;
     }
-    Ok(())
-}
-
-/// These comments of one read.
-fn gathered<'a>(alloc: Global, found: &[Found]) -> Result<Vec<(Comment<'a>, bool)>, AllocError> {
-    let mut comments = Vec::new(alloc);
-    gather(&mut comments, found)?;
     Ok(comments)
 }
 
-/// A buffer that took in these comments.
-fn with_comments<'a>(
+/// A buffer that took in the comments of one read.
+fn attached(
     alloc: Global,
     around: Around,
-    comments: Vec<(Comment<'a>, bool)>,
-) -> Result<CommentsBuffer<'a>, AllocError> {
+    found: &[Found],
+) -> Result<CommentsBuffer<'static>, AllocError> {
+    let comments = gathered(alloc, found)?;
     let mut buffer = CommentsBuffer::new(alloc);
     buffer.attach(around, comments, Vec::new(alloc))?;
     Ok(buffer)
 }
 
-/// A buffer that took in the comments of one read.
-fn attached<'a>(
-    alloc: Global,
-    around: Around,
-    found: &[Found],
-) -> Result<CommentsBuffer<'a>, AllocError> {
-    with_comments(alloc, around, gathered(alloc, found)?)
-}
-
-fn write_taken_of_copy(out: &mut String, buffer: &CommentsBuffer) -> Result<(), AllocError> {
-    write_taken(out, &mut buffer.copy()?)
-}
-
 /// Writes the comments that a copy of the buffer has, and those that wait.
 fn write_copied(out: &mut String, buffer: &mut CommentsBuffer) -> Result<(), AllocError> {
-    write_taken_of_copy(out, buffer)?;
+    write_taken(out, &mut buffer.copy()?)?;
     write_waiting(out, buffer)
 }
 
-fn write_attached(
-    alloc: Global,
-    out: &mut String,
-    around: Around,
-    found: &[Found],
-) -> Result<(), AllocError> {
-    write_copied(out, &mut attached(alloc, around, found)?)
+fn attached_listing(alloc: Global, around: Around, found: &[Found]) -> Result<String, AllocError> {
+    let mut out = String::new(alloc);
+    write_copied(&mut out, &mut attached(alloc, around, found)?)?;
+    Ok(out)
 }
 
-fn assert_attached(rt: &impl Abort, alloc: Global, read: &Read) -> Result<(), AllocError> {
-    let (end, next, found, expected) = *read;
+fn assert_attached(rt: &impl Abort, alloc: Global, read: &Read) -> Result<(), Fail> {
+    let (end, next, found, expected) = read;
     let around = Around {
         start: BytePos(0),
-        end: BytePos(end),
+        end: BytePos(*end),
         next: next.map(BytePos),
     };
-    let mut out = String::new(alloc);
-    write_attached(alloc, &mut out, around, found)?;
-    assert_text(rt, out.as_str(), expected);
+    let listing = attached_listing(alloc, around, found)?;
+    assert_eq!(rt; listing.as_str(), *expected);
     Ok(())
 }
 
@@ -243,7 +210,7 @@ fn comments_of_a_read_find_their_tokens(rt: HostRuntime) -> Result<(), Fail> {
 }
 
 /// Adds three comments, and one that waits.
-fn push_three(buffer: &mut CommentsBuffer) -> Result<(), AllocError> {
+fn push_three(buffer: &mut CommentsBuffer<'static>) -> Result<(), AllocError> {
     buffer.push(trailing(3, 4, 9))?;
     buffer.push(leading(20, 10, 15))?;
     buffer.push(trailing(25, 26, 31))?;
@@ -251,10 +218,10 @@ fn push_three(buffer: &mut CommentsBuffer) -> Result<(), AllocError> {
 }
 
 /// Hands the comments over, and writes what the store has then.
-fn write_handed<'a>(
+fn write_handed(
     out: &mut String,
-    buffer: &mut CommentsBuffer<'a>,
-    store: &mut Store<'a>,
+    buffer: &mut CommentsBuffer<'static>,
+    store: &mut Store<'static>,
 ) -> Result<(), AllocError> {
     let handed = buffer.hand_over(store);
     write_note(out, if handed.is_ok() { "handed" } else { "refused" })?;
@@ -262,16 +229,16 @@ fn write_handed<'a>(
 }
 
 /// Writes what the buffer has, and leaves nothing in it.
-fn write_left(out: &mut String, buffer: &mut CommentsBuffer) -> Result<(), AllocError> {
+fn write_left(out: &mut String, buffer: &mut CommentsBuffer<'static>) -> Result<(), AllocError> {
     write_note(out, "left")?;
     write_taken(out, buffer)?;
     write_waiting(out, buffer)
 }
 
-fn write_handed_twice<'a>(
+fn write_handed_twice(
     out: &mut String,
-    buffer: &mut CommentsBuffer<'a>,
-    store: &mut Store<'a>,
+    buffer: &mut CommentsBuffer<'static>,
+    store: &mut Store<'static>,
 ) -> Result<(), AllocError> {
     push_three(buffer)?;
     write_handed(out, buffer, store)?;
@@ -279,73 +246,47 @@ fn write_handed_twice<'a>(
     write_left(out, buffer)
 }
 
-fn write_twice_of_new<'a>(
-    alloc: Global,
-    out: &mut String,
-    store: &mut Store<'a>,
-) -> Result<(), AllocError> {
-    write_handed_twice(out, &mut CommentsBuffer::new(alloc), store)
-}
-
-fn write_twice(alloc: Global, out: &mut String) -> Result<(), AllocError> {
-    write_twice_of_new(alloc, out, &mut Store::new(alloc, 9))
-}
-
 #[test]
 fn comments_are_handed_over_once_and_in_order(rt: HostRuntime) -> Result<(), Fail> {
-    let mut out = String::new(rt.alloc());
-    write_twice(rt.alloc(), &mut out)?;
+    let alloc = rt.alloc();
+    let mut out = String::new(alloc);
+    let mut store = Store::new(alloc, 9);
+    write_handed_twice(&mut out, &mut CommentsBuffer::new(alloc), &mut store)?;
     // What waits is not handed over.
-    assert_text(
-        &rt,
+    assert_eq!(rt;
         out.as_str(),
         "handed; trailing 3 4..9 Block [t]; leading 20 10..15 Block [t]; trailing 25 26..31 Block [t]; \
          handed; trailing 3 4..9 Block [t]; leading 20 10..15 Block [t]; trailing 25 26..31 Block [t]; \
-         left; leading 40 32..37 Block [t]",
+         left; leading 40 32..37 Block [t]"
     );
     Ok(())
 }
 
-fn write_left_of_copy(out: &mut String, buffer: &CommentsBuffer) -> Result<(), AllocError> {
-    write_left(out, &mut buffer.copy()?)
-}
-
-fn write_refused_first<'a>(
+fn write_refused_first(
     out: &mut String,
-    buffer: &mut CommentsBuffer<'a>,
-    store: &mut Store<'a>,
+    buffer: &mut CommentsBuffer<'static>,
+    store: &mut Store<'static>,
 ) -> Result<(), AllocError> {
     push_three(buffer)?;
     write_handed(out, buffer, store)?;
-    write_left_of_copy(out, buffer)?;
+    write_left(out, &mut buffer.copy()?)?;
     store.room = 3;
     write_handed(out, buffer, store)?;
     write_left(out, buffer)
 }
 
-fn write_refused_of_new<'a>(
-    alloc: Global,
-    out: &mut String,
-    store: &mut Store<'a>,
-) -> Result<(), AllocError> {
-    write_refused_first(out, &mut CommentsBuffer::new(alloc), store)
-}
-
-fn write_refused(alloc: Global, out: &mut String) -> Result<(), AllocError> {
-    write_refused_of_new(alloc, out, &mut Store::new(alloc, 1))
-}
-
 #[test]
 fn comments_from_a_refused_one_on_are_kept(rt: HostRuntime) -> Result<(), Fail> {
-    let mut out = String::new(rt.alloc());
-    write_refused(rt.alloc(), &mut out)?;
-    assert_text(
-        &rt,
+    let alloc = rt.alloc();
+    let mut out = String::new(alloc);
+    let mut store = Store::new(alloc, 1);
+    write_refused_first(&mut out, &mut CommentsBuffer::new(alloc), &mut store)?;
+    assert_eq!(rt;
         out.as_str(),
         "refused; trailing 3 4..9 Block [t]; \
          left; leading 20 10..15 Block [t]; trailing 25 26..31 Block [t]; leading 40 32..37 Block [t]; \
          handed; trailing 3 4..9 Block [t]; leading 20 10..15 Block [t]; trailing 25 26..31 Block [t]; \
-         left; leading 40 32..37 Block [t]",
+         left; leading 40 32..37 Block [t]"
     );
     Ok(())
 }

@@ -1,23 +1,9 @@
 //! Comments that a lexer hands over to a store.
-use super::assert_text;
 use ecma_stream::{Lexer, hand_comments};
 use listing::listing::{COLLECTING, opened, write_comments, write_next, write_note, write_tokens};
 use listing::store::Store;
-use std::alloc::{AllocError, Global};
+use std::alloc::AllocError;
 use std::test::Fail;
-
-/// Hands the comments over, and says whether they were.
-fn handed<'a>(lexer: &mut Lexer<'a>, store: &mut Store<'a>) -> &'static str {
-    match hand_comments(lexer, store) {
-        Ok(true) => "handed",
-        Ok(false) => "not yet",
-        Err(_) => "refused",
-    }
-}
-
-fn write_count(out: &mut String, count: usize) -> Result<(), AllocError> {
-    write!(out, " {count}")
-}
 
 /// Writes whether comments were handed over, and how many the store has then.
 fn write_given<'a>(
@@ -25,8 +11,13 @@ fn write_given<'a>(
     lexer: &mut Lexer<'a>,
     store: &mut Store<'a>,
 ) -> Result<(), AllocError> {
-    write_note(out, handed(lexer, store))?;
-    write_count(out, store.given.as_slice().len())
+    let words = match hand_comments(lexer, store) {
+        Ok(true) => "handed",
+        Ok(false) => "not yet",
+        Err(_) => "refused",
+    };
+    write_note(out, words)?;
+    write!(out, " {}", store.given.as_slice().len())
 }
 
 fn write_hand_overs<'a>(
@@ -67,54 +58,32 @@ fn write_in_two_stores<'a>(
     write_stored(out, lexer, other)
 }
 
-fn write_beside<'a>(
-    alloc: Global,
-    out: &mut String,
-    lexer: &mut Lexer<'a>,
-    first: &mut Store<'a>,
-) -> Result<(), AllocError> {
-    write_in_two_stores(out, lexer, first, &mut Store::new(alloc, 9))
-}
-
-fn write_in_stores(alloc: Global, out: &mut String, lexer: &mut Lexer) -> Result<(), AllocError> {
-    write_beside(alloc, out, lexer, &mut Store::new(alloc, 1))
-}
-
-fn write_of_two(alloc: Global, out: &mut String) -> Result<(), AllocError> {
-    write_in_stores(alloc, out, &mut opened(alloc, COLLECTING, "f() /*a*/ //b")?)
-}
-
 /// A store that refuses its second comment has the first, and the other store the rest, once.
 #[test]
 fn comments_behind_a_refused_one_go_to_the_next_store(rt: HostRuntime) -> Result<(), Fail> {
-    let mut out = String::new(rt.alloc());
-    write_of_two(rt.alloc(), &mut out)?;
-    assert_text(
-        &rt,
+    let alloc = rt.alloc();
+    let mut lexer = opened(alloc, COLLECTING, "f() /*a*/ //b")?;
+    let mut out = String::new(alloc);
+    let mut first = Store::new(alloc, 1);
+    write_in_two_stores(&mut out, &mut lexer, &mut first, &mut Store::new(alloc, 9))?;
+    assert_eq!(rt;
         out.as_str(),
         "0..1 lf name [f]; 1..2 - LParen; 2..3 - RParen; \
          refused 1; trailing 3 10..13 Line [b]; \
-         handed 1; trailing 3 4..9 Block [a]; handed 1; trailing 3 4..9 Block [a]",
+         handed 1; trailing 3 4..9 Block [a]; handed 1; trailing 3 4..9 Block [a]"
     );
     Ok(())
 }
 
-fn write_in_store(alloc: Global, out: &mut String, lexer: &mut Lexer) -> Result<(), AllocError> {
-    write_hand_overs(out, lexer, &mut Store::new(alloc, 9))
-}
-
-fn write_of_one(alloc: Global, out: &mut String) -> Result<(), AllocError> {
-    write_in_store(alloc, out, &mut opened(alloc, COLLECTING, "/*a*/ b")?)
-}
-
 #[test]
 fn comments_are_handed_over_behind_the_end_alone(rt: HostRuntime) -> Result<(), Fail> {
-    let mut out = String::new(rt.alloc());
-    write_of_one(rt.alloc(), &mut out)?;
-    assert_text(
-        &rt,
+    let alloc = rt.alloc();
+    let mut lexer = opened(alloc, COLLECTING, "/*a*/ b")?;
+    let mut out = String::new(alloc);
+    write_hand_overs(&mut out, &mut lexer, &mut Store::new(alloc, 9))?;
+    assert_eq!(rt;
         out.as_str(),
-        "not yet 0; 6..7 lf name [b]; not yet 0; refused 0; handed 1",
+        "not yet 0; 6..7 lf name [b]; not yet 0; refused 0; handed 1"
     );
     Ok(())
 }
