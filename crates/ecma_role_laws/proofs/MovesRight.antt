@@ -199,6 +199,8 @@ angle-kept (Some frame.OuterAngle) l is = popped_kept l.nest.frames l.nest.aroun
 angle-kept (Some frame.ParametersAngle) l is = popped_kept l.nest.frames l.nest.around l.nest.pending (rw is refl)
 angle-kept (Some frame.OperandAngle) l is = popped_kept l.nest.frames l.nest.around l.nest.pending (rw is refl)
 angle-kept (Some frame.HeadAngle) l is = popped_kept l.nest.frames l.nest.around l.nest.pending (rw is refl)
+angle-kept (Some frame.ArgumentsAngle) l is = popped_kept l.nest.frames l.nest.around l.nest.pending (rw is refl)
+angle-kept (Some frame.Candidate) l is = popped_kept l.nest.frames l.nest.around l.nest.pending (rw is refl)
 angle-kept over l is = refl
 
 angle-code : (over : Option FrameKind) (l : Landed) → is_code l.state ≡ true → is_code (angle_over over l).state ≡ true

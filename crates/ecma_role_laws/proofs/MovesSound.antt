@@ -16,7 +16,7 @@ use Rattle.ecma_role_table.specs.declared.moves.Move.TheVariants as move
 use Rattle.ecma_role_table.specs.declared.moves.Turn.{Turn}
 use Rattle.ecma_role_table.specs.declared.moves.Turn.TheVariants.{Again, Done}
 use Rattle.ecma_role_table.specs.Frames.{is_template}
-use Rattle.ecma_role_moves.specs.Moves.{Landed, Turned, angle, angle_over, annotated, back_of, behind_annotation, behind_brace, behind_candidate, behind_comma, behind_ended_type, behind_method, behind_no_body, behind_no_class, body_of, brace_of, brace_over, bracket_over, by_head, by_mark, candidate_in_object, class_body_of, colon_in, colon_over, colon_plain, colon_waits, decorated_of, decorating, equals_behind, fresh_of, greater_at, is_waiting, landed, last_candidate, moved, operand_for_key, operand_for_member, paren_over, semi_at, substitution_in, template_over, type_angles, unclosed, without_arrow, word_turned}
+use Rattle.ecma_role_moves.specs.Moves.{Landed, Turned, angle, angle_over, annotated, back_of, behind_annotation, behind_brace, behind_candidate, behind_comma, behind_ended_type, behind_method, behind_no_body, behind_no_class, body_of, brace_of, brace_over, bracket_over, by_head, by_mark, candidate_in_object, class_body_of, colon_in, colon_over, colon_plain, colon_waits, decorated_of, decorating, equals_behind, fresh_of, greater_at, is_waiting, landed, last_candidate, moved, operand_for_key, operand_for_member, paren_over, pattern_end, semi_at, substitution_in, template_over, type_angles, unclosed, without_arrow, word_turned}
 use Rattle.ecma_role_moves.specs.Nest.{Nested, dropped, kind_at, no_function, pending, popped, popped_times, top, turned, turned_frames, under}
 use Rattle.ecma_role_laws.proofs.Right.{AClass, AClassHead, ADecorator, AType, ATemplate, Need, base, is_anything, is_safe, is_same, is_there, meets, need}
 use Rattle.ecma_role_laws.proofs.Frames.{chained, popped_chained, popped_meets, turned_chained}
@@ -92,6 +92,9 @@ brace-meets kind over met = grind (arith, met)
 template-meets : (kind : FrameKind) → is_template kind ≡ true → meets ATemplate (Some kind) ≡ true
 template-meets kind h = grind (arith, h)
 
+pattern-meets : (over : Option FrameKind) → meets (base frame.OuterPattern) over ≡ true → meets (need (pattern_end over)) over ≡ true
+pattern-meets over met = grind (arith, met)
+
 candidate-any : (over around : Option FrameKind) → meets (need (behind_candidate over)) around ≡ true
 candidate-any over around = grind arith
 
@@ -121,7 +124,7 @@ paren-sound (Some frame.Control) nest is ch = closed_sound frame.Control nest (�
 paren-sound (Some frame.For) nest is ch = closed_sound frame.For nest (λ o. state.Statement) is ch (λ o m. refl)
 paren-sound (Some frame.InnerParen) nest is ch = closed_sound frame.InnerParen nest (λ o. state.TypeBrackets) is ch (λ o m. refl)
 paren-sound (Some frame.OuterParen) nest is ch = closed_sound frame.OuterParen nest (λ o. state.TypeEnd) is ch (λ o m. m)
-paren-sound (Some frame.OuterPattern) nest is ch = closed_sound frame.OuterPattern nest (λ o. state.TypeParameters) is ch (λ o m. m)
+paren-sound (Some frame.OuterPattern) nest is ch = closed_sound frame.OuterPattern nest pattern_end is ch pattern-meets
 paren-sound (Some frame.OuterParameters) nest is ch = closed_sound frame.OuterParameters nest (λ o. state.TypeParameters) is ch (λ o m. m)
 paren-sound over nest is ch = unclosed-sound nest ch
 
@@ -145,6 +148,8 @@ angle-sound (Some frame.OuterAngle) l is sound = closed_sound frame.OuterAngle l
 angle-sound (Some frame.ParametersAngle) l is sound = closed_sound frame.ParametersAngle l.nest (λ o. state.TypeOperand) is sound.0 (λ o m. m)
 angle-sound (Some frame.OperandAngle) l is sound = closed_sound frame.OperandAngle l.nest (λ o. state.Operand) is sound.0 (λ o m. refl)
 angle-sound (Some frame.HeadAngle) l is sound = closed_sound frame.HeadAngle l.nest back_of is sound.0 (λ o m. back-meets o)
+angle-sound (Some frame.ArgumentsAngle) l is sound = closed_sound frame.ArgumentsAngle l.nest (λ o. state.TypeArguments) is sound.0 (λ o m. refl)
+angle-sound (Some frame.Candidate) l is sound = closed_sound frame.Candidate l.nest (λ o. state.TypeArguments) is sound.0 (λ o m. refl)
 angle-sound over l is sound = sound
 
 angles-sound : (angles : Angles) (nest : Nested) → chained nest.frames ≡ true → SoundLanding (type_angles angles nest)

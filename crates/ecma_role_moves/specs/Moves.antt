@@ -154,6 +154,7 @@ in_type (Some frame.OuterTemplate) = true
 in_type (Some frame.ParametersAngle) = true
 in_type (Some frame.OperandAngle) = true
 in_type (Some frame.HeadAngle) = true
+in_type (Some frame.ArgumentsAngle) = true
 in_type (Some frame.Interface) = true
 in_type over = false
 
@@ -221,6 +222,13 @@ decorating over other = other
 abbrev pub unclosed : Nested → Landed
 unclosed nest = landed (if in_type (top nest) then state.TypeBrackets else state.After) nest
 
+-- behind parentheses of a type that look like a pattern: they are parameters, but a group where the type of what an arrow function
+-- returns ends, since its arrow follows
+abbrev pub pattern_end : Option FrameKind → State
+pattern_end (Some frame.ReturnType) = state.TypeEnd
+pattern_end (Some frame.AsyncReturnType) = state.TypeEnd
+pattern_end over = state.TypeParameters
+
 abbrev pub paren_over : Option FrameKind → Nested → Landed
 paren_over (Some frame.Paren) nest = landed (decorating (top (popped nest)) state.Group) (popped nest)
 paren_over (Some frame.ParenParameters) nest = landed state.GroupParameters (popped nest)
@@ -232,7 +240,7 @@ paren_over (Some frame.Control) nest = landed state.Statement (popped nest)
 paren_over (Some frame.For) nest = landed state.Statement (popped nest)
 paren_over (Some frame.InnerParen) nest = landed state.TypeBrackets (popped nest)
 paren_over (Some frame.OuterParen) nest = landed state.TypeEnd (popped nest)
-paren_over (Some frame.OuterPattern) nest = landed state.TypeParameters (popped nest)
+paren_over (Some frame.OuterPattern) nest = landed (pattern_end (top (popped nest))) (popped nest)
 paren_over (Some frame.OuterParameters) nest = landed state.TypeParameters (popped nest)
 paren_over over nest = unclosed nest
 
@@ -369,6 +377,8 @@ angle_over (Some frame.OuterAngle) l = landed state.TypeEnd (popped l.nest)
 angle_over (Some frame.ParametersAngle) l = landed state.TypeOperand (popped l.nest)
 angle_over (Some frame.OperandAngle) l = landed state.Operand (popped l.nest)
 angle_over (Some frame.HeadAngle) l = landed (back_of (top (popped l.nest))) (popped l.nest)
+angle_over (Some frame.ArgumentsAngle) l = landed state.TypeArguments (popped l.nest)
+angle_over (Some frame.Candidate) l = landed state.TypeArguments (popped l.nest)
 angle_over over l = l
 
 abbrev pub angle : Landed → Landed

@@ -88,6 +88,26 @@ fn pop_decorating(nest: &mut Nest, state: State) -> State
     decorating(nest.top(), state)
 }
 
+/// Behind parentheses of a type that look like a pattern: they are parameters, but a group where the type of what an arrow function
+/// returns ends, since its arrow follows.
+fn pattern_end(top: Option<FrameKind>) -> State
+    ensures { result ≡ moves.pattern_end top }
+{
+    match top {
+        Some(FrameKind::ReturnType | FrameKind::AsyncReturnType) => State::TypeEnd,
+        _ => State::TypeParameters,
+    }
+}
+
+/// The innermost frame goes, parentheses of a type that look like a pattern.
+fn pop_pattern(nest: &mut Nest) -> State
+    ensures nest { landed result nest.new.nest ≡ landed (moves.pattern_end (nests.top (nests.popped nest.old.nest))) (nests.popped nest.old.nest) }
+    ensures room { nest.old.room ≤ nest.new.room }
+{
+    nest.pop();
+    pattern_end(nest.top())
+}
+
 /// The innermost frame is a parenthesis that is closed, or none is.
 fn close_top_paren(nest: &mut Nest) -> State
     ensures nest { landed result nest.new.nest ≡ moves.paren_over (nests.top nest.old.nest) nest.old.nest }
@@ -103,9 +123,8 @@ fn close_top_paren(nest: &mut Nest) -> State
         Some(FrameKind::Control | FrameKind::For) => pop_to(nest, State::Statement),
         Some(FrameKind::InnerParen) => pop_to(nest, State::TypeBrackets),
         Some(FrameKind::OuterParen) => pop_to(nest, State::TypeEnd),
-        Some(FrameKind::OuterPattern | FrameKind::OuterParameters) => {
-            pop_to(nest, State::TypeParameters)
-        }
+        Some(FrameKind::OuterPattern) => pop_pattern(nest),
+        Some(FrameKind::OuterParameters) => pop_to(nest, State::TypeParameters),
         _ => unclosed(nest),
     }
 }
@@ -365,6 +384,9 @@ fn close_angle(nest: &mut Nest, state: State) -> State
         Some(FrameKind::ParametersAngle) => pop_to(nest, State::TypeOperand),
         Some(FrameKind::OperandAngle) => pop_to(nest, State::Operand),
         Some(FrameKind::HeadAngle) => pop_back(nest),
+        Some(FrameKind::ArgumentsAngle | FrameKind::Candidate) => {
+            pop_to(nest, State::TypeArguments)
+        }
         _ => state,
     }
 }

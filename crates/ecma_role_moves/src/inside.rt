@@ -70,6 +70,7 @@ pub(crate) fn in_type(over: Option<FrameKind>) -> bool
                 | FrameKind::ParametersAngle
                 | FrameKind::OperandAngle
                 | FrameKind::HeadAngle
+                | FrameKind::ArgumentsAngle
                 | FrameKind::Interface
         )
     )

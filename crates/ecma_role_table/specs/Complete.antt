@@ -1,5 +1,5 @@
 -- Where an operand is complete: the rows of the table, one a clause
-use Rattle.std.specs.Prelude.{Bool, false, true, not, ◌&&◌, Option, if◌then◌else◌}
+use Rattle.std.specs.Prelude.{Bool, false, true, not, ◌&&◌, Option, Some, if◌then◌else◌}
 use Rattle.ecma_role_table.specs.declared.part.PartKind.{PartKind}
 use Rattle.ecma_role_table.specs.declared.part.Name as names
 use Rattle.ecma_role_table.specs.declared.part.Sign as signs
@@ -12,7 +12,7 @@ use Rattle.ecma_role_table.specs.declared.frame.FrameKind.TheVariants as frame
 use Rattle.ecma_role_table.specs.declared.state.State.TheVariants as state
 use Rattle.ecma_role_table.specs.declared.moves.Move.{Move}
 use Rattle.ecma_role_table.specs.declared.moves.Move.TheVariants.{Again, Brace, Bracket, ClassBody, Colon, Comma, Fresh, FreshBrace, FreshOperand, Greater, Paren, Semi, To}
-use Rattle.ecma_role_table.specs.declared.moves.Change.TheVariants.{Arrow, DropCandidates, Enter, Nothing, Pop, Push}
+use Rattle.ecma_role_table.specs.declared.moves.Change.TheVariants.{Arrow, DropCandidates, Enter, Nothing, Pop, Push, Turn}
 use Rattle.ecma_role_table.specs.declared.moves.Grouping.TheVariants as grouping
 use Rattle.ecma_role_table.specs.declared.moves.Angles.TheVariants as angles
 use Rattle.ecma_role_table.specs.Frames.{over_candidate, over_class_head, over_declared_for, over_for}
@@ -60,9 +60,14 @@ after_name name.Satisfies had_line_break top under = if had_line_break then afte
 after_name name.Implements had_line_break top under = if over_class_head top then To state.ClassHead Nothing else after_word had_line_break top
 after_name _ had_line_break top under = after_word had_line_break top
 
+-- `extends` behind an operand: what may be type arguments are some, in a conditional type; else it is of a class (ECMA-262, 15.7)
+abbrev pub after_extends : Option FrameKind → Move
+after_extends (Some frame.Candidate) = To state.TypeBrackets (Turn frame.ArgumentsAngle)
+after_extends top = To state.Operand Nothing
+
 -- an operand is complete (ECMA-262, 12.1: the goal symbols that take a division)
 abbrev pub after_operand : PartKind → Bool → Bool → Option FrameKind → Option FrameKind → Move
-after_operand (Reserved reserved.Extends) had_line_break typescript top under = To state.Operand Nothing
+after_operand (Reserved reserved.Extends) had_line_break typescript top under = after_extends top
 after_operand (Reserved reserved.In) had_line_break typescript top under = if over_declared_for top under then To state.Operand Pop else To state.Operand Nothing
 after_operand (Reserved reserved.InstanceOf) had_line_break typescript top under = To state.Operand Nothing
 after_operand (Reserved r) had_line_break typescript top under = after_word had_line_break top

@@ -71,6 +71,7 @@ is_angle frame.OuterAngle = true
 is_angle frame.ParametersAngle = true
 is_angle frame.OperandAngle = true
 is_angle frame.HeadAngle = true
+is_angle frame.ArgumentsAngle = true
 is_angle kind = false
 
 -- a right brace ends it, or what is in it

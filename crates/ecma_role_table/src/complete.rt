@@ -79,6 +79,18 @@ fn after_name(
     }
 }
 
+/// `extends` behind an operand: what may be type arguments are some, in a conditional type; else it is of a class (ECMA-262, 15.7).
+fn after_extends(top: Option<FrameKind>) -> Move
+    ensures { result ≡ rows.after_extends top }
+{
+    match top {
+        Some(FrameKind::Candidate) => {
+            Move::To(State::TypeBrackets, Change::Turn(FrameKind::ArgumentsAngle))
+        }
+        _ => Move::To(State::Operand, Change::Nothing),
+    }
+}
+
 /// An operand is complete (ECMA-262, 12.1: the goal symbols that take a division).
 pub fn after_operand(
     kind: PartKind,
@@ -90,9 +102,8 @@ pub fn after_operand(
     ensures { result ≡ rows.after_operand kind had_line_break typescript top under }
 {
     match kind {
-        PartKind::Reserved(Reserved::Extends | Reserved::InstanceOf) => {
-            Move::To(State::Operand, Change::Nothing)
-        }
+        PartKind::Reserved(Reserved::Extends) => after_extends(top),
+        PartKind::Reserved(Reserved::InstanceOf) => Move::To(State::Operand, Change::Nothing),
         PartKind::Reserved(Reserved::In) => {
             if over_declared_for(top, under) {
                 Move::To(State::Operand, Change::Pop)

@@ -87,6 +87,8 @@ pub enum FrameKind {
     OperandAngle,
     /// `<` in a head.
     HeadAngle,
+    /// `<` of type arguments behind an operand, in which there is a conditional type.
+    ArgumentsAngle,
     /// Braces: the body of an interface.
     Interface,
     /// Mark: `?` that waits for its colon.
@@ -266,6 +268,7 @@ impl FrameKind {
                 | FrameKind::ParametersAngle
                 | FrameKind::OperandAngle
                 | FrameKind::HeadAngle
+                | FrameKind::ArgumentsAngle
         )
     }
 

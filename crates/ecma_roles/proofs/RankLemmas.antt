@@ -69,6 +69,8 @@ low-angle (Some frame.OuterAngle) l low = omega arith
 low-angle (Some frame.ParametersAngle) l low = omega arith
 low-angle (Some frame.OperandAngle) l low = grind arith
 low-angle (Some frame.HeadAngle) l low = low-back (top (popped l.nest))
+low-angle (Some frame.ArgumentsAngle) l low = grind arith
+low-angle (Some frame.Candidate) l low = grind arith
 low-angle (Some k) l low = grind (arith, low)
 
 low-angles : (angles : Angles) (nest : Nested) → turn_height (equals_behind (type_angles angles nest).state) ≤ 6

@@ -105,6 +105,13 @@ const TYPESCRIPT: &[Row] = &[
         "class A { private async async(): Promise<void> { await /re/ } }",
         "r",
     ),
+    ("c ? f<T extends U ? keyof T : B>(x) : typeof /re/", "r"),
+    ("c ? f<g<T extends U ? A : keyof T>>(x) / y : /re/", "dr"),
+    ("c ? a < b ? /re/ : d : e / 2", "rd"),
+    ("let f = (x): ({ a: T[] }) => /re/", "r"),
+    ("let f = async (x): ([A, B[]]) => /re/", "r"),
+    ("let f = (x): ({ a: T }) => B<C> => y / 2", "d"),
+    ("let f: ({ a }) => B = (x) => /re/", "r"),
 ];
 
 const SCRIPTS: &[Row] = &[
