@@ -1,4 +1,3 @@
-pub mod ModuleLemmas
 pub mod ReadLemmas
 pub mod TokenLemmas
 pub mod WholeLemmas

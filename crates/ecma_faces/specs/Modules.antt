@@ -1,5 +1,5 @@
 -- Rows of what is imported and exported.
-use Rattle.std.specs.Prelude.{ℕ, List, [], ◌∷◌, Bool, true, false, Option, Some, None, codes, flat_map, map}
+use Rattle.std.specs.Prelude.{ℕ, List, Bool, true, false, Option, Some, None, codes, flat_map, map}
 use Rattle.ecma_place.specs.declared.place.Span.{Span}
 use Rattle.ecma_state.specs.Session.{kept_of}
 use Rattle.ecma_state.specs.declared.kept.Kept.{Kept}

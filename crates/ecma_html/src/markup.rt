@@ -1,10 +1,10 @@
 //! A text with its markup.
-ghost use Rattle.std.specs.Prelude.{◌≡◌, [], ◌∷◌, ◌++◌, codes, drop, length, nat_lt, IfOk, OnOk, MatchOption};
+ghost use Rattle.std.specs.Prelude.{◌≡◌, [], ◌∷◌, ◌++◌, codes, length, nat_lt, IfOk, OnOk, MatchOption};
 ghost use Rattle.ecma_classes.specs.Classes.{Tile, joined};
 ghost use Rattle.ecma_html.specs.Marked as marks;
 ghost use Rattle.ecma_html.specs.Marked.{AreInOrder, WereAdded, marked};
 ghost use Rattle.ecma_html.specs.Markup as markup;
-ghost use Rattle.ecma_styles.specs.Styles.{class_name, left_classes, piece_class, styled};
+ghost use Rattle.ecma_styles.specs.Styles.{class_name, styled};
 ghost use Rattle.ecma_html.specs.Unmark.{IsClosed, shown, unmark};
 
 use ecma_classes::Piece;

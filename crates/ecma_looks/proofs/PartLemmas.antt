@@ -1,12 +1,12 @@
 -- Parts of a text that pieces are.
-use Rattle.std.proofs.Common.{◌≡◌, ◌∙◌, ℕ, ◌+◌, ◌-◌, ◌<◌, List, [], ◌∷◌, ◌++◌, Option, add-one, length, drop, drop-cons, get_or, refl, sym, ap, arith}
+use Rattle.std.proofs.Common.{◌≡◌, ◌∙◌, ℕ, ◌+◌, ◌-◌, List, [], ◌∷◌, ◌++◌, Option, refl, ap, arith}
 use Rattle.std.specs.Prelude.{slice_range}
 use Rattle.ecma_classes.specs.Classes as classes
 use Rattle.ecma_classes.specs.declared.piece.Piece.{Piece}
 use Rattle.ecma_show.specs.Painted as painted
-use Rattle.ecma_styles.specs.Styles.{Styled, left_classes, piece_class, styled}
+use Rattle.ecma_styles.specs.Styles.{left_classes, styled}
 use Rattle.ecma_styles.specs.declared.«class».Class.{Class}
-use Rattle.ecma_looks.specs.Looks.{colour_of_style, part_of, parts_of}
+use Rattle.ecma_looks.specs.Looks.{parts_of}
 
 pub parts-bytes : (text : List ℕ) (cs : List (Option Class)) (pieces : List Piece) → painted.joined text (parts_of (styled cs pieces)) ≡ classes.joined 0 text pieces
 parts-bytes text cs [] = refl

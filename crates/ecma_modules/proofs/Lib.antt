@@ -2,3 +2,4 @@ pub mod GoOnLemmas
 pub mod PassLemmas
 pub mod PlaceLemmas
 pub mod ScanLemmas
+pub mod TokenLemmas

@@ -1,18 +1,11 @@
 -- One token more, whose slash is counted where it was read again.
-use Rattle.std.proofs.Common.{◌≡◌, ◌∙◌, ◌+◌, Bool, true, false, List, [], ◌∷◌, ◌++◌, append-nil, cond, Option, Some, None, drop, reverse, refl, sym, ap}
+use Rattle.std.proofs.Common.{◌≡◌, ◌∙◌, ◌+◌, Bool, true, false, List, ◌++◌, cond, Option, Some, None, refl, ap}
 use Rattle.std.specs.Prelude.{is_some, option_map}
 use Rattle.std.proofs.lemmas.List.Sums.{sum_by-append}
-use Rattle.std.proofs.lemmas.Grind.{reverse_onto}
-use Rattle.ecma_place.specs.declared.place.BytePos.{BytePos}
-use Rattle.ecma_token.specs.View.{SpannedView}
-use Rattle.ecma_state.specs.Run.{act_all, act_on, given_in, reading_of, reread_from}
-use Rattle.ecma_state.specs.Session.{Past, Session, kept_back, seen_of, state_of}
-use Rattle.ecma_state.specs.State.{last_slash}
+use Rattle.ecma_state.specs.Session.{Session}
 use Rattle.ecma_state.specs.declared.step.Step.{Step}
-use Rattle.ecma_state.specs.declared.step.Step.TheVariants.{Read}
-use Rattle.ecma_slashes.specs.Rereads.{SlashRule, behind_by, found_by, is_reread, last_read, meets_expression, read_steps, rereads, steps_by}
-use Rattle.ecma_slashes.proofs.TokenLemmas.{met-slash}
-use Rattle.ecma_reader.specs.Readers.{one_if, tokens_found, tokens_kept}
+use Rattle.ecma_slashes.specs.Rereads.{SlashRule, is_reread, meets_expression, read_steps, rereads, steps_by}
+use Rattle.ecma_reader.specs.Readers.{one_if}
 
 -- Counts
 

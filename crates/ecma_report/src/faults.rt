@@ -63,6 +63,10 @@ fn tell_error(report: &mut Report, found: &Found) -> Result<(), AllocError>
 }
 
 /// Tells of errors, in order.
+///
+/// # Errors
+///
+/// `Stop` where allocation fails or the writer refuses; what was written before stays.
 pub fn tell_found<W: Write>(report: &mut Report, found: &[Found], out: &mut W) -> Result<(), Stop>
     ensures adds { writes_errors report.old.asked.face ≡ false
         → OnOk result (Adds (W.contents out.old) (W.contents out.new) report.old.out.items report.new.out.items []) }
@@ -78,6 +82,10 @@ pub fn tell_found<W: Write>(report: &mut Report, found: &[Found], out: &mut W) -
 }
 
 /// Takes the error of the token that was read, where it is one, and adds it to the errors. What the slot then holds is not said.
+///
+/// # Errors
+///
+/// `AllocError` where allocation fails for it; the error is then lost.
 pub fn keep_error<'a>(
     errors: &mut Vec<Error<'a>>,
     slot: &mut Option<TokenAndSpan<'a>>,
@@ -91,6 +99,10 @@ pub fn keep_error<'a>(
 }
 
 /// Reads to the end, and keeps the errors of tokens.
+///
+/// # Errors
+///
+/// `AllocError` where allocation fails in a read or for an error.
 pub fn pass_tokens<'a>(
     reader: &mut Reader<'a>,
     errors: &mut Vec<Error<'a>>,
@@ -110,6 +122,10 @@ pub fn pass_tokens<'a>(
 
 /// Writes a row for each error, in order of place: those of tokens, those that were recorded, and those that count in a module
 /// alone.
+///
+/// # Errors
+///
+/// `Stop` where allocation fails or the writer refuses; what was written before stays.
 pub fn write_errors<'a, W: Write>(
     report: &mut Report<'a>,
     named: Named<'a>,

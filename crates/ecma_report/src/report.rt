@@ -1,5 +1,5 @@
 //! What is written of a text: lines, or JSON objects, in blocks.
-ghost use Rattle.std.specs.Prelude.{◌≡◌, ◌++◌, ◌∷◌, [], IfOk, OnOk, OnErr};
+ghost use Rattle.std.specs.Prelude.{◌≡◌, ◌++◌, ◌∷◌, [], IfOk, OnOk};
 ghost use Rattle.std.specs.Io.KnownBytes.{Appends};
 ghost use Rattle.ecma_positions.specs.Columns.{position_by};
 ghost use Rattle.ecma_print.specs.Lines.{Counts};
@@ -286,6 +286,10 @@ impl<'a> Report<'a> {
     }
 
     /// Adds an error to the faults, with the name of the file, its line and its column, and its message in one line.
+    ///
+    /// # Errors
+    ///
+    /// `AllocError` where allocation fails for the line, of which a part may then be there.
     pub fn push_fault(&mut self, span: Span, kind: &SyntaxError) -> Result<(), AllocError>
         ensures out { self.new.out ≡ self.old.out }
         ensures stays { Stays self.old self.new }

@@ -32,6 +32,10 @@ pub fn slashes_at<'a>(named: Named<'a>) -> Slashes<'a>
 }
 
 /// A reader of the text that a report is of. `comments` says whether comments are collected.
+///
+/// # Errors
+///
+/// `AllocError` where allocation fails for it.
 pub fn open<'a>(
     report: &Report<'a>,
     named: Named<'a>,
@@ -101,6 +105,10 @@ fn unmet_lines(
 
 /// Tells of the places that were named and are not that of a token that begins with a slash, where so many slashes were read
 /// again. The text is read once more where these are fewer than there are places. The lines come before all other faults.
+///
+/// # Errors
+///
+/// `AllocError` where allocation fails in a read or for a line.
 pub fn tell_unmet<'a>(
     report: &mut Report<'a>,
     named: Named<'a>,

@@ -15,7 +15,7 @@ use Rattle.ecma_role_table.specs.declared.state.State.TheVariants as state
 use Rattle.ecma_styles.specs.declared.beside.Beside.{Beside}
 use Rattle.ecma_styles.specs.declared.«class».Class.{Class}
 use Rattle.ecma_styles.specs.declared.«class».Class.TheVariants.{BuiltIn, ClassName, Decorator, Function, Keyword, Literal, Meta, Name, Property, TypeName}
-use Rattle.ecma_styles.specs.Beside.{begins_async, begins_import, begins_key, begins_parameters, begins_type, is_as, is_class, is_colon, is_declare, is_declared, is_dot, is_from, is_ident, is_import, is_is, is_key, is_new, is_object, is_paren, is_question, is_star, is_text, is_type_brace, is_type_bracket, is_type_paren, is_typeof, is_word, names_class}
+use Rattle.ecma_styles.specs.Beside.{begins_async, begins_import, begins_key, begins_parameters, begins_type, is_as, is_class, is_colon, is_declare, is_declared, is_dot, is_ident, is_import, is_is, is_key, is_new, is_object, is_paren, is_question, is_star, is_text, is_type_brace, is_type_bracket, is_type_paren, is_typeof, is_word, names_class}
 use Rattle.ecma_styles.specs.Styles.{class_of, names_property}
 
 -- Keys and properties

@@ -1,7 +1,9 @@
+use Rattle.std.proofs.Common.{ap}
 use Rattle.std.specs.Prelude.{option_map}
 use Rattle.ecma_token.specs.View.{spanned_view}
+use Rattle.ecma_reader.specs.Readers.{tokens_found}
 use Rattle.ecma_reader.proofs.FoldLemmas.{told-end, told-next, told-start}
-use Rattle.ecma_faces.proofs.ModuleLemmas.{Gathers, gathered-token}
+use Rattle.ecma_modules.proofs.TokenLemmas.{Gathers, gathered-token}
 use Rattle.ecma_faces.proofs.imports.gather_tokens.Goals as goal
 
 pub read_into-requires : goal.read_into-requires
@@ -22,7 +24,7 @@ tokens-preserved c =
           let tells = c.tokens.invariant.1 rule begin options shows so in
           told-next rule begin (Gathers options c.tokens.gathering) (Gathers options c.gather_slot.new.gathering) c.tokens.reader c.read_into.new.self found _ tells
           (ok.reads rule begin tells.tokens tells.shows) c.if-branch.true
-          (λ t is told. gathered-token options c.tokens.gathering c.gather_slot.new.gathering found tells.tokens t told is c.in_ok-gather_slot.ensures),
+          (λ t is told. gathered-token options c.tokens.gathering c.gather_slot.new.gathering (tokens_found found) tells.tokens t told (ap tokens_found is) c.in_ok-gather_slot.ensures),
     )
 
 pub returns : goal.returns

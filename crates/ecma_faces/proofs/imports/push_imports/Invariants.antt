@@ -1,5 +1,5 @@
 -- The rows of the first imports were written or are held.
-use Rattle.std.proofs.Common.{◌≡◌, ℕ, List, take}
+use Rattle.std.proofs.Common.{ℕ, List, take}
 use Rattle.std.specs.Prelude.{flat_map}
 use Rattle.ecma_faces.specs.Modules.{import_row}
 use Rattle.ecma_report.specs.Reports.{Adds, IsOf, Stays}

@@ -1,5 +1,5 @@
 -- The rows of the tokens so far were written or are held.
-use Rattle.std.proofs.Common.{◌≡◌, ℕ, List, []}
+use Rattle.std.proofs.Common.{ℕ, List, []}
 use Rattle.ecma_state.specs.Session.{Session, lexer_state}
 use Rattle.ecma_stream.specs.Ending.{most_tokens}
 use Rattle.ecma_slashes.specs.Rereads.{SlashRule}

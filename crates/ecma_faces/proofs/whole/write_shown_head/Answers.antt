@@ -1,5 +1,4 @@
-use Rattle.std.proofs.Common.{◌∙◌, [], ◌∷◌, ap, subst, sym}
-use Rattle.ecma_faces.specs.Whole.{shown_head}
+use Rattle.std.proofs.Common.{[], ◌∷◌, subst, sym}
 use Rattle.ecma_report.specs.Reports.{Adds, look_of}
 use Rattle.ecma_report.proofs.ReportLemmas.{adds-on}
 use Rattle.ecma_faces.proofs.WholeLemmas.{head-of-named}
