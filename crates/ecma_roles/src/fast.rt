@@ -16,7 +16,7 @@ use ecma_role_moves::change::{begin_arrow, enter};
 use ecma_role_moves::nest::Nest;
 use ecma_role_table::frame::{FrameKind, over_candidate};
 use ecma_role_table::state::State;
-use ecma_token::Token;
+use ecma_token::{Token, TokenKind};
 use ecma_word::{AssignOp, BinOpToken};
 
 /// One frame more, where there is room for it, and the state behind it.
@@ -550,6 +550,41 @@ pub(crate) fn take(
         Token::PlusPlus | Token::MinusMinus => update(nest, state, had_line_break),
         Token::Arrow => arrow(nest, state, had_line_break),
         Token::Str { .. } | Token::Num { .. } => literal(nest, state, had_line_break),
+        _ => None,
+    }
+}
+
+/// The same of a token of which the kind is kept. [`take`] does not ask a token for its kind, which costs as much as to look
+/// at both.
+#[inline(always)]
+pub(crate) fn take_kind(
+    nest: &mut Nest,
+    state: State,
+    kind: TokenKind,
+    had_line_break: bool,
+) -> Option<State>
+    ensures takes { IfSome result (λ next. Takes state nest.old.nest (part_of_kind kind) had_line_break next nest.new.nest) }
+    ensures none { result ≡ None → nest.new.nest ≡ nest.old.nest }
+{
+    match kind {
+        TokenKind::Word(word) => take_word(nest, state, word, had_line_break),
+        TokenKind::Dot => dot(nest, state, had_line_break),
+        TokenKind::Comma => comma(nest, state, had_line_break),
+        TokenKind::LParen => left_paren(nest, state, had_line_break),
+        TokenKind::RParen => right_paren(nest, state, had_line_break),
+        TokenKind::LBracket => left_bracket(nest, state, had_line_break),
+        TokenKind::RBracket => right_bracket(nest, state, had_line_break),
+        TokenKind::LBrace => left_brace(nest, state, had_line_break),
+        TokenKind::RBrace => right_brace(nest, state, had_line_break),
+        TokenKind::Semi => semicolon(nest, state, had_line_break),
+        TokenKind::Colon => colon(nest, state, had_line_break),
+        TokenKind::QuestionMark => question_mark(nest, state, had_line_break),
+        TokenKind::AssignOp(AssignOp::Assign) => equals(nest, state, had_line_break),
+        TokenKind::BinOp(it) => operator(nest, state, it, had_line_break),
+        TokenKind::Bang => bang(nest, state, had_line_break),
+        TokenKind::PlusPlus | TokenKind::MinusMinus => update(nest, state, had_line_break),
+        TokenKind::Arrow => arrow(nest, state, had_line_break),
+        TokenKind::Str | TokenKind::Num => literal(nest, state, had_line_break),
         _ => None,
     }
 }

@@ -8,7 +8,7 @@ ghost use Rattle.ecma_role_moves.specs.Moves.{turned_to};
 ghost use Rattle.ecma_roles.specs.Slashes as slashes;
 ghost use Rattle.ecma_roles.specs.Track as tracks;
 
-use crate::fast::take;
+use crate::fast::{take, take_kind};
 use crate::slash::expects_operand;
 use ecma_role_moves::nest::Nest;
 use ecma_role_moves::perform::perform;
@@ -17,7 +17,7 @@ use ecma_role_table::moves::Turn;
 use ecma_role_table::part::{Name, Part, PartKind, Reserved, Sign};
 use ecma_role_table::state::State;
 use ecma_role_table::table::{Seen, row};
-use ecma_token::Token;
+use ecma_token::{Token, TokenKind};
 use std::alloc::{AllocError, Global};
 use std::marker::Model;
 
@@ -174,6 +174,20 @@ impl Track {
         ensures left { result ≡ false → self.new ≡ self.old }
     {
         match take(&mut self.nest, self.state, token, had_line_break) {
+            Some(state) => {
+                self.state = state;
+                true
+            }
+            None => false,
+        }
+    }
+
+    /// The same of a token of which the kind is kept.
+    pub fn pass_kind(&mut self, kind: TokenKind, had_line_break: bool) -> bool
+        ensures passed { result ≡ true → self.new ≡ tracks.stepped self.old (part_of kind had_line_break) }
+        ensures left { result ≡ false → self.new ≡ self.old }
+    {
+        match take_kind(&mut self.nest, self.state, kind, had_line_break) {
             Some(state) => {
                 self.state = state;
                 true

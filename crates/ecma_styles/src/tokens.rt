@@ -1,5 +1,5 @@
 //! The classes of a run's tokens.
-ghost use Rattle.std.specs.Prelude.{◌≡◌, IfOk};
+ghost use Rattle.std.specs.Prelude.{◌≡◌, false, true, IfOk, OnOk};
 ghost use Rattle.ecma_styles.specs.Tokens as tokens;
 
 use crate::beside::Beside;
@@ -20,6 +20,16 @@ fn next_kind(behind: &[Kept]) -> Option<TokenKind>
     }
 }
 
+/// Takes one token more into account; most are without the table.
+fn follow(track: &mut Track, token: &Kept) -> Result<(), AllocError>
+    ensures { OnOk result (track.new ≡ tokens.behind track.old token.now) }
+{
+    if track.pass_kind(token.kind, token.flag) {
+        return Ok(());
+    }
+    track.step(&Part::of_kind(token.kind, token.flag))
+}
+
 /// The classes of the tokens that hold a byte, in order: each by its kind, by the kinds beside it, and by what a track of the
 /// tokens expects before and behind it. The track is one of a module in TypeScript, whatever the text is.
 ///
@@ -35,7 +45,7 @@ pub fn token_classes(alloc: Global, kept: &[Kept]) -> Result<Vec<Option<Class>>,
     let mut previous = None;
     for (at, token) in kept.iter().enumerate() {
         let before = track.state();
-        track.step(&Part::of_kind(token.kind, token.flag))?;
+        follow(&mut track, token)?;
         let beside = Beside {
             before,
             behind: track.state(),
