@@ -1,5 +1,5 @@
 //! The value of a token as members of a JSON object, and as a field of a line.
-ghost use Rattle.std.specs.Prelude.{◌≡◌, ◌++◌, codes, OnOk};
+ghost use Rattle.std.specs.Prelude.{◌≡◌, ◌++◌, codes, decimal, OnOk};
 ghost use Rattle.json.specs.Print.{quoted};
 ghost use Rattle.ecma_print.specs.Values as value_specs;
 
