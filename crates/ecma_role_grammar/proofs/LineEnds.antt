@@ -32,7 +32,7 @@ use Rattle.ecma_role_table.specs.declared.part.Name.TheVariants as known_name
 use Rattle.ecma_role_table.specs.declared.frame.FrameKind.{FrameKind}
 use Rattle.ecma_role_table.specs.declared.state.State.{State}
 use Rattle.ecma_role_table.specs.declared.moves.Move.TheVariants.{Fresh}
-use Rattle.ecma_role_table.specs.Complete.{after_operand, after_word}
+use Rattle.ecma_role_table.specs.Complete.{after_operand}
 use Rattle.ecma_role_table.specs.Parts.{part_of_kind}
 use Rattle.ecma_roles.specs.Rank.{begins_statements, goes_on}
 use Rattle.ecma_roles.proofs.RankLemmas.{read_out_by_rank}
@@ -65,28 +65,24 @@ anew_part k h = absurd cc
 -- what is around has nothing that a word could go on with
 pub record Quiet (n after : Nested) : Type 0 where
   pub settled : dropped kinds.Candidates n ≡ n
-  pub calm : over_candidate (top n) ≡ false
   pub no_loop : over_for (top n) ≡ false
   pub no_declared : over_declared_for (top n) (under n) ≡ false
   pub no_class : over_class_head (top n) ≡ false
   pub gone : dropped kinds.Marks n ≡ after
   pub begins : fresh_of (top after) ≡ state.Statement
 
-word-move : (o : Option FrameKind) → over_candidate o ≡ false → after_word true o ≡ Fresh
-word-move o calm = rw calm refl
-
-fresh-move : (k : PartKind) (o u : Option FrameKind) → is_anew k ≡ true → over_candidate o ≡ false → over_for o ≡ false → over_declared_for o u ≡ false → over_class_head o ≡ false → after_operand k true false o u ≡ Fresh
-fresh-move (Name known_name.Of) o u h calm loop declared class = rw loop (rw declared (word-move o calm))
-fresh-move (Name known_name.As) o u h calm loop declared class = word-move o calm
-fresh-move (Name known_name.Satisfies) o u h calm loop declared class = word-move o calm
-fresh-move (Name known_name.Implements) o u h calm loop declared class = rw class (word-move o calm)
-fresh-move (Name m) o u h calm loop declared class = word-move o calm
-fresh-move (Reserved words.In) o u h calm loop declared class = absurd cc
-fresh-move (Reserved words.InstanceOf) o u h calm loop declared class = absurd cc
-fresh-move (Reserved words.Extends) o u h calm loop declared class = absurd cc
-fresh-move (Reserved r) o u h calm loop declared class = word-move o calm
-fresh-move (Sign sign.Literal) o u h calm loop declared class = refl
-fresh-move (Sign s) o u h calm loop declared class = absurd cc
+fresh-move : (k : PartKind) (o u : Option FrameKind) → is_anew k ≡ true → over_for o ≡ false → over_declared_for o u ≡ false → over_class_head o ≡ false → after_operand k true false o u ≡ Fresh
+fresh-move (Name known_name.Of) o u h loop declared class = rw loop (rw declared refl)
+fresh-move (Name known_name.As) o u h loop declared class = refl
+fresh-move (Name known_name.Satisfies) o u h loop declared class = refl
+fresh-move (Name known_name.Implements) o u h loop declared class = rw class refl
+fresh-move (Name m) o u h loop declared class = refl
+fresh-move (Reserved words.In) o u h loop declared class = absurd cc
+fresh-move (Reserved words.InstanceOf) o u h loop declared class = absurd cc
+fresh-move (Reserved words.Extends) o u h loop declared class = absurd cc
+fresh-move (Reserved r) o u h loop declared class = refl
+fresh-move (Sign sign.Literal) o u h loop declared class = refl
+fresh-move (Sign s) o u h loop declared class = absurd cc
 
 either-same : (b : Bool) (n : Nested) → dropped kinds.Candidates n ≡ n → (if b then dropped kinds.Candidates n else n) ≡ n
 either-same true n settled = settled
@@ -101,7 +97,7 @@ after-once : (n after : Nested) (k : PartKind) → Quiet n after → is_anew k �
 unfolding read_once row
 after-once n after k quiet h =
     ap (λ m. moved (after_operand k true false (top m) (under m)) k m) (either-same (ends_candidates true k) n quiet.settled)
-    ∙ ap (λ m. moved m k n) (fresh-move k (top n) (under n) h quiet.calm quiet.no_loop quiet.no_declared quiet.no_class)
+    ∙ ap (λ m. moved m k n) (fresh-move k (top n) (under n) h quiet.no_loop quiet.no_declared quiet.no_class)
     ∙ begun-anew n after k quiet
 
 -- states in which it is read again as behind an operand
@@ -232,12 +228,12 @@ quiet-declared o u h = grind (arith, h)
 pub quiet_over : (fs : List Frame) (a : Around) (m : Over) (pend : Around) → fresh_of (top_of fs) ≡ state.Statement → Quiet (over fs a m pend) (nested fs a pend)
 quiet_over fs a Bare pend h =
     let q = quiet-calm (top_of fs) h in
-    record { settled = calm_settled (over fs a Bare pend) q.0; calm = q.0; no_loop = q.1; no_declared = quiet-declared (top_of fs) (under_of fs) h; no_class = q.2; gone = gone_marks fs a Bare pend h; begins = h }
-quiet_over fs a (Concise b) pend h = record { settled = calm_settled (over fs a (Concise b) pend) refl; calm = refl; no_loop = refl; no_declared = refl; no_class = refl; gone = gone_marks fs a (Concise b) pend h; begins = h }
+    record { settled = calm_settled (over fs a Bare pend) q.0; no_loop = q.1; no_declared = quiet-declared (top_of fs) (under_of fs) h; no_class = q.2; gone = gone_marks fs a Bare pend h; begins = h }
+quiet_over fs a (Concise b) pend h = record { settled = calm_settled (over fs a (Concise b) pend) refl; no_loop = refl; no_declared = refl; no_class = refl; gone = gone_marks fs a (Concise b) pend h; begins = h }
 
 pub quiet_variable : (fs : List Frame) (a : Around) (m : Over) (pend : Around) → fresh_of (top_of fs) ≡ state.Statement → Quiet (over (declared_frames fs a) a m pend) (nested fs a pend)
-quiet_variable fs a Bare pend h = record { settled = calm_settled (over (declared_frames fs a) a Bare pend) refl; calm = refl; no_loop = refl; no_declared = (quiet-calm (top_of fs) h).1; no_class = refl; gone = gone_variable fs a Bare pend h; begins = h }
-quiet_variable fs a (Concise b) pend h = record { settled = calm_settled (over (declared_frames fs a) a (Concise b) pend) refl; calm = refl; no_loop = refl; no_declared = refl; no_class = refl; gone = gone_variable fs a (Concise b) pend h; begins = h }
+quiet_variable fs a Bare pend h = record { settled = calm_settled (over (declared_frames fs a) a Bare pend) refl; no_loop = refl; no_declared = (quiet-calm (top_of fs) h).1; no_class = refl; gone = gone_variable fs a Bare pend h; begins = h }
+quiet_variable fs a (Concise b) pend h = record { settled = calm_settled (over (declared_frames fs a) a (Concise b) pend) refl; no_loop = refl; no_declared = refl; no_class = refl; gone = gone_variable fs a (Concise b) pend h; begins = h }
 
 both-left : (b c : Bool) → (b && c) ≡ true → b ≡ true
 both-left b c h = grind (arith, h)

@@ -1,5 +1,5 @@
 -- Where an operand is complete: the rows of the table, one a clause
-use Rattle.std.specs.Prelude.{Bool, false, true, not, ◌&&◌, Option, Some, if◌then◌else◌}
+use Rattle.std.specs.Prelude.{Bool, false, true, Option, Some, if◌then◌else◌}
 use Rattle.ecma_role_table.specs.declared.part.PartKind.{PartKind}
 use Rattle.ecma_role_table.specs.declared.part.Name as names
 use Rattle.ecma_role_table.specs.declared.part.Sign as signs
@@ -15,11 +15,11 @@ use Rattle.ecma_role_table.specs.declared.moves.Move.TheVariants.{Again, Brace, 
 use Rattle.ecma_role_table.specs.declared.moves.Change.TheVariants.{Arrow, DropCandidates, Enter, Nothing, Pop, Push, Turn}
 use Rattle.ecma_role_table.specs.declared.moves.Grouping.TheVariants as grouping
 use Rattle.ecma_role_table.specs.declared.moves.Angles.TheVariants as angles
-use Rattle.ecma_role_table.specs.Frames.{over_candidate, over_class_head, over_declared_for, over_for}
+use Rattle.ecma_role_table.specs.Frames.{in_arguments, over_class_head, over_declared_for, over_for}
 
 -- a word behind an operand: in what may be type arguments one more operand, else something new
-abbrev pub after_word : Bool → Option FrameKind → Move
-after_word had_line_break top = if over_candidate top && not had_line_break then Again state.Operand Nothing else Fresh
+abbrev pub after_word : Bool → Option FrameKind → Option FrameKind → Move
+after_word had_line_break top under = if had_line_break then Fresh else if in_arguments top under then Again state.Operand Nothing else Fresh
 
 -- a sign behind an operand
 abbrev pub after_sign : signs.Sign → Bool → Bool → Option FrameKind → Move
@@ -54,11 +54,11 @@ after_sign other had_line_break typescript top = To state.Operand Nothing
 
 -- a name behind an operand
 abbrev pub after_name : names.Name → Bool → Option FrameKind → Option FrameKind → Move
-after_name name.Of had_line_break top under = if over_for top then To state.Operand Nothing else if over_declared_for top under then To state.Operand Pop else after_word had_line_break top
-after_name name.As had_line_break top under = if had_line_break then after_word had_line_break top else To state.TypeOperand (Push frame.Assertion)
-after_name name.Satisfies had_line_break top under = if had_line_break then after_word had_line_break top else To state.TypeOperand (Push frame.Assertion)
-after_name name.Implements had_line_break top under = if over_class_head top then To state.ClassHead Nothing else after_word had_line_break top
-after_name _ had_line_break top under = after_word had_line_break top
+after_name name.Of had_line_break top under = if over_for top then To state.Operand Nothing else if over_declared_for top under then To state.Operand Pop else after_word had_line_break top under
+after_name name.As had_line_break top under = if had_line_break then after_word had_line_break top under else To state.TypeOperand (Push frame.Assertion)
+after_name name.Satisfies had_line_break top under = if had_line_break then after_word had_line_break top under else To state.TypeOperand (Push frame.Assertion)
+after_name name.Implements had_line_break top under = if over_class_head top then To state.ClassHead Nothing else after_word had_line_break top under
+after_name _ had_line_break top under = after_word had_line_break top under
 
 -- `extends` behind an operand: what may be type arguments are some, in a conditional type; else it is of a class (ECMA-262, 15.7)
 abbrev pub after_extends : Option FrameKind → Move
@@ -70,7 +70,7 @@ abbrev pub after_operand : PartKind → Bool → Bool → Option FrameKind → O
 after_operand (Reserved reserved.Extends) had_line_break typescript top under = after_extends top
 after_operand (Reserved reserved.In) had_line_break typescript top under = if over_declared_for top under then To state.Operand Pop else To state.Operand Nothing
 after_operand (Reserved reserved.InstanceOf) had_line_break typescript top under = To state.Operand Nothing
-after_operand (Reserved r) had_line_break typescript top under = after_word had_line_break top
+after_operand (Reserved r) had_line_break typescript top under = after_word had_line_break top under
 after_operand (Name n) had_line_break typescript top under = after_name n had_line_break top under
 after_operand (Sign s) had_line_break typescript top under = after_sign s had_line_break typescript top
 

@@ -27,6 +27,11 @@ over_candidate (Some frame.Candidate) = true
 over_candidate (Some frame.AsyncCandidate) = true
 over_candidate top = false
 
+-- right in what may be type arguments, or in the type that a function type there returns
+abbrev pub in_arguments : Option FrameKind → Option FrameKind → Bool
+in_arguments (Some frame.Arrow) under = over_candidate under
+in_arguments top under = over_candidate top
+
 abbrev pub over_type_extends : Option FrameKind → Bool
 over_type_extends (Some frame.TypeExtends) = true
 over_type_extends top = false

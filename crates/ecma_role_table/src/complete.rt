@@ -2,16 +2,18 @@
 ghost use Rattle.std.specs.Prelude.{◌≡◌};
 ghost use Rattle.ecma_role_table.specs.Complete as rows;
 
-use crate::frame::{FrameKind, over_candidate, over_class_head, over_declared_for, over_for};
+use crate::frame::{FrameKind, in_arguments, over_class_head, over_declared_for, over_for};
 use crate::moves::{Angles, Change, Grouping, Move};
 use crate::part::{Name, PartKind, Reserved, Sign};
 use crate::state::State;
 
 /// A word behind an operand: in what may be type arguments one more operand, else something new.
-fn after_word(had_line_break: bool, top: Option<FrameKind>) -> Move
-    ensures { result ≡ rows.after_word had_line_break top }
+fn after_word(had_line_break: bool, top: Option<FrameKind>, under: Option<FrameKind>) -> Move
+    ensures { result ≡ rows.after_word had_line_break top under }
 {
-    if over_candidate(top) && !had_line_break {
+    if had_line_break {
+        Move::Fresh
+    } else if in_arguments(top, under) {
         Move::Again(State::Operand, Change::Nothing)
     } else {
         Move::Fresh
@@ -68,14 +70,14 @@ fn after_name(
             } else if over_declared_for(top, under) {
                 Move::To(State::Operand, Change::Pop)
             } else {
-                after_word(had_line_break, top)
+                after_word(had_line_break, top, under)
             }
         }
         Name::As | Name::Satisfies if !had_line_break => {
             Move::To(State::TypeOperand, Change::Push(FrameKind::Assertion))
         }
         Name::Implements if over_class_head(top) => Move::To(State::ClassHead, Change::Nothing),
-        _ => after_word(had_line_break, top),
+        _ => after_word(had_line_break, top, under),
     }
 }
 
@@ -111,7 +113,7 @@ pub fn after_operand(
                 Move::To(State::Operand, Change::Nothing)
             }
         }
-        PartKind::Reserved(_) => after_word(had_line_break, top),
+        PartKind::Reserved(_) => after_word(had_line_break, top, under),
         PartKind::Name(name) => after_name(name, had_line_break, top, under),
         PartKind::Sign(sign) => after_sign(sign, had_line_break, typescript, top),
     }

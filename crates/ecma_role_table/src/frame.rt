@@ -192,6 +192,16 @@ pub fn over_candidate(top: Option<FrameKind>) -> bool
     matches!(top, Some(FrameKind::Candidate | FrameKind::AsyncCandidate))
 }
 
+/// Whether the place is right in what may be type arguments, or in the type that a function type there returns.
+pub fn in_arguments(top: Option<FrameKind>, under: Option<FrameKind>) -> bool
+    ensures { result ≡ frames.in_arguments top under }
+{
+    match top {
+        Some(FrameKind::Arrow) => over_candidate(under),
+        _ => over_candidate(top),
+    }
+}
+
 /// Whether the type behind `extends` in a type is right around.
 pub fn over_type_extends(top: Option<FrameKind>) -> bool
     ensures { result ≡ frames.over_type_extends top }

@@ -107,6 +107,8 @@ const TYPESCRIPT: &[Row] = &[
     ),
     ("c ? f<T extends U ? keyof T : B>(x) : typeof /re/", "r"),
     ("c ? f<g<T extends U ? A : keyof T>>(x) / y : /re/", "dr"),
+    ("c ? f<(a?: B) => a is C>(x) : /re/", "r"),
+    ("c ? f<() => keyof B, D>(x) / y : /re/", "dr"),
     ("c ? a < b ? /re/ : d : e / 2", "rd"),
     ("let f = (x): ({ a: T[] }) => /re/", "r"),
     ("let f = async (x): ([A, B[]]) => /re/", "r"),
