@@ -158,8 +158,8 @@ right-behind_parameters kind top met = grind (arith, met)
 right-behind_async_group : (kind : PartKind) (top : Option FrameKind) → meets (need state.AsyncGroup) top ≡ true → is_fit state.AsyncGroup kind top (complete.behind_async_group kind) ≡ true
 right-behind_async_group kind top met = grind (arith, met)
 
-right-behind_async_parameters : (kind : PartKind) (top : Option FrameKind) → meets (need state.AsyncGroupParameters) top ≡ true → is_fit state.AsyncGroupParameters kind top (complete.behind_async_parameters kind) ≡ true
-right-behind_async_parameters kind top met = grind (arith, met)
+right-behind_async_parameters : (kind : PartKind) (typescript : Bool) (top : Option FrameKind) → meets (need state.AsyncGroupParameters) top ≡ true → is_fit state.AsyncGroupParameters kind top (complete.behind_async_parameters kind typescript) ≡ true
+right-behind_async_parameters kind typescript top met = grind (arith, met)
 
 right-behind_async : (kind : PartKind) (had_line_break : Bool) (typescript : Bool) (top : Option FrameKind) → meets (need state.Async) top ≡ true → is_fit state.Async kind top (complete.behind_async kind had_line_break typescript) ≡ true
 right-behind_async kind had_line_break typescript top met = grind (arith, met)
@@ -268,7 +268,7 @@ row_right state.AfterPostfix kind seen met = right-after_postfix kind seen.top m
 row_right state.Group kind seen met = right-behind_group kind seen.top met
 row_right state.GroupParameters kind seen met = right-behind_parameters kind seen.top met
 row_right state.AsyncGroup kind seen met = right-behind_async_group kind seen.top met
-row_right state.AsyncGroupParameters kind seen met = right-behind_async_parameters kind seen.top met
+row_right state.AsyncGroupParameters kind seen met = right-behind_async_parameters kind seen.typescript seen.top met
 row_right state.Async kind seen met = right-behind_async kind seen.had_line_break seen.typescript seen.top met
 row_right state.AsyncStatement kind seen met = right-behind_async_statement kind seen.had_line_break seen.typescript seen.top met
 row_right state.AsyncAs kind seen met = right-behind_async_as kind seen.top met

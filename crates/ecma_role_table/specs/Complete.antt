@@ -96,10 +96,10 @@ behind_async_group (Sign sign.Colon) = Colon grouping.Async
 behind_async_group kind = Again state.After Nothing
 
 -- behind the parameters of an async arrow function (ECMA-262, 15.9)
-abbrev pub behind_async_parameters : PartKind → Move
-behind_async_parameters (Sign sign.Arrow) = To state.ArrowBody (Arrow true)
-behind_async_parameters (Sign sign.Colon) = To state.TypeOperand (Push frame.AsyncReturnType)
-behind_async_parameters kind = Again state.After Nothing
+abbrev pub behind_async_parameters : PartKind → Bool → Move
+behind_async_parameters (Sign sign.Arrow) typescript = To state.ArrowBody (Arrow true)
+behind_async_parameters (Sign sign.Colon) typescript = if typescript then To state.TypeOperand (Push frame.AsyncReturnType) else Again state.After Nothing
+behind_async_parameters kind typescript = Again state.After Nothing
 
 -- behind `async` where an operand is expected (ECMA-262, 15.8, 15.9)
 abbrev pub behind_async : PartKind → Bool → Bool → Move

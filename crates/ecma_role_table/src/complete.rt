@@ -164,12 +164,12 @@ pub fn behind_async_group(kind: PartKind) -> Move
 }
 
 /// Behind the parameters of an async arrow function (ECMA-262, 15.9).
-pub fn behind_async_parameters(kind: PartKind) -> Move
-    ensures { result ≡ rows.behind_async_parameters kind }
+pub fn behind_async_parameters(kind: PartKind, typescript: bool) -> Move
+    ensures { result ≡ rows.behind_async_parameters kind typescript }
 {
     match kind {
         PartKind::Sign(Sign::Arrow) => Move::To(State::ArrowBody, Change::Arrow(true)),
-        PartKind::Sign(Sign::Colon) => Move::To(
+        PartKind::Sign(Sign::Colon) if typescript => Move::To(
             State::TypeOperand,
             Change::Push(FrameKind::AsyncReturnType),
         ),

@@ -112,7 +112,7 @@ pub fn row(state: State, kind: PartKind, seen: Seen) -> Move
         State::Group => complete::behind_group(kind),
         State::GroupParameters => complete::behind_parameters(kind),
         State::AsyncGroup => complete::behind_async_group(kind),
-        State::AsyncGroupParameters => complete::behind_async_parameters(kind),
+        State::AsyncGroupParameters => complete::behind_async_parameters(kind, seen.typescript),
         State::Async => complete::behind_async(kind, had_line_break, typescript),
         State::AsyncStatement => {
             complete::behind_async_statement(kind, had_line_break, typescript)

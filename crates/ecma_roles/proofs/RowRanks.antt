@@ -163,8 +163,8 @@ low-behind_parameters kind = grind arith
 low-behind_async_group : (kind : PartKind) → height (complete.behind_async_group kind) kind ≤ rank state.AsyncGroup kind
 low-behind_async_group kind = grind arith
 
-low-behind_async_parameters : (kind : PartKind) → height (complete.behind_async_parameters kind) kind ≤ rank state.AsyncGroupParameters kind
-low-behind_async_parameters kind = grind arith
+low-behind_async_parameters : (kind : PartKind) (typescript : Bool) → height (complete.behind_async_parameters kind typescript) kind ≤ rank state.AsyncGroupParameters kind
+low-behind_async_parameters kind typescript = grind arith
 
 low-behind_async : (kind : PartKind) (had_line_break : Bool) (typescript : Bool) → height (complete.behind_async kind had_line_break typescript) kind ≤ rank state.Async kind
 low-behind_async kind had_line_break typescript = grind arith
@@ -274,7 +274,7 @@ row_low state.AfterPostfix kind seen = low-after_postfix kind
 row_low state.Group kind seen = low-behind_group kind
 row_low state.GroupParameters kind seen = low-behind_parameters kind
 row_low state.AsyncGroup kind seen = low-behind_async_group kind
-row_low state.AsyncGroupParameters kind seen = low-behind_async_parameters kind
+row_low state.AsyncGroupParameters kind seen = low-behind_async_parameters kind seen.typescript
 row_low state.Async kind seen = low-behind_async kind seen.had_line_break seen.typescript
 row_low state.AsyncStatement kind seen = low-behind_async_statement kind seen.had_line_break seen.typescript
 row_low state.AsyncAs kind seen = low-behind_async_as kind

@@ -117,6 +117,8 @@ const TYPESCRIPT: &[Row] = &[
 ];
 
 const SCRIPTS: &[Row] = &[
+    ("c ? async() : /re/", "r"),
+    ("switch (c) { case async(): /re/.test(y) }", "r"),
     ("a\n++/re/.lastIndex", "r"),
     ("if (x) /re/.test(y)", "r"),
     ("while (x) /re/.test(y)", "r"),
