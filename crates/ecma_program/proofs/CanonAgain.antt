@@ -42,7 +42,7 @@ use Rattle.ecma_options.specs.Begin.{begin, context, settings, whole}
 use Rattle.ecma_options.specs.declared.options.Options.{Options}
 use Rattle.ecma_stdio.specs.declared.fault.Fault.{Fault}
 use Rattle.ecma_stdio.specs.declared.fault.Fault.TheVariants.{NotClean, TooLong}
-use Rattle.ecma_lines.specs.Rereads.{Fails, behind_rereads, rereading, session_behind, unless_no_slash}
+use Rattle.ecma_program.specs.Rereads.{Fails, behind_rereads, rereading, session_behind, unless_no_slash}
 use Rattle.ecma_program.specs.CanonText.{CanonIsRead, IsReadAgain, canon_from, canon_text, canonical_bytes, owned, unless_too_long}
 
 -- Sessions before a read

@@ -7,7 +7,7 @@ use Rattle.ecma_comments.specs.declared.comments_buffer.BufferedComment.{Buffere
 use Rattle.ecma_state.specs.declared.kept.Kept.{Kept}
 use Rattle.ecma_pieces.proofs.CoveredLemmas.{steps_may_be_covered}
 use Rattle.ecma_options.specs.Begin.{settings, whole}
-use Rattle.ecma_lines.specs.Rereads.{session_behind}
+use Rattle.ecma_program.specs.Rereads.{session_behind}
 use Rattle.ecma_options.specs.declared.options.Options.{Options}
 use Rattle.ecma_program.proofs.Keeping.{read_out-steps}
 

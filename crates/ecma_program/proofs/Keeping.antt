@@ -27,11 +27,11 @@ use Rattle.ecma_stream.proofs.EndingLemmas.{ReadSoFar, read_tokens, reads_out, s
 use Rattle.ecma_canonical.proofs.KeptPlaces.{steps_keep_places}
 use Rattle.ecma_options.specs.Begin.{begin, context, settings, whole}
 use Rattle.ecma_program.specs.CanonText.{KeepsCleanly, canon_from, canon_text, canonical_bytes, unless_too_long}
-use Rattle.ecma_lines.specs.Rereads.{Fails, behind_rereads, session_behind, rereading, unless_no_slash}
+use Rattle.ecma_program.specs.Rereads.{Fails, behind_rereads, session_behind, rereading, unless_no_slash}
 use Rattle.ecma_options.specs.declared.options.Options.{Options}
 use Rattle.ecma_stdio.specs.declared.fault.Fault.{Fault}
 use Rattle.ecma_stdio.specs.declared.fault.Fault.TheVariants.{NotClean}
-use Rattle.ecma_lines.proofs.Gathering.{ended-has}
+use Rattle.ecma_program.proofs.Gathering.{ended-has}
 
 -- Reading to the end
 

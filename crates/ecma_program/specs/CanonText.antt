@@ -7,7 +7,7 @@ use Rattle.ecma_stream.specs.Ending.{read_out}
 use Rattle.ecma_state.specs.Session.{Session, kept_tokens}
 use Rattle.ecma_state.specs.declared.kept.Kept.{Kept}
 use Rattle.ecma_options.specs.Begin.{whole}
-use Rattle.ecma_lines.specs.Rereads.{session_behind, unless_no_slash}
+use Rattle.ecma_program.specs.Rereads.{session_behind, unless_no_slash}
 use Rattle.ecma_options.specs.declared.options.Options.{Options}
 use Rattle.ecma_stdio.specs.declared.fault.Fault.{Fault}
 use Rattle.ecma_stdio.specs.declared.fault.Fault.TheVariants.{NotClean, TooLong}

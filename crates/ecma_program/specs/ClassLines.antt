@@ -4,7 +4,7 @@ use Rattle.ecma_classes.specs.Classes.{classes_of}
 use Rattle.ecma_stream.specs.Ending.{read_out}
 use Rattle.ecma_state.specs.Session.{Session, kept_tokens}
 use Rattle.ecma_classes.specs.declared.piece.Piece.{Piece}
-use Rattle.ecma_lines.specs.Rereads.{session_behind}
+use Rattle.ecma_program.specs.Rereads.{session_behind}
 use Rattle.ecma_names.specs.Names.{piece_name}
 use Rattle.ecma_options.specs.declared.options.Options.{Options}
 

@@ -1,6 +1,10 @@
 pub mod CanonText
 pub mod ClassLines
 pub mod Command
+pub mod CommentLines
+pub mod ErrorLines
 pub mod Explanation
 pub mod Gathered
+pub mod Lines
 pub mod Reply
+pub mod Rereads

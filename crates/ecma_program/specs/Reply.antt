@@ -9,10 +9,10 @@ use Rattle.ecma_stdio.specs.Faults.{text_reply}
 use Rattle.ecma_program.specs.CanonText.{canon_text}
 use Rattle.ecma_program.specs.ClassLines.{classes_text}
 use Rattle.ecma_program.specs.Command.{Asked, request_of}
-use Rattle.ecma_lines.specs.CommentLines.{comments_text}
-use Rattle.ecma_lines.specs.ErrorLines.{errors_text}
-use Rattle.ecma_lines.specs.Lines.{tokens_text}
-use Rattle.ecma_lines.specs.Rereads.{unless_no_slash}
+use Rattle.ecma_program.specs.CommentLines.{comments_text}
+use Rattle.ecma_program.specs.ErrorLines.{errors_text}
+use Rattle.ecma_program.specs.Lines.{tokens_text}
+use Rattle.ecma_program.specs.Rereads.{unless_no_slash}
 
 -- what is written for a text, or what is wrong with it
 abbrev pub command_text : Command → Options → List ℕ → List ℕ → Result (List ℕ) Fault

@@ -6,11 +6,11 @@ ghost use Rattle.ecma_state.specs.State as state;
 ghost use Rattle.ecma_state.specs.TokenAt.{is_empty};
 ghost use Rattle.ecma_program.specs.CanonText as canons;
 ghost use Rattle.ecma_program.specs.CanonText.{IsReadAgain, KeepsCleanly, unless_too_long};
-ghost use Rattle.ecma_lines.specs.Rereads.{Fails};
+ghost use Rattle.ecma_program.specs.Rereads.{Fails};
 
 use crate::kept_tokens::keep_tokens;
 use ecma_canonical::{canonical_text, has_no_error};
-use ecma_lines::rereads::open;
+use crate::rereads::open;
 use ecma_options::Options;
 use ecma_place::{BytePos, StringInput};
 use ecma_state::Kept;

@@ -1,12 +1,12 @@
 //! What is written of the pieces that cover a text: a line each.
 ghost use Rattle.std.specs.Prelude.{◌≡◌, ◌++◌, ◌^◌, ◌<◌, Some, length, MatchResult, OnOk};
 ghost use Rattle.ecma_program.specs.ClassLines as rows;
-ghost use Rattle.ecma_lines.specs.Rereads.{Lacks};
+ghost use Rattle.ecma_program.specs.Rereads.{Lacks};
 
 use crate::kept_tokens::keep_tokens;
 use ecma_classes::{Piece, classes};
-use ecma_lines::comments::take_comments;
-use ecma_lines::rereads::open;
+use crate::comments::take_comments;
+use crate::rereads::open;
 use ecma_names::piece_name;
 use ecma_options::Options;
 use ecma_place::BytePos;

@@ -2,15 +2,15 @@
 ghost use Rattle.std.specs.Prelude.{◌≡◌, ◌^◌, ◌<◌, true, Ok, MatchResult, is_some, length, map, option_map, string_bytes};
 ghost use Rattle.ecma_program.specs.Command as commands;
 ghost use Rattle.ecma_program.specs.Command.{named_command, request_of, request_view};
-ghost use Rattle.ecma_lines.specs.Rereads.{Fails};
+ghost use Rattle.ecma_program.specs.Rereads.{Fails};
 ghost use Rattle.ecma_program.specs.Reply.{program_text};
 
 use crate::canon::canon_text;
 use crate::classes::classes_text;
 use crate::particulars::Particulars;
-use ecma_lines::comments::comments_text;
-use ecma_lines::errors::errors_text;
-use ecma_lines::lines::tokens_text;
+use crate::comments::comments_text;
+use crate::errors::errors_text;
+use crate::lines::tokens_text;
 use ecma_options::Options;
 use ecma_stdio::Fault;
 use std::alloc::{AllocError, Global};

@@ -4,10 +4,10 @@ ghost use Rattle.ecma_token.specs.View.{spanned_view};
 ghost use Rattle.ecma_stream.specs.Ending.{comments_of, errors_of, read_out, tokens_of};
 ghost use Rattle.ecma_state.specs.HandOver.{has_comments};
 ghost use Rattle.ecma_state.specs.Session.{Session, kept_back, kept_of, kept_tokens, lexer_state, state_of};
-ghost use Rattle.ecma_lines.specs.Rereads.{Stands};
+ghost use Rattle.ecma_program.specs.Rereads.{Stands};
 
-use ecma_lines::lines::next_kept;
-use ecma_lines::rereads::ReadAgain;
+use crate::lines::next_kept;
+use crate::rereads::ReadAgain;
 use ecma_state::Kept;
 use ecma_stream::Lexer;
 use ecma_token::TokenAndSpan;

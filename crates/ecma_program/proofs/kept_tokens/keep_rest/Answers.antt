@@ -2,7 +2,7 @@ use Rattle.std.proofs.Common.{◌≡◌, ◌∙◌, [], ◌∷◌, ◌++◌, sym
 use Rattle.ecma_state.specs.Run.{reading_of}
 use Rattle.ecma_state.specs.Session.{kept_of, lexer_state}
 use Rattle.ecma_program.proofs.Keeping.{KeptSoFar, kept-comments, kept-errors, kept-next, kept-tokens}
-use Rattle.ecma_lines.proofs.Listing.{no-kept, some-kept, token-less}
+use Rattle.ecma_program.proofs.Listing.{no-kept, some-kept, token-less}
 use Rattle.ecma_program.proofs.kept_tokens.keep_rest.Goals as goal
 
 pub tokens-smaller : goal.tokens-smaller

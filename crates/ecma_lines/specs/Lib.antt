@@ -1,4 +1,0 @@
-pub mod CommentLines
-pub mod ErrorLines
-pub mod Lines
-pub mod Rereads
