@@ -9,8 +9,8 @@ ghost use Rattle.ecma_program.specs.CanonText.{IsReadAgain, KeepsCleanly, unless
 ghost use Rattle.ecma_program.specs.Rereads.{Fails};
 
 use crate::kept_tokens::keep_tokens;
-use ecma_canonical::{canonical_text, has_no_error};
 use crate::rereads::open;
+use ecma_canonical::{canonical_text, has_no_error};
 use ecma_options::Options;
 use ecma_place::{BytePos, StringInput};
 use ecma_state::Kept;

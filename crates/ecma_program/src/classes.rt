@@ -3,10 +3,10 @@ ghost use Rattle.std.specs.Prelude.{◌≡◌, ◌++◌, ◌^◌, ◌<◌, Some,
 ghost use Rattle.ecma_program.specs.ClassLines as rows;
 ghost use Rattle.ecma_program.specs.Rereads.{Lacks};
 
-use crate::kept_tokens::keep_tokens;
-use ecma_classes::{Piece, classes};
 use crate::comments::take_comments;
+use crate::kept_tokens::keep_tokens;
 use crate::rereads::open;
+use ecma_classes::{Piece, classes};
 use ecma_names::piece_name;
 use ecma_options::Options;
 use ecma_place::BytePos;

@@ -7,10 +7,10 @@ ghost use Rattle.ecma_program.specs.Reply.{program_text};
 
 use crate::canon::canon_text;
 use crate::classes::classes_text;
-use crate::particulars::Particulars;
 use crate::comments::comments_text;
 use crate::errors::errors_text;
 use crate::lines::tokens_text;
+use crate::particulars::Particulars;
 use ecma_options::Options;
 use ecma_stdio::Fault;
 use std::alloc::{AllocError, Global};

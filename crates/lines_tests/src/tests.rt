@@ -1,6 +1,6 @@
 //! Rows of the program, and readers and writers that fail in the middle.
-use ecma_program::comments::comments_text;
 use ecma_options::Options;
+use ecma_program::comments::comments_text;
 use ecma_program::{explanation, run};
 use ecma_stdio::{Halt, arguments, read_all, words};
 use std::alloc::Global;
