@@ -1,3 +1,4 @@
+pub mod Canonical
 pub mod Comments
 pub mod Modules
 pub mod Pieces

@@ -1,5 +1,5 @@
 -- Texts that are written whole: the canonical text, HTML, and a text as a terminal shows it.
-use Rattle.std.specs.Prelude.{ℕ, List, [], ◌∷◌, ◌++◌, ◌&&◌, Bool, true, false, if◌then◌else◌, map, not, string_bytes}
+use Rattle.std.specs.Prelude.{ℕ, ◌≡◌, List, [], ◌∷◌, ◌++◌, ◌&&◌, Bool, true, false, if◌then◌else◌, map, not, string_bytes}
 use Rattle.ecma_place.specs.Text.{Text}
 use Rattle.ecma_place.specs.declared.place.BytePos.{BytePos}
 use Rattle.ecma_comments.specs.declared.comments_buffer.BufferedComment.{BufferedComment}
@@ -7,7 +7,9 @@ use Rattle.ecma_state.specs.Session.{Session, kept_tokens}
 use Rattle.ecma_state.specs.declared.kept.Kept.{Kept}
 use Rattle.ecma_state.specs.declared.settings.Settings.{Settings}
 use Rattle.ecma_state.specs.declared.step.Step.{Step}
-use Rattle.ecma_canonical.specs.Canonical.{IsCanon}
+use Rattle.ecma_canonical.specs.Canonical.{IsCanonicalText, IsTooLong}
+use Rattle.ecma_clean.specs.Clean.{is_clean}
+use Rattle.ecma_clean.specs.Sharing.{begin}
 use Rattle.ecma_canonical.specs.declared.clean_text.Canon.{Canon}
 use Rattle.ecma_canonical.specs.declared.clean_text.Canon.TheVariants as canon
 use Rattle.ecma_options.specs.Begin.{context, settings, whole}
@@ -23,17 +25,34 @@ use Rattle.ecma_report.specs.declared.words.Named.{Named}
 
 -- The canonical text
 
+-- its bytes, or why there is none
+pub data CanonTold : Type 0 where
+  Bytes : List ℕ → CanonTold
+  NotClean : CanonTold
+  TooLong : CanonTold
+
+abbrev pub told_of : Canon → CanonTold
+told_of (canon.Text t) = Bytes (string_bytes t)
+told_of canon.NotClean = NotClean
+told_of canon.TooLong = TooLong
+
+-- this is so of a text and steps
+abbrev pub IsTold : Settings → Text → List Step → CanonTold → Type 0
+IsTold how text steps (Bytes bytes) = IsCanonicalText how 0 text steps bytes
+IsTold how text steps NotClean = is_clean how (begin 0 text) steps ≡ false
+IsTold how text steps TooLong = IsTooLong how 0 text steps
+
 -- what is written of it, and nothing where there is none
-abbrev pub canon_written : Look → List ℕ → Canon → List ℕ
-canon_written l file (canon.Text t) = whole_text l file (string_bytes t)
-canon_written l file canon.NotClean = []
-canon_written l file canon.TooLong = []
+abbrev pub canon_written : Look → List ℕ → CanonTold → List ℕ
+canon_written l file (Bytes bytes) = whole_text l file bytes
+canon_written l file NotClean = []
+canon_written l file TooLong = []
 
 -- this holds of what is written of the canonical text that a text has by these steps
 pub record OfCanon (l : Look) (file : List ℕ) (how : Settings) (text : Text) (steps : List Step) (P : List ℕ → Type 0) : Type 0 where
-  pub canon : Canon
-  pub is_canon : IsCanon how 0 text steps canon
-  pub holds : P (canon_written l file canon)
+  pub told : CanonTold
+  pub is_told : IsTold how text steps told
+  pub holds : P (canon_written l file told)
 
 -- how a text is read, of which nothing but its tokens is asked for
 abbrev pub plainly : Look → Settings

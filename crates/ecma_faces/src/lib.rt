@@ -1,10 +1,11 @@
 //! What `ecma` writes of a text, while the text is read.
 //!
 //! `telling.rt` has the call, `tell`, whose contract says for each face what is written. `tokens.rt` (with `values.rt`),
-//! `comments.rt` and `imports.rt` are loops over a `Reader`, `whole.rt` has what needs all tokens. The rows of a report, its
+//! `comments.rt`, `imports.rt` and `canonical.rt` are loops over a `Reader`, `whole.rt` has what needs all tokens. The rows of a report, its
 //! errors and its words are in `ecma_report`.
 #![tactic(auto)]
 
+mod canonical;
 mod comments;
 mod imports;
 pub mod telling;

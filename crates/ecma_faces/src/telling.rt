@@ -15,6 +15,7 @@ ghost use Rattle.ecma_faces.specs.Tokens.{begun, token_rows};
 ghost use Rattle.ecma_report.specs.Rows.{Look};
 ghost use Rattle.ecma_report.specs.declared.words.Face.TheVariants as face;
 
+use crate::canonical::write_canonical;
 use crate::comments::write_comments;
 use crate::imports::{write_exports, write_imports};
 use crate::tokens::write_tokens;
@@ -60,6 +61,7 @@ fn write_face<'a, W: Write>(
         Face::Errors => write_errors(report, named, out),
         Face::Imports => write_imports(report, named, out),
         Face::Exports => write_exports(report, named, out),
+        Face::Canonical if !report.asked.json => write_canonical(report, named, out),
         Face::Canonical | Face::Classes | Face::Html | Face::Show => {
             tell_gathered(report, named, out)
         }

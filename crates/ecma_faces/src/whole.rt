@@ -18,7 +18,7 @@ ghost use Rattle.ecma_looks.specs.Shown.{IsShown};
 ghost use Rattle.ecma_faces.specs.Pieces as rows;
 ghost use Rattle.ecma_faces.specs.Pieces.{piece_rows, pieces_by};
 ghost use Rattle.ecma_faces.specs.Whole as whole_specs;
-ghost use Rattle.ecma_faces.specs.Whole.{OfCanon, OfHtml, OfLines, OfShown, canon_written, html_by, html_written, plainly, shown_head, steps_by};
+ghost use Rattle.ecma_faces.specs.Whole.{OfCanon, OfHtml, OfLines, OfShown, canon_written, html_by, html_written, plainly, shown_head, steps_by, told_of};
 ghost use Rattle.ecma_report.specs.Reports as reports;
 ghost use Rattle.ecma_report.specs.Reports.{Adds, IsOf, Stays, look_of};
 ghost use Rattle.ecma_report.specs.Rows.{Look};
@@ -56,7 +56,7 @@ fn canon_of(alloc: Global, text: &str, gathered: &Gathered) -> Result<Canon, All
 /// Writes a canonical text, and nothing where there is none.
 fn write_canon<W: Write>(report: &mut Report, canon: &Canon, out: &mut W) -> Result<(), Stop>
     ensures { (look : Look) (name text : List ℕ) → IsOf look name text report.old
-        → OnOk result (Adds (W.contents out.old) (W.contents out.new) report.old.out.items report.new.out.items (canon_written look name canon.now)) }
+        → OnOk result (Adds (W.contents out.old) (W.contents out.new) report.old.out.items report.new.out.items (canon_written look name (told_of canon.now))) }
 {
     match canon {
         Canon::Text(text) => report.write_whole(text.as_bytes(), out),
@@ -67,7 +67,8 @@ fn write_canon<W: Write>(report: &mut Report, canon: &Canon, out: &mut W) -> Res
     }
 }
 
-fn write_canonical<W: Write>(
+/// Writes the canonical text of what was gathered.
+fn write_canon_of<W: Write>(
     report: &mut Report,
     gathered: &Gathered,
     out: &mut W,
@@ -250,7 +251,7 @@ fn write_gathered<W: Write>(
         Face::Classes => write_pieces(report, gathered, out),
         Face::Html => write_html(report, gathered, found, out),
         Face::Show => write_shown(report, gathered, found, out),
-        _ => write_canonical(report, gathered, out),
+        _ => write_canon_of(report, gathered, out),
     }
 }
 

@@ -59,8 +59,8 @@ returns g c =
       canonical = λ ask file bytes of face.
           let told = c.in_ok-write_face.ensures.canonical ask file bytes of face in
           record {
-            canon = told.canon;
-            is_canon = told.is_canon;
-            holds = written (canon_written ask file told.canon) told.holds flushed.written flushed.none;
+            told = told.told;
+            is_told = told.is_told;
+            holds = written (canon_written ask file told.told) told.holds flushed.written flushed.none;
           };
     }

@@ -161,8 +161,8 @@ returns g c = record {
       c.slashes_at-slashes.ensures.rule (c.settings-settings.ensures ∙ collected ∙ ap (λ a. asks.settings false a.options) asked) (c.context-context.ensures ∙ ap (λ a. asks.context a.options) asked) of.text c.in_ok-read.ensures in
       let written = c.in_ok-write_gathered.ensures.canonical ask file bytes (rule_at named) here face is.gathers in
       record {
-        canon = written.canon;
-        is_canon = written.is_canon;
-        holds = adds-on before between after first.out.items told.out.items last.out.items [] (canon_written ask file written.canon) nothing written.holds;
+        told = written.told;
+        is_told = written.is_told;
+        holds = adds-on before between after first.out.items told.out.items last.out.items [] (canon_written ask file written.told) nothing written.holds;
       };
 }

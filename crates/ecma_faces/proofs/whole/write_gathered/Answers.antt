@@ -9,5 +9,5 @@ returns-in_default g c = record {
   classes = λ ask file bytes of face. absurd (c.in_default.not-Classes (ap (λ l. l.asked.face) of.look ∙ face));
   html = λ ask file bytes of face. absurd (c.in_default.not-Html (ap (λ l. l.asked.face) of.look ∙ face));
   shown = λ ask file bytes of face. absurd (c.in_default.not-Show (ap (λ l. l.asked.face) of.look ∙ face));
-  canonical = λ ask file bytes rule of face gathers. c.write_canonical.ensures ask file bytes rule of gathers;
+  canonical = λ ask file bytes rule of face gathers. c.write_canon_of.ensures ask file bytes rule of gathers;
 }

@@ -1,0 +1,44 @@
+use Rattle.std.proofs.Common.{◌≡◌, ◌∙◌, [], None, false, ap, length, subst, sym}
+use Rattle.std.specs.Str.{chars}
+use Rattle.ecma_options.specs.Begin.{begin}
+use Rattle.ecma_reader.specs.Readers.{Shows, end_by, tokens_by}
+use Rattle.ecma_report.specs.Reports.{Adds, IsOf, writes_errors}
+use Rattle.ecma_report.specs.Slashes.{rule_at}
+use Rattle.ecma_faces.specs.Canonical.{Counted, joined, reads_clean}
+use Rattle.ecma_faces.specs.Tokens.{begun}
+use Rattle.ecma_faces.specs.Whole.{OfCanon, canon_written, plainly, steps_by}
+use Rattle.ecma_faces.proofs.CanonicalLemmas.{clean-told}
+use Rattle.ecma_report.proofs.ReportLemmas.{adds-on, said-of, stays-of}
+use Rattle.ecma_faces.proofs.canonical.write_canonical.Goals as goal
+
+pub write_measured-requires-clause-same : goal.write_measured-requires-clause-same
+write_measured-requires-clause-same g c = sym c.in_ok-tell_left.ensures.stays.text
+
+pub returns : goal.returns
+returns g c = λ ask file bytes of face plain.
+    let first = c.args.report.now in
+    let told = c.tell_left.new.report in
+    let last = c.write_measured.new.report in
+    let rule = rule_at c.args.named in
+    let start = begun ask.asked bytes in
+    let before = g.W.Write.contents c.args.out.now in
+    let between = g.W.Write.contents c.tell_left.new.out in
+    let after = g.W.Write.contents c.write_measured.new.out in
+    let seen = c.in_ok-tokens.tokens in
+    let outcome = c.finish-outcome.result in
+    let shows = said-of ask file bytes first (λ a n t. Shows rule (begin false a.asked.options t) [] c.in_ok-reader.reader) of c.in_ok-reader.ensures.shows in
+    let read = c.in_ok-tokens.ensures.read rule start shows in
+    let left = c.finish-outcome.ensures.left (end_by rule start) read.at in
+    let clean = c.and-measured.ensures.clean ∙ clean-told rule ask bytes outcome seen.clean c.is_empty.result (c.in_ok-tokens.ensures.clean rule start shows) left read.ended c.is_empty.ensures in
+    let counted_here = subst (λ t. Counted seen.bytes (length (joined t None (tokens_by rule start)))) of.text (c.in_ok-tokens.ensures.counted rule start shows) in
+    let counted = subst (λ m. Counted m (length (joined bytes None (tokens_by rule start)))) (sym c.and-measured.ensures.bytes) counted_here in
+    let here = stays-of ask file bytes first told c.in_ok-tell_left.ensures.stays of in
+    let nothing = c.in_ok-tell_left.ensures.adds (ap (λ l. writes_errors l.asked.face) of.look ∙ face) in
+    let measured = c.and-measured.result in
+    let written = subst (λ t. IsOf ask file t told → ask.asked.json ≡ false → measured.clean ≡ reads_clean rule ask t → Counted measured.bytes (length (joined t None (tokens_by rule (begun ask.asked t))))
+    → OfCanon ask file (plainly ask) (chars t) (steps_by rule ask t) (λ all. Adds between after told.out.items last.out.items all)) of.text (c.in_ok-write_measured.ensures ask file) here plain clean counted in
+    record {
+      told = written.told;
+      is_told = written.is_told;
+      holds = adds-on before between after first.out.items told.out.items last.out.items [] (canon_written ask file written.told) nothing written.holds;
+    }

@@ -1,0 +1,32 @@
+use Rattle.std.proofs.Common.{◌∙◌, None, length, subst, sym}
+use Rattle.ecma_reader.specs.Readers.{tokens_by}
+use Rattle.ecma_report.specs.Slashes.{rule_at}
+use Rattle.ecma_faces.specs.Canonical.{Counted, joined}
+use Rattle.ecma_faces.specs.Tokens.{begun}
+use Rattle.ecma_faces.specs.Whole.CanonTold.{Bytes, TooLong}
+use Rattle.ecma_faces.proofs.CanonicalLemmas.{holds-where, told-text, told-too_long}
+use Rattle.ecma_report.proofs.ReportLemmas.{adds-none}
+use Rattle.ecma_faces.proofs.canonical.write_measured.Goals as goal
+
+pub returns-in_ok-write_clean-in-Some : goal.returns-in_ok-write_clean-in-Some
+returns-in_ok-write_clean-in-Some g c = λ ask file of plain clean counted.
+    let text = c.args.text.now in
+    let rule = rule_at c.args.named in
+    let own = joined text None (tokens_by rule (begun ask.asked text)) in
+    let (is, below) = subst (λ m. Counted m (length own)) c.in-Some.is counted in
+    record {
+      told = Bytes own;
+      is_told = told-text rule ask text c.in-Some.field-0 c.utf8.text c.requires.fits (sym (holds-where c.args.measured.clean c.if-not-measured.false) ∙ clean) is below;
+      holds = c.in_ok-write_clean-in-Some.ensures ask file text of plain;
+    }
+
+pub returns-in-None : goal.returns-in-None
+returns-in-None g c = λ ask file of plain clean counted.
+    let text = c.args.text.now in
+    let rule = rule_at c.args.named in
+    let own = joined text None (tokens_by rule (begun ask.asked text)) in
+    record {
+      told = TooLong;
+      is_told = told-too_long rule ask text c.utf8.text c.requires.fits (sym (holds-where c.args.measured.clean c.if-not-measured.false) ∙ clean) (subst (λ m. Counted m (length own)) c.in-None.is counted);
+      holds = adds-none (g.W.Write.contents c.args.out.now) c.args.report.now.out.items;
+    }
