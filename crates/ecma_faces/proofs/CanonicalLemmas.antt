@@ -176,10 +176,6 @@ pub holds-where : (b : Bool) → not b ≡ false → b ≡ true
 holds-where true h = refl
 holds-where false h = sym h
 
-pub fails-where : (b : Bool) → not b ≡ true → b ≡ false
-fails-where true h = sym h
-fails-where false h = refl
-
 -- the canonical text of a clean text
 pub told-text : (rule : SlashRule) (l : Look) (bytes : List ℕ) (n : ℕ) → IsUtf8 bytes → length bytes < 2 ^ 32 → true ≡ reads_clean rule l bytes
     → let own = joined bytes None (tokens_by rule (begin false l.asked.options bytes)) in n ≡ length own → n < 2 ^ 32

@@ -1,8 +1,8 @@
 //! What `ecma` writes of a text, while the text is read.
 //!
 //! `telling.rt` has the call, `tell`, whose contract says for each face what is written. `tokens.rt` (with `values.rt`),
-//! `comments.rt`, `imports.rt` and `canonical.rt` are loops over a `Reader`, `whole.rt` has what needs all tokens. The rows of a report, its
-//! errors and its words are in `ecma_report`.
+//! `comments.rt`, `imports.rt` and `canonical.rt` are loops over a `Reader`, `whole.rt` has what needs all tokens. The rows
+//! of a report, its errors and its words are in `ecma_report`.
 #![tactic(auto)]
 
 mod canonical;

@@ -1,6 +1,5 @@
 use Rattle.std.proofs.Common.{◌∙◌, ap, sym}
 use Rattle.ecma_report.specs.Reports.{writes_errors}
-use Rattle.ecma_faces.proofs.CanonicalLemmas.{fails-where}
 use Rattle.ecma_faces.proofs.telling.write_face.Goals as goal
 
 pub returns-in-Errors-clause-errors : goal.returns-in-Errors-clause-errors
@@ -8,5 +7,5 @@ returns-in-Errors-clause-errors g c = λ look name text of is. c.write_errors.en
 
 pub returns-in-Canonical-clause-canonical : goal.returns-in-Canonical-clause-canonical
 returns-in-Canonical-clause-canonical g c = λ look name text of is.
-    let plain = ap (λ l. l.asked.json) (sym of.look) ∙ fails-where c.args.report.now.asked.json c.if-not-report.true in
+    let plain = ap (λ l. l.asked.json) (sym of.look) ∙ c.if-not-report.true in
     c.write_canonical.ensures look name text of (ap writes_errors is) plain
