@@ -38,14 +38,14 @@ all-onto p (x ∷ xs) ys =
     ∙ sym (and_assoc (list_all p xs) (p x) (list_all p ys))
     ∙ ap (λ b. b && list_all p ys) (and_comm (list_all p xs) (p x))
 
-all-reversed : {A : Type 0} (p : A → Bool) (xs : List A) → list_all p (reverse xs) ≡ list_all p xs
+pub all-reversed : {A : Type 0} (p : A → Bool) (xs : List A) → list_all p (reverse xs) ≡ list_all p xs
 all-reversed p xs = all-onto p xs [] ∙ and_comm (list_all p xs) true
 
 none-error : (ts : List SpannedView) → list_all (λ (k : Kept). not (is_error k.kind)) (reverse (map kept_of ts)) ≡ list_all (λ t. not (is_error (kind_of t.token))) ts
 none-error ts =
     all-reversed (λ (k : Kept). not (is_error k.kind)) (map kept_of ts) ∙ list_all-map (λ (k : Kept). not (is_error k.kind)) kept_of ts
 
-mapped-empty : {A B : Type 0} (f : A → B) (xs : List A) → is_empty (map f xs) ≡ (length xs == 0)
+pub mapped-empty : {A B : Type 0} (f : A → B) (xs : List A) → is_empty (map f xs) ≡ (length xs == 0)
 mapped-empty f [] = refl
 mapped-empty f (x ∷ xs) = grind (arith, nat_tests)
 

@@ -72,7 +72,7 @@ joint_bytes true flag = refl
 joint_bytes false true = refl
 joint_bytes false false = refl
 
-between_bytes : (before : Option TokenKind) (k : Kept) → encode_utf8_all (between_behind before k) ≡ between_behind before k
+pub between_bytes : (before : Option TokenKind) (k : Kept) → encode_utf8_all (between_behind before k) ≡ between_behind before k
 between_bytes None k = refl
 between_bytes (Some kind) k = joint_bytes (is_template_text kind || is_template_text k.kind) k.flag
 

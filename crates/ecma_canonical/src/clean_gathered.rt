@@ -1,5 +1,5 @@
 //! The canonical text of what was gathered of a text.
-ghost use Rattle.std.specs.Prelude.{◌≡◌, ◌+◌, ◌<◌, ◌^◌, List, length, IfOk};
+ghost use Rattle.std.specs.Prelude.{◌+◌, ◌<◌, ◌^◌, List, length, IfOk};
 ghost use Rattle.std.specs.Str.{chars};
 ghost use Rattle.ecma_state.specs.declared.settings.Settings.{Settings};
 ghost use Rattle.ecma_state.specs.declared.step.Step.{Step};

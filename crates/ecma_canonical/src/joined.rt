@@ -12,8 +12,9 @@ use ecma_state::kept::Kept;
 use ecma_token::TokenKind;
 use std::alloc::{AllocError, Global};
 
-/// What comes between the token of a kind, where there is one, and the token behind it.
-fn between(before: Option<TokenKind>, token: &Kept) -> &'static str
+/// What [`canonical_text`] has between the token of a kind, where there is one, and the token behind it: nothing where one of
+/// them is template text, else a line feed where the second's flag is set, else one space. It does not allocate.
+pub fn between(before: Option<TokenKind>, token: &Kept) -> &'static str
     ensures { result.now ≡ between_behind before token.now }
 {
     match before {

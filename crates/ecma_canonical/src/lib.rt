@@ -13,4 +13,4 @@ mod watch;
 
 pub use clean_gathered::canonical_of_gathered;
 pub use clean_text::{Canon, canonical, has_no_error};
-pub use joined::canonical_text;
+pub use joined::{between, canonical_text};

@@ -20,7 +20,6 @@ use Rattle.ecma_state.specs.TokenAt.{is_empty}
 use Rattle.ecma_state.specs.declared.kept.Kept.{Kept}
 use Rattle.ecma_state.specs.declared.settings.Settings.{Settings}
 use Rattle.ecma_state.specs.declared.step.Step.{Step}
-use Rattle.clean_runs.specs.Parts.{joint}
 use Rattle.ecma_clean.specs.Canonical.{Own, canonical_behind, canonical_of, is_template_text, own_in}
 use Rattle.ecma_clean.specs.Clean.{ends_clean}
 use Rattle.ecma_clean.specs.Sharing.{canonical_text_of}
@@ -28,7 +27,8 @@ use Rattle.ecma_canonical.specs.Canonical.{IsCanon}
 use Rattle.ecma_canonical.specs.Joined.{StandsIn, between_behind}
 use Rattle.ecma_canonical.specs.declared.clean_text.Canon.{Canon}
 use Rattle.ecma_canonical.specs.declared.clean_text.Canon.TheVariants as canon
-use Rattle.ecma_canonical.proofs.CleanLemmas.{text-fits, text-too_long}
+use Rattle.ecma_canonical.proofs.CleanLemmas.{all-reversed, mapped-empty, text-fits, text-too_long}
+use Rattle.ecma_canonical.proofs.JoinedLemmas.{between_bytes}
 use Rattle.ecma_canonical.proofs.KeptPlaces.{kept_tokens_stand}
 use Rattle.ecma_options.specs.Begin.{begin, context, settings, whole}
 use Rattle.ecma_options.specs.declared.options.Options.{Options}
@@ -48,23 +48,6 @@ canon-told how text steps (canon.Text t) is = is
 canon-told how text steps canon.NotClean is = is
 canon-told how text steps canon.TooLong is = is
 
--- No token is an error
-
--- in any order
-all-onto : (ts us : List SpannedView) → list_all has_no_error (reverse_aux ts us) ≡ (list_all has_no_error ts && list_all has_no_error us)
-all-onto [] us = refl
-all-onto (t ∷ ts) us =
-    all-onto ts (t ∷ us)
-    ∙ sym (and_assoc (list_all has_no_error ts) (has_no_error t) (list_all has_no_error us))
-    ∙ ap (λ b. b && list_all has_no_error us) (and_comm (list_all has_no_error ts) (has_no_error t))
-
-all-reversed : (ts : List SpannedView) → list_all has_no_error (reverse ts) ≡ list_all has_no_error ts
-all-reversed ts = all-onto ts [] ∙ and_comm (list_all has_no_error ts) true
-
-viewed-empty : (es : List Error) → is_empty (map error_view es) ≡ (length es == 0)
-viewed-empty [] = refl
-viewed-empty (e ∷ es) = grind (arith, nat_tests)
-
 -- The run is clean where no token is an error, and none was recorded
 
 pub clean-told : (rule : SlashRule) (l : Look) (bytes : List ℕ) (outcome : Outcome) (none empty : Bool)
@@ -76,8 +59,8 @@ clean-told rule l bytes outcome none empty among left ended no_errors =
     let first = begin false l.asked.options bytes in
     let s = end_by rule first in
     let back = kept_back s.past in
-    let tokens : none ≡ list_all has_no_error back = among ∙ all-reversed back in
-    let recorded : empty ≡ is_empty s.errors.recorded = no_errors ∙ sym (viewed-empty outcome.errors) ∙ ap is_empty left.errors in
+    let tokens : none ≡ list_all has_no_error back = among ∙ all-reversed has_no_error back in
+    let recorded : empty ≡ is_empty s.errors.recorded = no_errors ∙ sym (mapped-empty error_view outcome.errors) ∙ ap is_empty left.errors in
     ap (λ n. n && empty) tokens
     ∙ ap (λ r. list_all has_no_error back && r) recorded
     ∙ ap (λ e. e && (list_all has_no_error back && is_empty s.errors.recorded)) (sym ended)
@@ -109,18 +92,6 @@ part-is bytes input k stands =
     (subst (λ n. slice_range bytes n (hi - 0) ≡ encode_utf8_all (slice_between 0 (chars bytes) lo hi)) (from-zero lo)
     (between-seen bytes 0 0 lo hi c (start-of bytes) input stands.from stands.to stands.in_order)) in
     rw (order, from, to) is
-
--- A separator is written as its bytes
-
-joint_bytes : (b flag : Bool) → encode_utf8_all (joint b flag) ≡ joint b flag
-unfolding lib.Utf8.encode
-joint_bytes true flag = refl
-joint_bytes false true = refl
-joint_bytes false false = refl
-
-between_bytes : (before : Option TokenKind) (k : Kept) → encode_utf8_all (between_behind before k) ≡ between_behind before k
-between_bytes None k = refl
-between_bytes (Some kind) k = joint_bytes (is_template_text kind || is_template_text k.kind) k.flag
 
 -- Joined tokens are the canonical text
 

@@ -8,47 +8,22 @@ ghost use Rattle.ecma_slashes.specs.Rereads.{SlashRule};
 ghost use Rattle.ecma_reader.specs.Readers.{HasRead, IsReady, Shows, tokens_by, tokens_found};
 ghost use Rattle.ecma_report.specs.Reports.{Adds, IsOf, Stays, writes_errors};
 ghost use Rattle.ecma_report.specs.Slashes.{rule_at};
-ghost use Rattle.clean_runs.specs.Parts.{joint};
-ghost use Rattle.ecma_clean.specs.Canonical.{is_template_text};
-ghost use Rattle.ecma_canonical.specs.Joined.{between_behind};
 ghost use Rattle.ecma_faces.specs.Canonical.{Counted, has_no_error, joined, reads_clean};
 ghost use Rattle.ecma_faces.specs.Tokens.{begun, kind_behind};
 ghost use Rattle.ecma_faces.specs.Whole.{OfCanon, plainly, steps_by};
 ghost use Rattle.ecma_report.specs.Rows.{Look, whole_text};
 
-use ecma_faults::in_order;
+use crate::errors::tell_errors;
+use ecma_canonical::between;
 use ecma_reader::Reader;
-use ecma_report::faults::{keep_error, tell_found};
+use ecma_report::faults::keep_error;
 use ecma_report::report::{Report, Stop};
-use ecma_report::slashes::{open, tell_unmet};
+use ecma_report::slashes::open;
 use ecma_report::words::Named;
 use ecma_state::Kept;
 use ecma_token::{Error, TokenAndSpan, TokenKind};
 use std::alloc::AllocError;
 use std::io::Write;
-
-/// What comes between the token of a kind, where there is one, and the token behind it.
-fn between(before: Option<TokenKind>, token: &Kept) -> &'static str
-    ensures { result.now ≡ between_behind before token.now }
-{
-    match before {
-        None | Some(TokenKind::Template) => "",
-        Some(_) => before_token(token),
-    }
-}
-
-/// The same behind a token that isn't template text.
-fn before_token(token: &Kept) -> &'static str
-    ensures { result.now ≡ joint (is_template_text token.now.kind) token.now.flag }
-{
-    if token.kind == TokenKind::Template {
-        ""
-    } else if token.flag {
-        "\n"
-    } else {
-        " "
-    }
-}
 
 /// So many bytes more, where all are fewer than 2^32.
 fn added(bytes: Option<u32>, more: usize) -> Option<u32>
@@ -187,27 +162,6 @@ fn write_tokens_joined<W: Write>(
     Ok(())
 }
 
-/// Tells of the errors of tokens, and of those that were recorded, where so many slashes were read again.
-fn tell_left<'a, W: Write>(
-    report: &mut Report<'a>,
-    named: Named<'a>,
-    tokens: Vec<Error<'a>>,
-    recorded: Vec<Error<'a>>,
-    rereads: usize,
-    out: &mut W,
-) -> Result<(), Stop>
-    requires { length report.old.text.now < 2 ^ 32 }
-    ensures adds { writes_errors report.old.asked.face ≡ false
-        → OnOk result (Adds (W.contents out.old) (W.contents out.new) report.old.out.items report.new.out.items []) }
-    ensures stays { OnOk result (Stays report.old report.new) }
-{
-    let waiting = Vec::new(report.alloc);
-    let found = in_order(report.alloc, tokens, recorded, waiting)?;
-    tell_unmet(report, named, rereads)?;
-    tell_found(report, &found, out)?;
-    Ok(())
-}
-
 /// Ends a text, where there are several.
 fn push_end(report: &mut Report) -> Result<(), AllocError>
     ensures added { OnOk result (report.new.out.items ≡ report.old.out.items ++ (if report.old.among.several then 10 ∷ [] else [])) }
@@ -289,7 +243,7 @@ pub(crate) fn write_canonical<'a, W: Write>(
     let measured = tokens.and(outcome.errors.is_empty());
     let rereads = outcome.rereads;
     let recorded = outcome.errors.into_vec();
-    tell_left(report, named, errors, recorded, rereads, out)?;
+    tell_errors(report, named, errors, recorded, rereads, out)?;
     write_measured(report, text, named, measured, out)?;
     Ok(())
 }

@@ -5,12 +5,12 @@ ghost use Rattle.ecma_faces.specs.Comments.{comment_rows, comments_by};
 ghost use Rattle.ecma_report.specs.Reports.{Adds, IsOf, Stays, writes_errors};
 ghost use Rattle.ecma_report.specs.Rows.{Look};
 
-use ecma_faults::in_order;
+use crate::errors::tell_errors;
 use ecma_names::{comment_name, side_name};
 use ecma_reader::Outcome;
-use ecma_report::faults::{pass_tokens, tell_found};
+use ecma_report::faults::pass_tokens;
 use ecma_report::report::{More, Report, Row, Stop};
-use ecma_report::slashes::{open, tell_unmet};
+use ecma_report::slashes::open;
 use ecma_report::words::Named;
 use ecma_state::BufferedComment;
 use std::alloc::AllocError;
@@ -69,10 +69,7 @@ pub(crate) fn write_comments<'a, W: Write>(
         ended: _,
         rereads,
     } = reader.finish();
-    let waiting = Vec::new(report.alloc);
-    let found = in_order(report.alloc, errors, recorded.into_vec(), waiting)?;
-    tell_unmet(report, named, rereads)?;
-    tell_found(report, &found, out)?;
+    tell_errors(report, named, errors, recorded.into_vec(), rereads, out)?;
     push_comments(report, &comments, out)?;
     Ok(())
 }

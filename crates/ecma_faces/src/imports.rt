@@ -12,15 +12,15 @@ ghost use Rattle.ecma_faces.specs.Modules.{export_rows, import_rows, kept_by};
 ghost use Rattle.ecma_report.specs.Reports.{Adds, IsOf, Stays, writes_errors};
 ghost use Rattle.ecma_report.specs.Rows.{Look};
 
-use ecma_faults::in_order;
+use crate::errors::tell_errors;
 use ecma_module_table::rows::{Export, Form, Import, ModuleOptions, Phase};
 use ecma_modules::{Gathering, Module};
 use ecma_place::Span;
 use ecma_print::row::Imported;
 use ecma_reader::Reader;
-use ecma_report::faults::{keep_error, tell_found};
+use ecma_report::faults::keep_error;
 use ecma_report::report::{More, Report, Row, Stop};
-use ecma_report::slashes::{open, tell_unmet};
+use ecma_report::slashes::open;
 use ecma_report::words::{Asked, Named};
 use ecma_state::Kept;
 use ecma_token::{Error, TokenAndSpan};
@@ -190,10 +190,8 @@ fn read_module<'a, W: Write>(
     gather_tokens(&mut reader, &mut gathering, &mut errors)?;
     let outcome = reader.finish();
     let rereads = outcome.rereads;
-    let waiting = Vec::new(report.alloc);
-    let found = in_order(report.alloc, errors, outcome.errors.into_vec(), waiting)?;
-    tell_unmet(report, named, rereads)?;
-    tell_found(report, &found, out)?;
+    let recorded = outcome.errors.into_vec();
+    tell_errors(report, named, errors, recorded, rereads, out)?;
     Ok(gathering.finish()?)
 }
 

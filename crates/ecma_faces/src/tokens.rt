@@ -11,12 +11,12 @@ ghost use Rattle.ecma_faces.specs.Tokens.{begun, kind_behind, token_rows};
 ghost use Rattle.ecma_report.specs.Rows.{Look, row_of};
 ghost use Rattle.ecma_print.specs.Rows.{more_view};
 
+use crate::errors::tell_errors;
 use crate::values::told;
-use ecma_faults::in_order;
 use ecma_reader::Reader;
-use ecma_report::faults::{keep_error, tell_found};
+use ecma_report::faults::keep_error;
 use ecma_report::report::{More, Report, Row, Stop};
-use ecma_report::slashes::{open, tell_unmet};
+use ecma_report::slashes::open;
 use ecma_report::words::Named;
 use ecma_state::Kept;
 use ecma_styles::Class;
@@ -112,9 +112,7 @@ pub(crate) fn write_tokens<'a, W: Write>(
     read_tokens(report, &mut reader, &mut errors, out)?;
     let outcome = reader.finish();
     let rereads = outcome.rereads;
-    let waiting = Vec::new(report.alloc);
-    let found = in_order(report.alloc, errors, outcome.errors.into_vec(), waiting)?;
-    tell_unmet(report, named, rereads)?;
-    tell_found(report, &found, out)?;
+    let recorded = outcome.errors.into_vec();
+    tell_errors(report, named, errors, recorded, rereads, out)?;
     Ok(())
 }

@@ -28,6 +28,8 @@ pub enum Answers {
 /// What is done where the lexer saves where it is.
 #[derive(Debug, Clone, Copy, PartialEq, Eq)]
 pub enum Saves {
+    /// Nothing: what the loop takes by itself.
+    Nothing,
     /// A checkpoint takes the place of the one before.
     Checkpoint,
     /// The lexer goes back to a checkpoint right away.
@@ -94,6 +96,7 @@ impl Measure {
 /// Those by the flag, with saves of this name every so many tokens.
 fn saving(name: &str, every: &str) -> Option<Rereads> {
     let saves = match name {
+        "idle" => Saves::Nothing,
         "save" => Saves::Checkpoint,
         "back" => Saves::CheckpointAndBack,
         "copies" => Saves::CopyAndBack,
@@ -102,7 +105,7 @@ fn saving(name: &str, every: &str) -> Option<Rereads> {
     Some(Rereads::ByFlagSaving(saves, number(every)?))
 }
 
-/// Those of the word `flag`, perhaps with `save K`, `back K` or `copies K` behind it, or of words `reread K`.
+/// Those of the word `flag`, perhaps with `idle K`, `save K`, `back K` or `copies K` behind it, or of words `reread K`.
 fn slashes(alloc: Global, words: &[String]) -> Result<Rereads, Fault> {
     match words {
         [flag] if flag.as_str() == "flag" => Ok(Rereads::ByFlag),

@@ -5,7 +5,13 @@ use ecma_stdio::Fault;
 use ecma_stream::{Checkpoint, Lexer};
 use std::alloc::AllocError;
 
-/// Saves where the lexer is. A call of its own, as is each of the three: what one writes is then no cost of another.
+/// Lets go of what was kept. A call of its own, as is each of the four: what one writes is then no cost of another.
+#[inline(never)]
+fn keep_nothing(kept: &mut Option<Checkpoint>) {
+    *kept = None;
+}
+
+/// Saves where the lexer is.
 #[inline(never)]
 fn keep(lexer: &Lexer, kept: &mut Option<Checkpoint>) -> Result<(), AllocError> {
     *kept = Some(lexer.checkpoint()?);
@@ -30,6 +36,10 @@ fn copy_and_go_back(lexer: &mut Lexer) -> Result<(), AllocError> {
 
 fn save(lexer: &mut Lexer, saves: Saves, kept: &mut Option<Checkpoint>) -> Result<(), AllocError> {
     match saves {
+        Saves::Nothing => {
+            keep_nothing(kept);
+            Ok(())
+        }
         Saves::Checkpoint => keep(lexer, kept),
         Saves::CheckpointAndBack => keep_and_rewind(lexer),
         Saves::CopyAndBack => copy_and_go_back(lexer),

@@ -554,8 +554,8 @@ pub(crate) fn take(
     }
 }
 
-/// The same of a token of which the kind is kept. [`take`] does not ask a token for its kind, which costs as much as to look
-/// at both.
+/// The same of a token's kind, for who keeps kinds alone. [`take`] matches tokens themselves: to ask each for its kind first
+/// takes four instructions a token more.
 #[inline(always)]
 pub(crate) fn take_kind(
     nest: &mut Nest,

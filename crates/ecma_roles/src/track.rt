@@ -182,7 +182,8 @@ impl Track {
         }
     }
 
-    /// The same of a token of which the kind is kept.
+    /// Takes a token of which the kind is kept into account, as [`Track::pass`] does, and says whether it did. It does not
+    /// allocate.
     pub fn pass_kind(&mut self, kind: TokenKind, had_line_break: bool) -> bool
         ensures passed { result ≡ true → self.new ≡ tracks.stepped self.old (part_of kind had_line_break) }
         ensures left { result ≡ false → self.new ≡ self.old }

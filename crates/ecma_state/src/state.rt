@@ -289,6 +289,7 @@ impl State {
     /// # Errors
     ///
     /// `AllocError` as of [`TokenContexts::copy`].
+    #[inline(always)]
     pub fn copy(&self) -> Result<State, AllocError>
         ensures same { IfOk result (λ s. s ≡ self.now) }
         ensures free { length self.now.contexts ≤ 128 → IsOk result }

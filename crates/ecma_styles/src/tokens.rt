@@ -1,5 +1,5 @@
 //! The classes of a run's tokens.
-ghost use Rattle.std.specs.Prelude.{◌≡◌, false, true, IfOk, OnOk};
+ghost use Rattle.std.specs.Prelude.{◌≡◌, true, IfOk, OnOk};
 ghost use Rattle.ecma_styles.specs.Tokens as tokens;
 
 use crate::beside::Beside;

@@ -12,17 +12,17 @@ use Rattle.ecma_report.proofs.ReportLemmas.{adds-on, said-of, stays-of}
 use Rattle.ecma_faces.proofs.canonical.write_canonical.Goals as goal
 
 pub write_measured-requires-clause-same : goal.write_measured-requires-clause-same
-write_measured-requires-clause-same g c = sym c.in_ok-tell_left.ensures.stays.text
+write_measured-requires-clause-same g c = sym c.in_ok-tell_errors.ensures.stays.text
 
 pub returns : goal.returns
 returns g c = λ ask file bytes of face plain.
     let first = c.args.report.now in
-    let told = c.tell_left.new.report in
+    let told = c.tell_errors.new.report in
     let last = c.write_measured.new.report in
     let rule = rule_at c.args.named in
     let start = begun ask.asked bytes in
     let before = g.W.Write.contents c.args.out.now in
-    let between = g.W.Write.contents c.tell_left.new.out in
+    let between = g.W.Write.contents c.tell_errors.new.out in
     let after = g.W.Write.contents c.write_measured.new.out in
     let seen = c.in_ok-tokens.tokens in
     let outcome = c.finish-outcome.result in
@@ -32,8 +32,8 @@ returns g c = λ ask file bytes of face plain.
     let clean = c.and-measured.ensures.clean ∙ clean-told rule ask bytes outcome seen.clean c.is_empty.result (c.in_ok-tokens.ensures.clean rule start shows) left read.ended c.is_empty.ensures in
     let counted_here = subst (λ t. Counted seen.bytes (length (joined t None (tokens_by rule start)))) of.text (c.in_ok-tokens.ensures.counted rule start shows) in
     let counted = subst (λ m. Counted m (length (joined bytes None (tokens_by rule start)))) (sym c.and-measured.ensures.bytes) counted_here in
-    let here = stays-of ask file bytes first told c.in_ok-tell_left.ensures.stays of in
-    let nothing = c.in_ok-tell_left.ensures.adds (ap (λ l. writes_errors l.asked.face) of.look ∙ face) in
+    let here = stays-of ask file bytes first told c.in_ok-tell_errors.ensures.stays of in
+    let nothing = c.in_ok-tell_errors.ensures.adds (ap (λ l. writes_errors l.asked.face) of.look ∙ face) in
     let measured = c.and-measured.result in
     let written = subst (λ t. IsOf ask file t told → ask.asked.json ≡ false → measured.clean ≡ reads_clean rule ask t → Counted measured.bytes (length (joined t None (tokens_by rule (begun ask.asked t))))
     → OfCanon ask file (plainly ask) (chars t) (steps_by rule ask t) (λ all. Adds between after told.out.items last.out.items all)) of.text (c.in_ok-write_measured.ensures ask file) here plain clean counted in

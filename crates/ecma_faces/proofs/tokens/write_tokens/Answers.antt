@@ -7,23 +7,21 @@ use Rattle.ecma_faces.specs.Tokens.{begun, token_rows}
 use Rattle.ecma_report.proofs.ReportLemmas.{adds-on, said-of, stays-of}
 use Rattle.ecma_faces.proofs.tokens.write_tokens.Goals as goal
 
-pub tell_unmet-requires : goal.tell_unmet-requires
-tell_unmet-requires g c = rw c.in_ok-read_tokens.ensures.stays.text c.requires
+pub tell_errors-requires : goal.tell_errors-requires
+tell_errors-requires g c = rw c.in_ok-read_tokens.ensures.stays.text c.requires
 
 pub returns : goal.returns
 returns g c = λ ask file bytes of face.
     let first = c.args.report.now in
     let read = c.read_tokens.new.report in
-    let unmet = c.tell_unmet.new.report in
-    let last = c.tell_found.new.report in
+    let last = c.tell_errors.new.report in
     let rule = rule_at c.args.named in
     let rows = token_rows ask file bytes None (tokens_by rule (begun ask.asked bytes)) in
     let before = g.W.Write.contents c.args.out.now in
     let between = g.W.Write.contents c.read_tokens.new.out in
-    let after = g.W.Write.contents c.tell_found.new.out in
+    let after = g.W.Write.contents c.tell_errors.new.out in
     let shows = said-of ask file bytes first (λ a n t. Shows rule (begin false a.asked.options t) [] c.in_ok-reader.reader) of c.in_ok-reader.ensures.shows in
     let told = c.in_ok-read_tokens.ensures.rows rule (begun ask.asked bytes) ask file bytes shows of in
-    let here = stays-of ask file bytes read unmet c.in_ok-tell_unmet.ensures.stays (stays-of ask file bytes first read c.in_ok-read_tokens.ensures.stays of) in
-    let nothing = c.in_ok-tell_found.ensures.adds (ap (λ l. writes_errors l.asked.face) here.look ∙ face) in
-    let behind = subst (λ items. Adds between after items last.out.items []) (ap (λ v. v.items) c.in_ok-tell_unmet.ensures.out) nothing in
+    let here = stays-of ask file bytes first read c.in_ok-read_tokens.ensures.stays of in
+    let behind = c.in_ok-tell_errors.ensures.adds (ap (λ l. writes_errors l.asked.face) here.look ∙ face) in
     subst (Adds before after first.out.items last.out.items) (append-nil rows) (adds-on before between after first.out.items read.out.items last.out.items rows [] told behind)

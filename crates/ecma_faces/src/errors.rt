@@ -1,0 +1,32 @@
+//! What a loop over a reader tells of errors, when the text is read.
+ghost use Rattle.std.specs.Prelude.{◌≡◌, ◌<◌, ◌^◌, false, [], length, OnOk};
+ghost use Rattle.ecma_report.specs.Reports.{Adds, Stays, writes_errors};
+
+use ecma_faults::in_order;
+use ecma_report::faults::tell_found;
+use ecma_report::report::{Report, Stop};
+use ecma_report::slashes::tell_unmet;
+use ecma_report::words::Named;
+use ecma_token::Error;
+use std::io::Write;
+
+/// Tells of the errors of tokens, and of those that were recorded, where so many slashes were read again.
+pub(crate) fn tell_errors<'a, W: Write>(
+    report: &mut Report<'a>,
+    named: Named<'a>,
+    tokens: Vec<Error<'a>>,
+    recorded: Vec<Error<'a>>,
+    rereads: usize,
+    out: &mut W,
+) -> Result<(), Stop>
+    requires { length report.old.text.now < 2 ^ 32 }
+    ensures adds { writes_errors report.old.asked.face ≡ false
+        → OnOk result (Adds (W.contents out.old) (W.contents out.new) report.old.out.items report.new.out.items []) }
+    ensures stays { OnOk result (Stays report.old report.new) }
+{
+    let waiting = Vec::new(report.alloc);
+    let found = in_order(report.alloc, tokens, recorded, waiting)?;
+    tell_unmet(report, named, rereads)?;
+    tell_found(report, &found, out)?;
+    Ok(())
+}
