@@ -39,13 +39,13 @@ apart_filter p (s ∷ ss) h = ⊎_elim
     (λ dropped. subst AreApart (sym (filter-dropped p s ss dropped)) (apart_filter p ss h.1))
     (cases_Bool (p s))
 
-behind-place : (low : ℕ) (ss : List Span) → LieInOrder low ss → ((s : Span) → IsIn s ss → s.lo.0 ≤ s.hi.0) → (t : Span) → IsIn t ss → low ≤ t.lo.0
-behind-place low [] h within t i = absurd i
-behind-place low (s ∷ ss) h within t (inl e) = subst (λ (u : Span). low ≤ u.lo.0) (sym e) h.0
-behind-place low (s ∷ ss) h within t (inr i) =
+pub behind_place : (low : ℕ) (ss : List Span) → LieInOrder low ss → ((s : Span) → IsIn s ss → s.lo.0 ≤ s.hi.0) → (t : Span) → IsIn t ss → low ≤ t.lo.0
+behind_place low [] h within t i = absurd i
+behind_place low (s ∷ ss) h within t (inl e) = subst (λ (u : Span). low ≤ u.lo.0) (sym e) h.0
+behind_place low (s ∷ ss) h within t (inr i) =
     let own = within s (inl refl) in
     let first = h.0 in
-    let rest = behind-place s.hi.0 ss h.1 (λ u j. within u (inr j)) t i in
+    let rest = behind_place s.hi.0 ss h.1 (λ u j. within u (inr j)) t i in
     omega arith
 
 -- those in order are apart
@@ -53,7 +53,7 @@ pub order-apart : (low : ℕ) (ss : List Span) → LieInOrder low ss → ((s : S
 order-apart low [] h within = tt
 order-apart low (s ∷ ss) h within =
     let tail : (u : Span) → IsIn u ss → u.lo.0 ≤ u.hi.0 = λ u j. within u (inr j) in
-    (all_of (is_apart s) ss (λ t i. before-apart s t (behind-place s.hi.0 ss h.1 tail t i)), order-apart s.hi.0 ss h.1 tail)
+    (all_of (is_apart s) ss (λ t i. before-apart s t (behind_place s.hi.0 ss h.1 tail t i)), order-apart s.hi.0 ss h.1 tail)
 
 -- Pieces that share no byte
 

@@ -104,11 +104,11 @@ skipped p (suc n) y ys h =
     ap (λ l. l ++ in_order_of_place (p + 1) n (y ∷ ys)) (filter-dropped (λ q. q.span.lo.0 == p) y ys (ne_eqb y.span.lo.0 p (λ e. omega arith)))
     ∙ ap (λ l. beginning_at p ys ++ l) (skipped (p + 1) n y ys (omega arith))
 
-none-begin : (p : ℕ) (ys : List Piece) → ((z : Piece) → IsIn z ys → p < z.span.lo.0) → beginning_at p ys ≡ []
-none-begin p [] behind = refl
-none-begin p (y ∷ ys) behind =
+pub none_begin : (p : ℕ) (ys : List Piece) → ((z : Piece) → IsIn z ys → p < z.span.lo.0) → beginning_at p ys ≡ []
+none_begin p [] behind = refl
+none_begin p (y ∷ ys) behind =
     let above : p < y.span.lo.0 = behind y (inl refl) in
-    filter-dropped (λ q. q.span.lo.0 == p) y ys (ne_eqb y.span.lo.0 p (λ e. omega arith)) ∙ none-begin p ys (λ z h. behind z (inr h))
+    filter-dropped (λ q. q.span.lo.0 == p) y ys (ne_eqb y.span.lo.0 p (λ e. omega arith)) ∙ none_begin p ys (λ z h. behind z (inr h))
 
 one-placed : (p n : ℕ)
     → ((ys : List Piece) → Rising ys → ((z : Piece) → IsIn z ys → (p + 1 ≤ z.span.lo.0) × (z.span.lo.0 < p + 1 + n)) → in_order_of_place (p + 1) n ys ≡ ys)
@@ -135,7 +135,7 @@ one-placed p n others y ys up within rest = ⊎_elim here behind (cases_eq y.spa
     behind : (y.span.lo.0 ≡ p → ⊥) → in_order_of_place p (suc n) (y ∷ ys) ≡ y ∷ ys
     behind other =
         let low : (z : Piece) → IsIn z (y ∷ ys) → p < z.span.lo.0 = all-above (above other) in
-        ap (λ l. l ++ in_order_of_place (p + 1) n (y ∷ ys)) (none-begin p (y ∷ ys) low)
+        ap (λ l. l ++ in_order_of_place (p + 1) n (y ∷ ys)) (none_begin p (y ∷ ys) low)
         ∙ others (y ∷ ys) up (λ z h. (omega (arith, low z h), omega (arith, (within z h).1)))
 
 placed-more : (p n : ℕ)

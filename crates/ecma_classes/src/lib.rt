@@ -10,5 +10,5 @@ mod cover;
 mod marks;
 pub mod piece;
 
-pub use cover::classes;
+pub use cover::{Cover, classes};
 pub use piece::{Class, Piece};

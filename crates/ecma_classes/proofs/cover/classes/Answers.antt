@@ -1,35 +1,22 @@
-use Rattle.std.proofs.Common.{◌≡◌, ◌∙◌, ◌+◌, ap, length}
-use Rattle.std.proofs.lemmas.Result.{IfOk-weaker}
-use Rattle.ecma_classes.specs.Marks.{walked}
-use Rattle.ecma_classes.proofs.CoverLemmas.{Covers, Knows, covers_of}
+use Rattle.std.proofs.Common.{◌≡◌, ◌+◌, ◌∙◌, ◌++◌, append-nil, ap, length, subst, sym}
+use Rattle.std.specs.List.{All}
+use Rattle.std.specs.Str.{chars}
+use Rattle.ecma_classes.specs.Classes.{StandsIn, Tile, TriviaStandsAlone, begin, joined}
+use Rattle.ecma_classes.specs.declared.piece.Piece.{Piece}
 use Rattle.ecma_classes.proofs.cover.classes.Goals as goal
 
 pub returns : goal.returns
 returns c =
     let start = c.args.start.0 in
     let source = c.args.source.now in
-    let kept = c.args.kept.now in
-    let comments = c.args.comments.now in
-    let marks = c.in_ok-marks.marks.items in
-    let knows : Knows start source kept comments = record {
-      utf8 = c.utf8.source;
-      tokens = c.requires.tokens;
-      in_order = c.requires.in_order;
-      comments-stand = c.requires.comments;
-      apart = c.requires.apart;
-      well = c.requires.inside_or_outside;
-    } in
-    let all = IfOk-weaker
-    c.filled.result
-    (λ v. v.items ≡ walked start c.deref.result.now (start + length source))
-    (λ v. Covers start source kept comments v.items)
-    (λ v filled. covers_of start source kept comments knows marks v.items c.in_ok-marks.ensures (filled ∙ ap (λ l. walked start l (start + length source)) c.deref.ensures.value))
-    c.filled.ensures in
+    let made = c.pieces.pieces.items in
+    let promised = c.in_ok-cover.ensures in
+    let all : made ≡ c.in_ok-cover.cover = sym (append-nil made) ∙ ap (λ l. made ++ l) (sym c.in_default.ensures.0) ∙ c.pieces.invariant in
     record {
-      same = IfOk-weaker c.filled.result (λ v. Covers start source kept comments v.items) (λ v. _) (λ v (h : Covers start source kept comments v.items). h.same) all;
-      tiles = IfOk-weaker c.filled.result (λ v. Covers start source kept comments v.items) (λ v. _) (λ v (h : Covers start source kept comments v.items). h.tiled) all;
-      whole = IfOk-weaker c.filled.result (λ v. Covers start source kept comments v.items) (λ v. _) (λ v (h : Covers start source kept comments v.items). h.whole) all;
-      places = IfOk-weaker c.filled.result (λ v. Covers start source kept comments v.items) (λ v. _) (λ v (h : Covers start source kept comments v.items). h.places) all;
-      longest = IfOk-weaker c.filled.result (λ v. Covers start source kept comments v.items) (λ v. _) (λ v (h : Covers start source kept comments v.items). h.longest) all;
-      empty = λ nothing. IfOk-weaker c.filled.result (λ v. Covers start source kept comments v.items) (λ v. _) (λ v (h : Covers start source kept comments v.items). h.none nothing) all;
+      same = all ∙ promised.same;
+      tiles = subst (λ l. Tile start l (start + length source)) (sym all) promised.tiles;
+      whole = ap (joined start source) all ∙ promised.whole;
+      places = subst (All (λ (p : Piece). StandsIn (begin start (chars source)) p.span)) (sym all) promised.places;
+      longest = subst TriviaStandsAlone (sym all) promised.longest;
+      empty = λ nothing. all ∙ promised.empty nothing;
     }

@@ -1,24 +1,22 @@
-use Rattle.std.proofs.Common.{◌≡◌, ◌∙◌, ◌++◌, List, ap, map, rules, subst}
+use Rattle.std.proofs.Common.{◌≡◌, ◌∙◌, ◌++◌, List, [], ap, map, rules, subst}
 use Rattle.std.specs.List.Sorted.{IsStableByKey}
 use Rattle.std.specs.Ordering.{nat_cmp}
 use Rattle.std.proofs.lemmas.List.Sorted.{IsNonDecreasingBy-from_sort_by_key, answers_always}
-use Rattle.ecma_classes.specs.Classes.{comment_spans, over, token_spans}
-use Rattle.ecma_classes.specs.declared.piece.Class.TheVariants.{Token, Comment}
+use Rattle.ecma_classes.specs.Classes.{comment_spans, over}
+use Rattle.ecma_classes.specs.declared.piece.Class.TheVariants.{Comment}
 use Rattle.ecma_classes.specs.declared.piece.Piece.{Piece}
 use Rattle.ecma_classes.proofs.OrderLemmas.{in_order_of_sort, sorted_by_rank}
-use Rattle.ecma_classes.proofs.marks.marks_in_order.Goals as goal
+use Rattle.ecma_classes.proofs.marks.comments_in_order.Goals as goal
 
 pub returns : goal.returns
 returns c =
-    let tokens : List Piece = map (over Token) (token_spans c.args.kept.now) in
     let comments : List Piece = map (over Comment) (comment_spans c.args.comments.now) in
-    let before : c.push_comments.new.pieces.items ≡ tokens ++ comments =
-    c.in_ok-push_comments.ensures ∙ ap (λ l. l ++ comments) (c.in_ok-push_tokens.ensures ∙ ap (λ l. l ++ tokens) c.new-marks.ensures.items) in
+    let before : c.push_comments.new.pieces.items ≡ comments = c.in_ok-push_comments.ensures ∙ ap (λ l. l ++ comments) c.new-marks.ensures.items in
     in_order_of_sort
-    (tokens ++ comments)
+    comments
     _
     (IsNonDecreasingBy-from_sort_by_key (λ p. p.span.lo.0) _ c.in_ok-sort_by_key.ensures.sorted (λ a r q k. search rules))
-    (sorted_by_rank (token_spans c.args.kept.now) (comment_spans c.args.comments.now))
+    (sorted_by_rank [] (comment_spans c.args.comments.now))
     (subst
     (λ l. IsStableByKey (λ (p : Piece). p.span.lo.0) nat_cmp l c.sort_by_key.new.self.items)
     before
