@@ -1,5 +1,7 @@
 pub mod ReadLemmas
+pub mod StreamLemmas
 pub mod TokenLemmas
 pub mod WholeLemmas
 pub mod CanonicalLemmas
+pub mod HtmlLemmas
 pub mod JoinedLemmas

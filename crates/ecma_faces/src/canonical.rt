@@ -163,7 +163,7 @@ fn write_tokens_joined<W: Write>(
 }
 
 /// Ends a text, where there are several.
-fn push_end(report: &mut Report) -> Result<(), AllocError>
+pub(crate) fn end_text(report: &mut Report) -> Result<(), AllocError>
     ensures added { OnOk result (report.new.out.items ≡ report.old.out.items ++ (if report.old.among.several then 10 ∷ [] else [])) }
     ensures stays { OnOk result (Stays report.old report.new) }
 {
@@ -187,7 +187,7 @@ fn write_clean<'a, W: Write>(
 {
     let mut reader = open(report, named, false)?;
     write_tokens_joined(report, &mut reader, out)?;
-    push_end(report)?;
+    end_text(report)?;
     Ok(())
 }
 

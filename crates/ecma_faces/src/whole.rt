@@ -13,25 +13,23 @@ ghost use Rattle.ecma_classes.specs.Classes.{begin, classes_of};
 ghost use Rattle.ecma_pieces.specs.Covered.{MayBeCovered};
 ghost use Rattle.ecma_faults.specs.Faults.{view};
 ghost use Rattle.ecma_html.specs.Marked.{AreInOrder};
-ghost use Rattle.ecma_html.specs.Unmark.{shown, unmark};
 ghost use Rattle.ecma_looks.specs.Shown.{IsShown};
 ghost use Rattle.ecma_faces.specs.Pieces as rows;
 ghost use Rattle.ecma_faces.specs.Pieces.{piece_rows, pieces_by};
 ghost use Rattle.ecma_faces.specs.Whole as whole_specs;
-ghost use Rattle.ecma_faces.specs.Whole.{OfCanon, OfHtml, OfLines, OfShown, canon_written, html_by, html_written, plainly, shown_head, steps_by, told_of};
+ghost use Rattle.ecma_faces.specs.Whole.{OfCanon, OfHtml, OfLines, OfShown, canon_written, html_written, plainly, shown_head, steps_by, told_of};
 ghost use Rattle.ecma_report.specs.Reports as reports;
 ghost use Rattle.ecma_report.specs.Reports.{Adds, IsOf, Stays, look_of};
 ghost use Rattle.ecma_report.specs.Rows.{Look};
 ghost use Rattle.ecma_report.specs.Slashes.{rule_at};
 ghost use Rattle.ecma_report.specs.declared.words.Face.TheVariants as face;
 
+use crate::html::write_html;
 use ecma_canonical::{Canon, canonical_of_gathered};
-use ecma_classes::{Piece, classes};
+use ecma_classes::{Cover, Piece};
 use ecma_faults::{Found, in_order};
-use ecma_html::{html_with_errors, page_of_gathered};
 use ecma_looks::show_text;
 use ecma_names::piece_name;
-use ecma_place::{BytePos, Spanned};
 use ecma_reader::{ReadOut, read_out};
 use ecma_replay::Gathered;
 use ecma_report::faults::tell_found;
@@ -101,12 +99,12 @@ fn push_piece(report: &mut Report, piece: Piece) -> Result<(), AllocError>
 }
 
 /// Writes the rows of pieces.
-fn push_pieces<W: Write>(report: &mut Report, pieces: &[Piece], out: &mut W) -> Result<(), Stop>
+fn push_pieces<W: Write>(report: &mut Report, cover: &mut Cover, out: &mut W) -> Result<(), Stop>
     ensures { (look : Look) (name text : List ℕ) → IsOf look name text report.old
-        → OnOk result (Adds (W.contents out.old) (W.contents out.new) report.old.out.items report.new.out.items (piece_rows look name text pieces.now)) }
+        → OnOk result (Adds (W.contents out.old) (W.contents out.new) report.old.out.items report.new.out.items (piece_rows look name text cover.old)) }
 {
-    'pieces: for piece in pieces {
-        push_piece(report, *piece)?;
+    'pieces: while let Some(piece) = cover.next() {
+        push_piece(report, piece)?;
         report.pass_on(out)?;
     }
     Ok(())
@@ -121,56 +119,8 @@ fn write_pieces<W: Write>(report: &mut Report, gathered: &Gathered, out: &mut W)
 {
     let kept = gathered.kept.as_slice();
     let comments = gathered.comments.as_slice();
-    let pieces = classes(report.alloc, report.text, START, kept, comments)?;
-    push_pieces(report, &pieces, out)?;
-    Ok(())
-}
-
-/// The places at which errors begin.
-fn places_of(alloc: Global, found: &[Found]) -> Result<Vec<BytePos>, AllocError>
-    ensures { IfOk result (λ v. v.items ≡ whole_specs.places_of (map view found.now)) }
-{
-    let mut places = Vec::new(alloc);
-    'found: for one in found {
-        places.push(one.error.span().lo)?;
-    }
-    Ok(places)
-}
-
-/// The text as HTML, or a whole page of it where that is asked for, with errors at these places.
-fn html_asked(
-    report: &Report,
-    gathered: &Gathered,
-    places: &[BytePos],
-) -> Result<Vec<u8>, AllocError>
-    requires fits { length report.now.text.now < 2 ^ 32 }
-    requires covered { MayBeCovered (begin 0 (chars report.now.text.now)) gathered.now.kept.items gathered.now.comments.items }
-    ensures same { AreInOrder places.now
-        → IfOk result (λ v. v.items ≡ html_by report.now.asked.page report.now.name.now report.now.text.now gathered.now.kept.items gathered.now.comments.items places.now) }
-    // Whichever it is, it is the text that is left without the markup.
-    ensures back { IfOk result (λ v. unmark v.items ≡ shown report.now.text.now) }
-{
-    if report.asked.page {
-        return page_of_gathered(report.alloc, report.name, report.text, gathered, places);
-    }
-    html_with_errors(report.alloc, report.text, gathered, places)
-}
-
-fn write_html<W: Write>(
-    report: &mut Report,
-    gathered: &Gathered,
-    found: &[Found],
-    out: &mut W,
-) -> Result<(), Stop>
-    requires fits { length report.old.text.now < 2 ^ 32 }
-    requires covered { MayBeCovered (begin 0 (chars report.old.text.now)) gathered.now.kept.items gathered.now.comments.items }
-    ensures { (look : Look) (name text : List ℕ) → IsOf look name text report.old → AreInOrder (whole_specs.places_of (map view found.now))
-        → OnOk result (Adds (W.contents out.old) (W.contents out.new) report.old.out.items report.new.out.items
-        (html_written look name text gathered.now.kept.items gathered.now.comments.items (map view found.now))) }
-{
-    let places = places_of(report.alloc, found)?;
-    let html = html_asked(report, gathered, &places)?;
-    report.write_whole(&html, out)?;
+    let mut cover = Cover::new(report.alloc, report.text, START, kept, comments)?;
+    push_pieces(report, &mut cover, out)?;
     Ok(())
 }
 

@@ -9,14 +9,11 @@ use Rattle.ecma_classes.specs.declared.piece.Piece.{Piece}
 use Rattle.ecma_styles.specs.declared.«class».Class.{Class}
 use Rattle.ecma_styles.specs.declared.«class».Class.TheVariants.{Keyword, Literal, Name, Property, Function, ClassName, TypeName, Decorator, Meta, BuiltIn, Text, Template, Number, Expression, Comment, Wrong}
 use Rattle.ecma_html.specs.Markup.{close_tag, escaped, escaped_byte, html_of, open_tag, piece_html, pieces_html, styled_html}
+use Rattle.ecma_html.specs.Parts.{Covers}
 use Rattle.ecma_styles.specs.Styles.{Styled, class_name}
 use Rattle.ecma_html.specs.Unmark.{Inside, Outside, Reference, Tag, Unmarked, at, in_text, read_byte, shown, shown_byte}
 
 -- Places
-
--- pieces lie from some place up to another
-abbrev pub Covers : List Piece → ℕ → Type 0
-Covers pieces high = (low : ℕ) × Tile low pieces high
 
 pub tile-le : (low : ℕ) (ps : List Piece) (high : ℕ) → Tile low ps high → low ≤ high
 tile-le low [] high t = omega (arith, t)

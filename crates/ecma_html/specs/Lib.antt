@@ -1,5 +1,6 @@
 pub mod Marked
 pub mod Markup
 pub mod Page
+pub mod Parts
 pub mod Text
 pub mod Unmark

@@ -10,8 +10,10 @@
 
 mod markup;
 mod page;
+mod parts;
 mod text;
 
 pub use markup::{html, html_marked};
 pub use page::page_of_gathered;
+pub use parts::{Markup, push_begin, push_end};
 pub use text::{html_of_gathered, html_of_steps, html_text, html_with_errors};

@@ -71,8 +71,26 @@ fn open_tag(class: Class) -> &'static [u8]
     }
 }
 
+/// Adds the tag that opens the element of a text.
+pub(crate) fn push_open_tag(out: &mut Vec<u8>) -> Result<(), AllocError>
+    ensures { OnOk result (out.new.items ≡ out.old.items ++ markup.open_tag) }
+{
+    out.extend_from_slice(b"<pre class=\"ecma\">\n")
+}
+
+/// Adds the tag that closes it.
+pub(crate) fn push_close_tag(out: &mut Vec<u8>) -> Result<(), AllocError>
+    ensures { OnOk result (out.new.items ≡ out.old.items ++ markup.close_tag) }
+{
+    out.extend_from_slice(b"</pre>\n")
+}
+
 /// Adds the bytes, in a span where they have a class.
-fn push_styled(out: &mut Vec<u8>, class: Option<Class>, bytes: &[u8]) -> Result<(), AllocError>
+pub(crate) fn push_styled(
+    out: &mut Vec<u8>,
+    class: Option<Class>,
+    bytes: &[u8],
+) -> Result<(), AllocError>
     ensures { OnOk result (out.new.items ≡ out.old.items ++ markup.styled_html class bytes.now) }
 {
     if let Some(class) = class {
@@ -102,7 +120,7 @@ fn has_place(places: &[BytePos], span: Span) -> bool
 }
 
 /// The class that a piece is shown with: its own, or that of errors where one of the places lies in it.
-fn marked_style(places: &[BytePos], span: Span, style: Option<Class>) -> Option<Class>
+pub(crate) fn marked_style(places: &[BytePos], span: Span, style: Option<Class>) -> Option<Class>
     ensures { AreInOrder places.now → result ≡ marks.marked_style places.now span style }
 {
     if has_place(places, span) {
@@ -159,9 +177,9 @@ pub fn html_marked(
     ensures closed { IfOk result (λ v. IsClosed v.items) }
 {
     let mut out = Vec::new(alloc);
-    out.extend_from_slice(b"<pre class=\"ecma\">\n")?;
+    push_open_tag(&mut out)?;
     push_pieces(&mut out, source.as_bytes(), classes, pieces, places)?;
-    out.extend_from_slice(b"</pre>\n")?;
+    push_close_tag(&mut out)?;
     Ok(out)
 }
 

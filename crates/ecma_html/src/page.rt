@@ -100,7 +100,7 @@ fn push_marks(out: &mut Vec<u8>, bytes: &[u8]) -> Result<(), AllocError>
 }
 
 /// Adds all that is before the text.
-fn push_front(out: &mut Vec<u8>, title: &str, bytes: &[u8]) -> Result<(), AllocError>
+pub(crate) fn push_front(out: &mut Vec<u8>, title: &str, bytes: &[u8]) -> Result<(), AllocError>
     ensures { OnOk result (out.new.items ≡ out.old.items ++ page.front_of title.now bytes.now) }
 {
     out.extend_from_slice(HEAD.as_bytes())?;

@@ -13,7 +13,7 @@ pub returns : goal.returns
 returns g c = λ ask file bytes of plain.
     let first = c.args.report.now in
     let written = c.write_tokens_joined.new.report in
-    let last = c.push_end.new.report in
+    let last = c.end_text.new.report in
     let rule = rule_at c.args.named in
     let own = joined bytes None (tokens_by rule (begun ask.asked bytes)) in
     let end = if written.among.several then 10 ∷ [] else [] in
@@ -23,4 +23,4 @@ returns g c = λ ask file bytes of plain.
     let told = c.in_ok-write_tokens_joined.ensures.joined rule (begun ask.asked bytes) ask file bytes shows of in
     let here = stays-of ask file bytes first written c.in_ok-write_tokens_joined.ensures.stays of in
     subst (Adds before after first.out.items last.out.items) (ended-whole ask file own written.among.several plain (ap (λ l. l.among.several) here.look))
-    (adds-on before after after first.out.items written.out.items last.out.items own end told (adds-held after written.out.items last.out.items end c.in_ok-push_end.ensures.added))
+    (adds-on before after after first.out.items written.out.items last.out.items own end told (adds-held after written.out.items last.out.items end c.in_ok-end_text.ensures.added))

@@ -4,11 +4,11 @@ use Rattle.ecma_faces.specs.Pieces.{piece_rows}
 use Rattle.ecma_report.specs.Reports.{Adds}
 use Rattle.ecma_faces.proofs.whole.write_pieces.Goals as goal
 
-pub classes-requires-clause-tokens : goal.classes-requires-clause-tokens
-classes-requires-clause-tokens g c = rw c.as_slice-kept.ensures.value c.requires.covered.tokens_stand
+pub new-requires-clause-tokens : goal.new-requires-clause-tokens
+new-requires-clause-tokens g c = rw c.as_slice-kept.ensures.value c.requires.covered.tokens_stand
 
-pub classes-requires-clause-comments : goal.classes-requires-clause-comments
-classes-requires-clause-comments g c = rw c.as_slice-comments.ensures.value c.requires.covered.comments_stand
+pub new-requires-clause-comments : goal.new-requires-clause-comments
+new-requires-clause-comments g c = rw c.as_slice-comments.ensures.value c.requires.covered.comments_stand
 
 pub returns : goal.returns
 returns g c = λ ask file bytes of.
@@ -19,8 +19,7 @@ returns g c = λ ask file bytes of.
     let before = g.W.Write.contents c.args.out.now in
     let after = g.W.Write.contents c.push_pieces.new.out in
     let same =
-    c.deref.ensures.value
-    ∙ c.in_ok-pieces.ensures.same
+    c.in_ok-cover.ensures.same
     ∙ ap (λ k. classes_of 0 (length first.text.now) k c.as_slice-comments.result.now) c.as_slice-kept.ensures.value
     ∙ ap (λ b. classes_of 0 (length first.text.now) kept b) c.as_slice-comments.ensures.value
     ∙ ap (λ t. classes_of 0 (length t) kept comments) of.text in

@@ -3,7 +3,7 @@ use Rattle.std.proofs.Common.{◌≡◌, ◌++◌, drop, length, take}
 use Rattle.ecma_html.specs.Marked.{AreInOrder, WereAdded, marked}
 use Rattle.ecma_html.specs.Markup.{pieces_html}
 use Rattle.ecma_styles.specs.Styles.{styled}
-use Rattle.ecma_html.proofs.MarkupLemmas.{Covers}
+use Rattle.ecma_html.specs.Parts.{Covers}
 use Rattle.ecma_html.proofs.markup.push_pieces.Given as goal
 
 abbrev pub invariant-loop-piece : goal.invariant-loop-piece
