@@ -2,13 +2,20 @@
 //!
 //! Where memory is refused a call says in one line what is there then; then it is made again, so that all other lines
 //! are those of a run in which nothing is refused. `bench/refusals` refuses each request in turn and compares.
+//!
+//! Reading is in `refused_reads`. Here `kept` adds errors, comments and contexts, `shared` so many comments that copies share
+//! them; `whole` plays lists of steps, `cover` covers texts with pieces, `faces` has HTML, imports, and where lines begin,
+//! `numbers` rows of numbers, `stored` checkpoints as bytes.
 #![tactic(auto)]
 
+mod cover;
 mod faces;
+mod kept;
 mod numbers;
+mod shared;
 mod stored;
+mod whole;
 
-use refused_calls::{cover, kept, shared, whole};
 use refused_reads::{going_back, many, reading, told};
 use std::io;
 
