@@ -1,32 +1,23 @@
 -- The canonical text, written while the text is read.
-use Rattle.std.proofs.Common.{◌≡◌, ◌∙◌, ℕ, ◌+◌, ◌-◌, if◌then◌else◌, ◌<◌, ◌≤◌, ◌==◌, ◌^◌, Bool, true, false, not, ◌&&◌, ◌||◌, List, [], ◌∷◌, ◌++◌, append-nil, append_assoc, encode_utf8_all, length, map, Option, Some, None, refl, sym, ap, subst, arith, IsUtf8, reverse}
-use mathlib.Core.List.{reverse_aux}
+use Rattle.std.proofs.Common.{◌≡◌, ◌∙◌, ℕ, ◌-◌, ◌<◌, ◌≤◌, ◌==◌, ◌^◌, Bool, true, false, not, ◌&&◌, List, [], ◌∷◌, ◌++◌, append_assoc, encode_utf8_all, length, map, Some, None, refl, sym, ap, subst, arith, IsUtf8}
 use Rattle.std.specs.List.{All, list_all}
 use Rattle.std.specs.Prelude.{nat_le, slice_range}
 use Rattle.std.specs.Str.{IsCharBoundary, chars}
-use Rattle.std.proofs.Math.Bool.{and_assoc, and_comm}
 use Rattle.std.proofs.lemmas.Bool.Decides.{nat_tests}
 use Rattle.std.proofs.lemmas.List.Elements.{All-head, All-tail}
 use Rattle.std.proofs.lemmas.Str.{IsCharBoundary-start, encodes-append, is_utf8-from_IsUtf8}
 use Rattle.ecma_place.specs.Cursor.{IsInput, cursor_at}
-use Rattle.ecma_place.specs.Text.{Text, slice_between}
+use Rattle.ecma_place.specs.Text.{slice_between}
 use Rattle.ecma_place.proofs.CursorLemmas.{between-seen, boundary-seen}
 use Rattle.ecma_token.specs.View.{SpannedView, error_view}
-use Rattle.ecma_token.specs.declared.error.Error.{Error}
-use Rattle.ecma_token.specs.declared.kind.TokenKind.{TokenKind}
 use Rattle.ecma_state.specs.Run.{session}
 use Rattle.ecma_state.specs.Session.{has_ended, kept_back, kept_of, kept_tokens}
 use Rattle.ecma_state.specs.TokenAt.{is_empty}
 use Rattle.ecma_state.specs.declared.kept.Kept.{Kept}
-use Rattle.ecma_state.specs.declared.settings.Settings.{Settings}
-use Rattle.ecma_state.specs.declared.step.Step.{Step}
-use Rattle.ecma_clean.specs.Canonical.{Own, canonical_behind, canonical_of, is_template_text, own_in}
+use Rattle.ecma_clean.specs.Canonical.{Own, canonical_behind, canonical_of, own_in}
 use Rattle.ecma_clean.specs.Clean.{ends_clean}
 use Rattle.ecma_clean.specs.Sharing.{canonical_text_of}
-use Rattle.ecma_canonical.specs.Canonical.{IsCanon}
 use Rattle.ecma_canonical.specs.Joined.{StandsIn, between_behind}
-use Rattle.ecma_canonical.specs.declared.clean_text.Canon.{Canon}
-use Rattle.ecma_canonical.specs.declared.clean_text.Canon.TheVariants as canon
 use Rattle.ecma_canonical.proofs.CleanLemmas.{all-reversed, mapped-empty, text-fits, text-too_long}
 use Rattle.ecma_canonical.proofs.JoinedLemmas.{between_bytes}
 use Rattle.ecma_canonical.proofs.KeptPlaces.{kept_tokens_stand}
@@ -38,15 +29,10 @@ use Rattle.ecma_reader.specs.Readers.{Leaves, end_by, tokens_by}
 use Rattle.ecma_reader.specs.declared.reader.Outcome.{Outcome}
 use Rattle.ecma_reader.proofs.FoldLemmas.{mapped-back}
 use Rattle.ecma_reader.proofs.TextLemmas.{text-run}
-use Rattle.ecma_report.specs.Rows.{Look, is_boundary, part_at, whole_text}
+use Rattle.ecma_report.specs.Rows.{Look, is_boundary, part_at}
 use Rattle.ecma_faces.specs.Canonical.{has_no_error, joined, reads_clean}
-use Rattle.ecma_faces.specs.Whole.{IsTold, plainly, steps_by, told_of}
+use Rattle.ecma_faces.specs.Whole.{IsTold, plainly, steps_by}
 use Rattle.ecma_faces.specs.Whole.CanonTold.{Bytes, TooLong}
-
-pub canon-told : (how : Settings) (text : Text) (steps : List Step) (c : Canon) → IsCanon how 0 text steps c → IsTold how text steps (told_of c)
-canon-told how text steps (canon.Text t) is = is
-canon-told how text steps canon.NotClean is = is
-canon-told how text steps canon.TooLong is = is
 
 -- The run is clean where no token is an error, and none was recorded
 
@@ -138,10 +124,6 @@ joined-is rule options bytes utf8 fits =
     ∙ ap (λ ks. encode_utf8_all (canonical_of (map (own_in c) ks))) same
 
 -- What is written of it
-
-pub ended-whole : (l : Look) (file bytes : List ℕ) (several : Bool) → l.asked.json ≡ false → several ≡ l.among.several → bytes ++ (if several then 10 ∷ [] else []) ≡ whole_text l file bytes
-ended-whole l file bytes true plain is = rw (plain, sym is) refl
-ended-whole l file bytes false plain is = append-nil bytes ∙ rw (plain, sym is) refl
 
 pub holds-where : (b : Bool) → not b ≡ false → b ≡ true
 holds-where true h = refl

@@ -8,6 +8,8 @@ use Rattle.ecma_reader.specs.Readers.{tokens_found}
 use Rattle.ecma_report.specs.Reports.{Adds}
 use Rattle.ecma_faces.specs.Canonical.{Counted, joined, joined_one}
 use Rattle.ecma_faces.specs.Tokens.{kind_behind}
+use Rattle.ecma_report.specs.Rows.{Look, whole_part}
+use Rattle.ecma_report.proofs.PartLemmas.{part-append}
 use Rattle.ecma_report.proofs.ReportLemmas.{adds-held, adds-on}
 
 pub joined-on : (text : List ℕ) (before : Option TokenKind) (ts us : List SpannedView) → joined text before (ts ++ us) ≡ joined text before ts ++ joined text (kind_behind before ts) us
@@ -20,19 +22,21 @@ pub last-on : (before : Option TokenKind) (ts us : List SpannedView) → kind_be
 last-on before [] us = refl
 last-on before (t ∷ ts) us = last-on (Some (kept_of t).kind) ts us
 
--- these tokens were joined, and the last of them is of that kind
-abbrev pub Joins : List ℕ → Option (List ℕ) → Option (List ℕ) → List ℕ → List ℕ → Option TokenKind → List SpannedView → Type 0
-Joins text first then held now before ts = Adds first then held now (joined text None ts) × (before ≡ kind_behind None ts)
+-- these tokens were joined as parts of a text, and the last of them is of that kind
+abbrev pub Joins : Look → List ℕ → Option (List ℕ) → Option (List ℕ) → List ℕ → List ℕ → Option TokenKind → List SpannedView → Type 0
+Joins l text first then held now before ts = Adds first then held now (whole_part l (joined text None ts)) × (before ≡ kind_behind None ts)
 
-pub joins-token : (text : List ℕ) (a b c : Option (List ℕ)) (held now pushed then : List ℕ) (before next : Option TokenKind) (found : Option SpannedView) (ts : List SpannedView) (t : SpannedView)
-    → Joins text a b held now before ts → found ≡ Some t → pushed ≡ now ++ joined text before (tokens_found found) → next ≡ kind_behind before (tokens_found found)
-    → Adds b c pushed then [] → Joins text a c held then next (ts ++ t ∷ [])
-joins-token text a b c held now pushed then before next found ts t (adds, kind) is added kinds passed =
+pub joins-token : (l : Look) (text : List ℕ) (a b c : Option (List ℕ)) (held now pushed then : List ℕ) (before next : Option TokenKind) (found : Option SpannedView) (ts : List SpannedView) (t : SpannedView)
+    → Joins l text a b held now before ts → found ≡ Some t → pushed ≡ now ++ whole_part l (joined text before (tokens_found found)) → next ≡ kind_behind before (tokens_found found)
+    → Adds b c pushed then [] → Joins l text a c held then next (ts ++ t ∷ [])
+joins-token l text a b c held now pushed then before next found ts t (adds, kind) is added kinds passed =
     let own = joined text (kind_behind None ts) (t ∷ []) in
-    let behind : pushed ≡ now ++ own = added ∙ ap (λ k. now ++ joined text k (tokens_found found)) kind ∙ ap (λ f. now ++ joined text (kind_behind None ts) (tokens_found f)) is in
-    let held_on = adds-on a b b held now pushed (joined text None ts) own adds (adds-held b now pushed own behind) in
-    let all = adds-on a b c held pushed then (joined text None ts ++ own) [] held_on passed in (
-      subst (Adds a c held then) (append-nil (joined text None ts ++ own) ∙ sym (joined-on text None ts (t ∷ []))) all,
+    let before_it = whole_part l (joined text None ts) in
+    let behind : pushed ≡ now ++ whole_part l own =
+    added ∙ ap (λ k. now ++ whole_part l (joined text k (tokens_found found))) kind ∙ ap (λ f. now ++ whole_part l (joined text (kind_behind None ts) (tokens_found f))) is in
+    let held_on = adds-on a b b held now pushed before_it (whole_part l own) adds (adds-held b now pushed (whole_part l own) behind) in
+    let all = adds-on a b c held pushed then (before_it ++ whole_part l own) [] held_on passed in (
+      subst (Adds a c held then) (append-nil (before_it ++ whole_part l own) ∙ sym (part-append l (joined text None ts) own) ∙ ap (whole_part l) (sym (joined-on text None ts (t ∷ [])))) all,
       kinds ∙ ap (λ k. kind_behind k (tokens_found found)) kind ∙ ap (λ f. kind_behind (kind_behind None ts) (tokens_found f)) is ∙ sym (last-on None ts (t ∷ [])),
     )
 

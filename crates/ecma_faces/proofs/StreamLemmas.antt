@@ -1,5 +1,5 @@
 -- What is written in parts, while more is left.
-use Rattle.std.proofs.Common.{◌≡◌, ◌∙◌, ℕ, List, [], ◌++◌, Option, append-nil, append_assoc, ap, refl, subst, sym}
+use Rattle.std.proofs.Common.{◌≡◌, ◌∙◌, ℕ, List, [], ◌∷◌, ◌++◌, Option, append-nil, append_assoc, ap, arith, length, refl, subst, sym}
 use Rattle.ecma_report.specs.Reports.{Adds}
 use Rattle.ecma_report.proofs.ReportLemmas.{adds-held, adds-none, adds-on}
 
@@ -25,3 +25,8 @@ streams-more a b c held now pushed then own left more all so_far is splits passe
 pub streams-all : (a b : Option (List ℕ)) (held now left all : List ℕ) → Streams a b held now left all → left ≡ [] → Adds a b held now all
 streams-all a b held now left all streams none =
     subst (Adds a b held now) (sym (append-nil streams.added) ∙ ap (λ l. streams.added ++ l) (sym none) ∙ streams.rest) streams.adds
+
+-- where nothing is joined, nothing comes first
+pub none-before : (xs ys : List ℕ) → [] ≡ xs ++ ys → xs ≡ []
+none-before [] ys is = refl
+none-before (x ∷ xs) ys is = absurd (omega (arith, ap length is))

@@ -1,5 +1,5 @@
 -- Texts that are written whole: the canonical text, HTML, and a text as a terminal shows it.
-use Rattle.std.specs.Prelude.{ℕ, ◌≡◌, List, [], ◌∷◌, ◌++◌, ◌&&◌, Bool, true, false, if◌then◌else◌, map, not, string_bytes}
+use Rattle.std.specs.Prelude.{ℕ, ◌≡◌, List, [], ◌∷◌, ◌++◌, ◌&&◌, Bool, true, false, if◌then◌else◌, map, not}
 use Rattle.ecma_place.specs.Text.{Text}
 use Rattle.ecma_place.specs.declared.place.BytePos.{BytePos}
 use Rattle.ecma_comments.specs.declared.comments_buffer.BufferedComment.{BufferedComment}
@@ -10,8 +10,6 @@ use Rattle.ecma_state.specs.declared.step.Step.{Step}
 use Rattle.ecma_canonical.specs.Canonical.{IsCanonicalText, IsTooLong}
 use Rattle.ecma_clean.specs.Clean.{is_clean}
 use Rattle.ecma_clean.specs.Sharing.{begin}
-use Rattle.ecma_canonical.specs.declared.clean_text.Canon.{Canon}
-use Rattle.ecma_canonical.specs.declared.clean_text.Canon.TheVariants as canon
 use Rattle.ecma_options.specs.Begin.{context, settings, whole}
 use Rattle.ecma_slashes.specs.Rereads.{SlashRule, text_steps_by}
 use Rattle.ecma_faults.specs.Faults.{FoundView, IsByPlace, all_of}
@@ -30,11 +28,6 @@ pub data CanonTold : Type 0 where
   Bytes : List ℕ → CanonTold
   NotClean : CanonTold
   TooLong : CanonTold
-
-abbrev pub told_of : Canon → CanonTold
-told_of (canon.Text t) = Bytes (string_bytes t)
-told_of canon.NotClean = NotClean
-told_of canon.TooLong = TooLong
 
 -- this is so of a text and steps
 abbrev pub IsTold : Settings → Text → List Step → CanonTold → Type 0

@@ -1,5 +1,5 @@
 //! The canonical text, which is written while the text is read.
-ghost use Rattle.std.specs.Prelude.{◌≡◌, ◌++◌, ◌∷◌, ◌+◌, ◌<◌, ◌^◌, ◌&&◌, List, None, [], false, if◌then◌else◌, length, option_map, ℕ, IfOk, OnOk};
+ghost use Rattle.std.specs.Prelude.{◌≡◌, ◌++◌, ◌+◌, ◌<◌, ◌^◌, ◌&&◌, List, None, [], false, length, option_map, ℕ, IfOk, OnOk};
 ghost use Rattle.std.specs.List.{list_all};
 ghost use Rattle.std.specs.Str.{chars};
 ghost use Rattle.ecma_token.specs.View.{spanned_view};
@@ -11,7 +11,7 @@ ghost use Rattle.ecma_report.specs.Slashes.{rule_at};
 ghost use Rattle.ecma_faces.specs.Canonical.{Counted, has_no_error, joined, reads_clean};
 ghost use Rattle.ecma_faces.specs.Tokens.{begun, kind_behind};
 ghost use Rattle.ecma_faces.specs.Whole.{OfCanon, plainly, steps_by};
-ghost use Rattle.ecma_report.specs.Rows.{Look, whole_text};
+ghost use Rattle.ecma_report.specs.Rows.{Look, whole_part, whole_text};
 
 use crate::errors::tell_errors;
 use ecma_canonical::between;
@@ -120,14 +120,14 @@ fn measure_tokens<'a>(
     Ok(Measured { bytes, clean })
 }
 
-/// Adds the token that was read, joined to those of before.
+/// Adds the token that was read, joined to those of before, as a part of a text.
 fn push_joined(
     report: &mut Report,
     before: Option<TokenKind>,
     slot: &Option<TokenAndSpan>,
 ) -> Result<(), AllocError>
     ensures added { (look : Look) (name text : List ℕ) → IsOf look name text report.old
-        → OnOk result (report.new.out.items ≡ report.old.out.items ++ joined text before (tokens_found (option_map spanned_view slot.now))) }
+        → OnOk result (report.new.out.items ≡ report.old.out.items ++ whole_part look (joined text before (tokens_found (option_map spanned_view slot.now)))) }
     ensures stays { OnOk result (Stays report.old report.new) }
 {
     let Some(token) = slot else {
@@ -135,13 +135,12 @@ fn push_joined(
     };
     let own = Kept::of(token);
     let text = report.at(own.span);
-    report
-        .out
-        .extend_from_slice(between(before, &own).as_bytes())?;
-    report.out.extend_from_slice(text.as_bytes())
+    report.push_part(between(before, &own).as_bytes())?;
+    report.push_part(text.as_bytes())?;
+    Ok(())
 }
 
-/// Reads to the end, and writes the joined tokens.
+/// Reads to the end, and writes the joined tokens as parts of a text.
 fn write_tokens_joined<W: Write>(
     report: &mut Report,
     reader: &mut Reader,
@@ -149,7 +148,7 @@ fn write_tokens_joined<W: Write>(
 ) -> Result<(), Stop>
     requires ready { IsReady reader.old }
     ensures joined { (rule : SlashRule) (begin : Session) (look : Look) (name text : List ℕ) → Shows rule begin [] reader.old → IsOf look name text report.old
-        → OnOk result (Adds (W.contents out.old) (W.contents out.new) report.old.out.items report.new.out.items (joined text None (tokens_by rule begin))) }
+        → OnOk result (Adds (W.contents out.old) (W.contents out.new) report.old.out.items report.new.out.items (whole_part look (joined text None (tokens_by rule begin)))) }
     ensures stays { OnOk result (Stays report.old report.new) }
 {
     let mut before = None;
@@ -162,18 +161,6 @@ fn write_tokens_joined<W: Write>(
     Ok(())
 }
 
-/// Ends a text, where there are several.
-pub(crate) fn end_text(report: &mut Report) -> Result<(), AllocError>
-    ensures added { OnOk result (report.new.out.items ≡ report.old.out.items ++ (if report.old.among.several then 10 ∷ [] else [])) }
-    ensures stays { OnOk result (Stays report.old report.new) }
-{
-    if report.among.several {
-        report.out.extend_from_slice(b"\n")
-    } else {
-        Ok(())
-    }
-}
-
 /// Reads a text once more, and writes its joined tokens.
 fn write_clean<'a, W: Write>(
     report: &mut Report<'a>,
@@ -181,13 +168,14 @@ fn write_clean<'a, W: Write>(
     out: &mut W,
 ) -> Result<(), Stop>
     requires { length report.old.text.now < 2 ^ 32 }
-    ensures { (look : Look) (name text : List ℕ) → IsOf look name text report.old → look.asked.json ≡ false
+    ensures { (look : Look) (name text : List ℕ) → IsOf look name text report.old
         → OnOk result (Adds (W.contents out.old) (W.contents out.new) report.old.out.items report.new.out.items
         (whole_text look name (joined text None (tokens_by (rule_at named.entry) (begun look.asked text))))) }
 {
     let mut reader = open(report, named, false)?;
+    report.begin_whole()?;
     write_tokens_joined(report, &mut reader, out)?;
-    end_text(report)?;
+    report.end_whole()?;
     Ok(())
 }
 
@@ -201,7 +189,7 @@ fn write_measured<'a, W: Write>(
 ) -> Result<(), Stop>
     requires same { text.now ≡ report.old.text.now }
     requires fits { length text.now < 2 ^ 32 }
-    ensures { (look : Look) (name : List ℕ) → IsOf look name text.now report.old → look.asked.json ≡ false
+    ensures { (look : Look) (name : List ℕ) → IsOf look name text.now report.old
         → measured.clean ≡ reads_clean (rule_at named.entry) look text.now
         → Counted measured.bytes (length (joined text.now None (tokens_by (rule_at named.entry) (begun look.asked text.now))))
         → OnOk result (OfCanon look name (plainly look) (chars text.now) (steps_by (rule_at named.entry) look text.now)
@@ -231,7 +219,7 @@ pub(crate) fn write_canonical<'a, W: Write>(
     out: &mut W,
 ) -> Result<(), Stop>
     requires { length report.old.text.now < 2 ^ 32 }
-    ensures { (look : Look) (name text : List ℕ) → IsOf look name text report.old → writes_errors look.asked.face ≡ false → look.asked.json ≡ false
+    ensures { (look : Look) (name text : List ℕ) → IsOf look name text report.old → writes_errors look.asked.face ≡ false
         → OnOk result (OfCanon look name (plainly look) (chars text) (steps_by (rule_at named.entry) look text)
         (λ all. Adds (W.contents out.old) (W.contents out.new) report.old.out.items report.new.out.items all)) }
 {

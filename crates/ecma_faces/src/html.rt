@@ -1,20 +1,19 @@
 //! A text as HTML, which is written a piece at a time.
-ghost use Rattle.std.specs.Prelude.{◌≡◌, ◌<◌, ◌^◌, List, false, length, map, ℕ, IfOk, OnOk};
+ghost use Rattle.std.specs.Prelude.{◌≡◌, ◌<◌, ◌^◌, ◌++◌, List, [], false, true, length, map, ℕ, IfOk, OnOk};
 ghost use Rattle.std.specs.Str.{chars};
 ghost use Rattle.ecma_classes.specs.Classes.{begin};
 ghost use Rattle.ecma_pieces.specs.Covered.{MayBeCovered};
 ghost use Rattle.ecma_faults.specs.Faults.{view};
 ghost use Rattle.ecma_html.specs.Marked.{AreInOrder};
-ghost use Rattle.ecma_html.specs.Parts.{left_html};
-ghost use Rattle.ecma_html.specs.Unmark.{shown, unmark};
+ghost use Rattle.ecma_html.specs.Parts.{begin_of, end_of, left_html};
+ghost use Rattle.ecma_faces.specs.Parts.{MovesPart};
 ghost use Rattle.ecma_faces.specs.Whole as whole;
 ghost use Rattle.ecma_faces.specs.Whole.{html_by, html_written};
-ghost use Rattle.ecma_report.specs.Reports.{Adds, IsOf, Stays};
-ghost use Rattle.ecma_report.specs.Rows.{Look, whole_text};
+ghost use Rattle.ecma_report.specs.Reports.{Adds, IsOf, Stays, look_of};
+ghost use Rattle.ecma_report.specs.Rows.{Look, whole_part, whole_text};
 
-use crate::canonical::end_text;
 use ecma_faults::Found;
-use ecma_html::{Markup, html_with_errors, page_of_gathered, push_begin, push_end};
+use ecma_html::{Markup, push_begin, push_end};
 use ecma_place::{BytePos, Spanned};
 use ecma_replay::Gathered;
 use ecma_report::report::{Report, Stop};
@@ -32,38 +31,62 @@ fn places_of(alloc: Global, found: &[Found]) -> Result<Vec<BytePos>, AllocError>
     Ok(places)
 }
 
-/// The text as HTML, or a whole page of it where that is asked for, with errors at these places.
-fn html_asked(
-    report: &Report,
-    gathered: &Gathered,
-    places: &[BytePos],
-) -> Result<Vec<u8>, AllocError>
-    requires fits { length report.now.text.now < 2 ^ 32 }
-    requires covered { MayBeCovered (begin 0 (chars report.now.text.now)) gathered.now.kept.items gathered.now.comments.items }
-    ensures same { AreInOrder places.now
-        → IfOk result (λ v. v.items ≡ html_by report.now.asked.page report.now.name.now report.now.text.now gathered.now.kept.items gathered.now.comments.items places.now) }
-    // Whichever it is, it is the text that is left without the markup.
-    ensures back { IfOk result (λ v. unmark v.items ≡ shown report.now.text.now) }
+/// Adds the next piece as a part of a text, and says whether there was one. The vector is for the bytes of a piece that goes into
+/// an object.
+fn push_piece(
+    report: &mut Report,
+    markup: &mut Markup,
+    own: &mut Vec<u8>,
+) -> Result<bool, AllocError>
+    ensures added { AreInOrder markup.old.places → OnOk result (MovesPart (look_of report.old) report.old.out.items report.new.out.items markup.old markup.new) }
+    ensures shorter { IfOk result (λ more. more ≡ true → length markup.new.pieces < length markup.old.pieces) }
+    ensures ended { IfOk result (λ more. more ≡ false → left_html markup.old ≡ []) }
+    ensures places { markup.new.places ≡ markup.old.places }
+    ensures stays { Stays report.old report.new }
 {
-    if report.asked.page {
-        return page_of_gathered(report.alloc, report.name, report.text, gathered, places);
+    if !report.asked.json {
+        return markup.push_next(&mut report.out);
     }
-    html_with_errors(report.alloc, report.text, gathered, places)
+    own.clear();
+    let more = markup.push_next(own)?;
+    report.push_part(own)?;
+    Ok(more)
 }
 
-/// Writes the pieces that are left.
+/// Writes the pieces that are left as parts of a text.
 fn write_markup<W: Write>(report: &mut Report, markup: &mut Markup, out: &mut W) -> Result<(), Stop>
     ensures adds { AreInOrder markup.old.places
-        → OnOk result (Adds (W.contents out.old) (W.contents out.new) report.old.out.items report.new.out.items (left_html markup.old)) }
+        → OnOk result (Adds (W.contents out.old) (W.contents out.new) report.old.out.items report.new.out.items (whole_part (look_of report.old) (left_html markup.old))) }
     ensures stays { OnOk result (Stays report.old report.new) }
 {
-    'pieces: while markup.push_next(&mut report.out)? {
+    let mut own = Vec::new(report.alloc);
+    'pieces: while push_piece(report, markup, &mut own)? {
         report.pass_on(out)?;
     }
     Ok(())
 }
 
-/// Writes the text as HTML by its pieces, with errors at these places.
+/// Adds what begins HTML, as a part of a text.
+fn push_front(report: &mut Report) -> Result<(), AllocError>
+    ensures added { OnOk result (report.new.out.items ≡ report.old.out.items ++ whole_part (look_of report.old) (begin_of report.old.asked.page report.old.name.now report.old.text.now)) }
+    ensures stays { Stays report.old report.new }
+{
+    let mut front = Vec::new(report.alloc);
+    push_begin(&mut front, report.asked.page, report.name, report.text)?;
+    report.push_part(&front)
+}
+
+/// Adds what ends HTML, as a part of a text.
+fn push_back(report: &mut Report) -> Result<(), AllocError>
+    ensures added { OnOk result (report.new.out.items ≡ report.old.out.items ++ whole_part (look_of report.old) (end_of report.old.asked.page)) }
+    ensures stays { Stays report.old report.new }
+{
+    let mut back = Vec::new(report.alloc);
+    push_end(&mut back, report.asked.page)?;
+    report.push_part(&back)
+}
+
+/// Writes the text as HTML, with errors at these places.
 fn write_parts<W: Write>(
     report: &mut Report,
     gathered: &Gathered,
@@ -72,23 +95,22 @@ fn write_parts<W: Write>(
 ) -> Result<(), Stop>
     requires fits { length report.old.text.now < 2 ^ 32 }
     requires covered { MayBeCovered (begin 0 (chars report.old.text.now)) gathered.now.kept.items gathered.now.comments.items }
-    ensures { (look : Look) (name text : List ℕ) → IsOf look name text report.old → look.asked.json ≡ false → AreInOrder places.now
+    ensures { (look : Look) (name text : List ℕ) → IsOf look name text report.old → AreInOrder places.now
         → OnOk result (Adds (W.contents out.old) (W.contents out.new) report.old.out.items report.new.out.items
         (whole_text look name (html_by look.asked.page name text gathered.now.kept.items gathered.now.comments.items places.now))) }
 {
-    let text = report.text;
-    let page = report.asked.page;
     let kept = gathered.kept.as_slice();
     let comments = gathered.comments.as_slice();
-    let mut markup = Markup::new(report.alloc, text, kept, comments, places)?;
-    push_begin(&mut report.out, page, report.name, text)?;
+    let mut markup = Markup::new(report.alloc, report.text, kept, comments, places)?;
+    report.begin_whole()?;
+    push_front(report)?;
     write_markup(report, &mut markup, out)?;
-    push_end(&mut report.out, page)?;
-    end_text(report)?;
+    push_back(report)?;
+    report.end_whole()?;
     Ok(())
 }
 
-/// Writes the text as HTML, with these errors: an object, or its pieces one after another.
+/// Writes the text as HTML, with these errors.
 pub(crate) fn write_html<W: Write>(
     report: &mut Report,
     gathered: &Gathered,
@@ -102,11 +124,6 @@ pub(crate) fn write_html<W: Write>(
         (html_written look name text gathered.now.kept.items gathered.now.comments.items (map view found.now))) }
 {
     let places = places_of(report.alloc, found)?;
-    if report.asked.json {
-        let html = html_asked(report, gathered, &places)?;
-        report.write_whole(&html, out)?;
-        return Ok(());
-    }
     write_parts(report, gathered, &places, out)?;
     Ok(())
 }

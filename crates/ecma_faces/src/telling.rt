@@ -61,10 +61,8 @@ fn write_face<'a, W: Write>(
         Face::Errors => write_errors(report, named, out),
         Face::Imports => write_imports(report, named, out),
         Face::Exports => write_exports(report, named, out),
-        Face::Canonical if !report.asked.json => write_canonical(report, named, out),
-        Face::Canonical | Face::Classes | Face::Html | Face::Show => {
-            tell_gathered(report, named, out)
-        }
+        Face::Canonical => write_canonical(report, named, out),
+        Face::Classes | Face::Html | Face::Show => tell_gathered(report, named, out),
     }
 }
 

@@ -1,14 +1,6 @@
-//! What is told of a text by all of its tokens: the canonical text, the pieces, and the text as HTML.
+//! What is told of a text by all of its tokens: the pieces, the text as HTML, and as a terminal shows it.
 ghost use Rattle.std.specs.Prelude.{◌≡◌, ◌++◌, ◌<◌, ◌^◌, Bool, List, length, map, ℕ, IfOk, OnOk};
 ghost use Rattle.std.specs.Str.{chars};
-ghost use Rattle.ecma_state.specs.Run.{start_of};
-ghost use Rattle.ecma_state.specs.declared.settings.Settings.{Settings};
-ghost use Rattle.ecma_state.specs.declared.step.Step.{Step};
-ghost use Rattle.ecma_replay.specs.Replay.{Gathers};
-ghost use Rattle.ecma_options.specs.Begin.{context, settings, whole};
-ghost use Rattle.ecma_options.specs.declared.options.Options.{Options};
-ghost use Rattle.ecma_slashes.specs.Rereads.{SlashRule, text_steps_by};
-ghost use Rattle.ecma_canonical.specs.Canonical.{GathersPlainly, IsCanon};
 ghost use Rattle.ecma_classes.specs.Classes.{begin, classes_of};
 ghost use Rattle.ecma_pieces.specs.Covered.{MayBeCovered};
 ghost use Rattle.ecma_faults.specs.Faults.{view};
@@ -17,15 +9,12 @@ ghost use Rattle.ecma_looks.specs.Shown.{IsShown};
 ghost use Rattle.ecma_faces.specs.Pieces as rows;
 ghost use Rattle.ecma_faces.specs.Pieces.{piece_rows, pieces_by};
 ghost use Rattle.ecma_faces.specs.Whole as whole_specs;
-ghost use Rattle.ecma_faces.specs.Whole.{OfCanon, OfHtml, OfLines, OfShown, canon_written, html_written, plainly, shown_head, steps_by, told_of};
-ghost use Rattle.ecma_report.specs.Reports as reports;
+ghost use Rattle.ecma_faces.specs.Whole.{OfHtml, OfLines, OfShown, html_written, shown_head};
 ghost use Rattle.ecma_report.specs.Reports.{Adds, IsOf, Stays, look_of};
 ghost use Rattle.ecma_report.specs.Rows.{Look};
-ghost use Rattle.ecma_report.specs.Slashes.{rule_at};
 ghost use Rattle.ecma_report.specs.declared.words.Face.TheVariants as face;
 
 use crate::html::write_html;
-use ecma_canonical::{Canon, canonical_of_gathered};
 use ecma_classes::{Cover, Piece};
 use ecma_faults::{Found, in_order};
 use ecma_looks::show_text;
@@ -38,50 +27,6 @@ use ecma_report::slashes::{START, slashes_at, tell_unmet};
 use ecma_report::words::{Face, Named};
 use std::alloc::{AllocError, Global};
 use std::io::Write;
-
-/// The canonical text of a text, by what was gathered of it.
-fn canon_of(alloc: Global, text: &str, gathered: &Gathered) -> Result<Canon, AllocError>
-    requires fits { length text.now < 2 ^ 32 }
-    requires plain { (settings : Settings) × (steps : List Step) × GathersPlainly settings (begin 0 (chars text.now)) steps gathered.now }
-    // Whatever the options are, whether comments are collected, and whichever slashes were read again.
-    ensures { (comments : Bool) (options : Options) (rule : SlashRule)
-        → Gathers (start_of (settings comments options) (whole text.now)) (text_steps_by rule (settings comments options) (context options) (whole text.now)) gathered.now
-        → IfOk result (IsCanon (settings comments options) 0 (chars text.now) (text_steps_by rule (settings comments options) (context options) (whole text.now))) }
-{
-    canonical_of_gathered(alloc, text, START, gathered)
-}
-
-/// Writes a canonical text, and nothing where there is none.
-fn write_canon<W: Write>(report: &mut Report, canon: &Canon, out: &mut W) -> Result<(), Stop>
-    ensures { (look : Look) (name text : List ℕ) → IsOf look name text report.old
-        → OnOk result (Adds (W.contents out.old) (W.contents out.new) report.old.out.items report.new.out.items (canon_written look name (told_of canon.now))) }
-{
-    match canon {
-        Canon::Text(text) => report.write_whole(text.as_bytes(), out),
-        Canon::NotClean | Canon::TooLong => {
-            report.is_faulty = true;
-            Ok(())
-        }
-    }
-}
-
-/// Writes the canonical text of what was gathered.
-fn write_canon_of<W: Write>(
-    report: &mut Report,
-    gathered: &Gathered,
-    out: &mut W,
-) -> Result<(), Stop>
-    requires fits { length report.old.text.now < 2 ^ 32 }
-    requires plain { (settings : Settings) × (steps : List Step) × GathersPlainly settings (begin 0 (chars report.old.text.now)) steps gathered.now }
-    ensures { (look : Look) (name text : List ℕ) (rule : SlashRule) → IsOf look name text report.old
-        → Gathers (start_of (plainly look) (whole text)) (steps_by rule look text) gathered.now
-        → OnOk result (OfCanon look name (plainly look) (chars text) (steps_by rule look text)
-        (λ all. Adds (W.contents out.old) (W.contents out.new) report.old.out.items report.new.out.items all)) }
-{
-    let canon = canon_of(report.alloc, report.text, gathered)?;
-    write_canon(report, &canon, out)?;
-    Ok(())
-}
 
 /// Adds the row of a piece.
 fn push_piece(report: &mut Report, piece: Piece) -> Result<(), AllocError>
@@ -181,7 +126,6 @@ fn write_gathered<W: Write>(
     out: &mut W,
 ) -> Result<(), Stop>
     requires fits { length report.old.text.now < 2 ^ 32 }
-    requires plain { (settings : Settings) × (steps : List Step) × GathersPlainly settings (begin 0 (chars report.old.text.now)) steps gathered.now }
     requires covered { MayBeCovered (begin 0 (chars report.old.text.now)) gathered.now.kept.items gathered.now.comments.items }
     ensures classes { (look : Look) (name text : List ℕ) → IsOf look name text report.old → look.asked.face ≡ face.Classes
         → OnOk result (Adds (W.contents out.old) (W.contents out.new) report.old.out.items report.new.out.items
@@ -192,30 +136,15 @@ fn write_gathered<W: Write>(
     ensures shown { (look : Look) (name text : List ℕ) → IsOf look name text report.old → look.asked.face ≡ face.Show
         → OnOk result (OfLines look name text gathered.now.kept.items gathered.now.comments.items (map view found.now)
         (λ all. Adds (W.contents out.old) (W.contents out.new) report.old.out.items report.new.out.items all)) }
-    ensures canonical { (look : Look) (name text : List ℕ) (rule : SlashRule) → IsOf look name text report.old → look.asked.face ≡ face.Canonical
-        → Gathers (start_of (plainly look) (whole text)) (steps_by rule look text) gathered.now
-        → OnOk result (OfCanon look name (plainly look) (chars text) (steps_by rule look text)
-        (λ all. Adds (W.contents out.old) (W.contents out.new) report.old.out.items report.new.out.items all)) }
 {
     match report.asked.face {
         Face::Classes => write_pieces(report, gathered, out),
         Face::Html => write_html(report, gathered, found, out),
-        Face::Show => write_shown(report, gathered, found, out),
-        _ => write_canon_of(report, gathered, out),
+        _ => write_shown(report, gathered, found, out),
     }
 }
 
-/// Whether comments are collected for it.
-fn collects_comments(face: Face) -> bool
-    ensures { result ≡ reports.collects_comments face }
-{
-    match face {
-        Face::Canonical => false,
-        _ => true,
-    }
-}
-
-/// Gathers the tokens of a text, and the comments but for the canonical text, tells of errors, and writes what is asked for.
+/// Gathers the tokens and the comments of a text, tells of errors, and writes what is asked for.
 pub(crate) fn tell_gathered<'a, W: Write>(
     report: &mut Report<'a>,
     named: Named<'a>,
@@ -230,14 +159,8 @@ pub(crate) fn tell_gathered<'a, W: Write>(
     ensures shown { (look : Look) (name text : List ℕ) → IsOf look name text report.old → look.asked.face ≡ face.Show
         → OnOk result (OfShown named.entry look name text
         (λ all. Adds (W.contents out.old) (W.contents out.new) report.old.out.items report.new.out.items all)) }
-    ensures canonical { (look : Look) (name text : List ℕ) → IsOf look name text report.old → look.asked.face ≡ face.Canonical
-        → OnOk result (OfCanon look name (plainly look) (chars text) (steps_by (rule_at named.entry) look text)
-        (λ all. Adds (W.contents out.old) (W.contents out.new) report.old.out.items report.new.out.items all)) }
 {
-    let settings = report
-        .asked
-        .options
-        .settings(collects_comments(report.asked.face));
+    let settings = report.asked.options.settings(true);
     let context = report.asked.options.context();
     let slashes = slashes_at(named);
     let read = read_out(

@@ -84,7 +84,7 @@ impl<'t> Markup<'t> {
     pub fn push_next(&mut self, out: &mut Vec<u8>) -> Result<bool, AllocError>
         ensures added { AreInOrder self.old.places → OnOk result (Moves out.old.items out.new.items self.old self.new) }
         ensures shorter { IfOk result (λ more. more ≡ true → length self.new.pieces < length self.old.pieces) }
-        ensures ended { IfOk result (λ more. more ≡ false → left_html self.new ≡ []) }
+        ensures ended { IfOk result (λ more. more ≡ false → left_html self.old ≡ []) }
         ensures places { self.new.places ≡ self.old.places }
     {
         let Some(piece) = self.cover.next() else {

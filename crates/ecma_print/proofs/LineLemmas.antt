@@ -1,9 +1,9 @@
 -- Lines that are counted from one place of a text to another.
-use Rattle.std.proofs.Common.{◌≡◌, ◌∙◌, ◌+◌, ◌-◌, ◌<◌, ◌≤◌, ◌*◌, ℕ, List, [], ◌++◌, Bool, true, false, cond, nat_lt, Option, Some, None, not, length, take, drop, drop-drop, get_or, min, refl, ap, sym, subst, arith, slice_index, count_by, ⊎_elim}
+use Rattle.std.proofs.Common.{◌≡◌, ◌∙◌, ◌+◌, ◌-◌, ◌<◌, ◌≤◌, ◌*◌, ℕ, List, ◌++◌, Bool, true, false, cond, nat_lt, Option, Some, None, not, length, take, drop, drop-drop, get_or, min, ap, sym, subst, arith, slice_index, count_by, ⊎_elim}
 use Rattle.std.specs.Prelude.{slice_range}
 use Rattle.std.specs.List.{suffix_len}
 use Rattle.std.proofs.lemmas.Bool.{cases_Bool, cases_lt, false≢true}
-use Rattle.std.proofs.lemmas.List.{drop-take, get_or-drop, get_or-take, length-take, length-drop, take-append-drop, take-take, take_min}
+use Rattle.std.proofs.lemmas.List.{drop-take, get_or-drop, get_or-take, length-take, length-drop, take-append-drop, take_min}
 use Rattle.std.proofs.lemmas.List.Sums.{suffix_len_is, sum_by-append, sum_by-le, count_by-le-length}
 use Rattle.std.proofs.lemmas.Grind.{common_steps}
 use Rattle.memchr.specs.Find.{IsLastByte, is_byte, places}

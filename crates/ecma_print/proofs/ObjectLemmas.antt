@@ -1,13 +1,14 @@
 -- The parts of a row that are written one behind the other are the text of its object.
-use Rattle.std.proofs.Common.{◌≡◌, ◌∙◌, List, ℕ, Bool, true, false, Option, Some, None, ◌++◌, append_assoc, ap, refl}
+use Rattle.std.proofs.Common.{◌≡◌, ◌∙◌, List, ℕ, Bool, true, false, Option, Some, None, [], ◌∷◌, ◌++◌, append_assoc, ap, refl, sym}
 use Rattle.std.specs.Prelude.{codes, decimal}
-use Rattle.json.specs.Print.{escape_byte, quoted}
+use Rattle.std.proofs.lemmas.Grind.{flat_map-append}
+use Rattle.json.specs.Print.{escape, escape_byte, quoted}
 use Rattle.serde_json.specs.Data.{object}
 use Rattle.serde_json.specs.Written.{compact_text}
 use Rattle.ecma_place.specs.declared.place.Span.{Span}
 use Rattle.ecma_positions.specs.declared.position.Position.{Position}
 use Rattle.ecma_print.specs.Rows as row_specs
-use Rattle.ecma_print.specs.Rows.{ImportView, MoreView, attributes_text, before_text, behind_text, flag_text, import_end_text, line_break_text, members, phase_name, text_data, value_in}
+use Rattle.ecma_print.specs.Rows.{ImportView, MoreView, attributes_text, before_text, behind_text, flag_text, import_end_text, line_break_text, members, phase_name, text_begin, text_data, text_end, text_part, value_in}
 use Rattle.ecma_print.specs.Values as value_specs
 use Rattle.ecma_print.specs.Values.{ValueView, digits_text, flags_text}
 
@@ -120,9 +121,20 @@ parts-object file at span kind text (row_specs.exported None false) = refl
 
 -- the same of a whole text
 
-abbrev pub text_parts : List ℕ → List ℕ → List ℕ
+abbrev text_parts : List ℕ → List ℕ → List ℕ
 text_parts file text = (codes "{\"file\":" ++ quoted file) ++ ((codes ",\"text\":" ++ quoted text) ++ codes "}")
 
-pub text-parts-object : (file text : List ℕ) → text_parts file text ≡ compact_text (text_data file text)
+text-parts-object : (file text : List ℕ) → text_parts file text ≡ compact_text (text_data file text)
 unfolding escape_byte
 text-parts-object file text = refl
+
+-- a whole text by what begins it, its bytes, and what ends it
+pub text-in-parts : (file text : List ℕ) → text_begin file ++ (text_part text ++ text_end) ≡ compact_text (text_data file text)
+text-in-parts file text =
+    let front : List ℕ = codes "{\"file\":" ++ quoted file in
+    append_assoc front (codes ",\"text\":\"") (escape text ++ text_end)
+    ∙ ap (λ l. front ++ (codes ",\"text\":\"" ++ l)) (sym (append_assoc (escape text) (34 ∷ []) (codes "}")))
+    ∙ text-parts-object file text
+
+pub text_part-append : (xs ys : List ℕ) → text_part (xs ++ ys) ≡ text_part xs ++ text_part ys
+text_part-append xs ys = flat_map-append escape_byte xs ys

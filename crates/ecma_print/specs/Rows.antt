@@ -1,7 +1,7 @@
 -- How a row is written: as a JSON object, or as what comes before its text in a line.
 use Rattle.std.specs.Prelude.{ℕ, List, map, if◌then◌else◌, [], ◌∷◌, ◌++◌, ◌==◌, ◌||◌, Bool, true, false, nat_lt, Option, Some, None, codes, decimal}
 use Rattle.std.specs.Borrow.{Bor}
-use Rattle.json.specs.Print.{quoted}
+use Rattle.json.specs.Print.{escape, quoted}
 use Rattle.serde_json.specs.Data.{Data, Members, unsigned, boolean, number, string, object, no_members, member}
 use Rattle.ecma_place.specs.declared.place.BytePos.{BytePos}
 use Rattle.ecma_place.specs.declared.place.Span.{Span}
@@ -113,6 +113,16 @@ row_data file at row = object (members file at row.span row.kind.now row.text.no
 -- a whole text
 abbrev pub text_data : List ℕ → List ℕ → Data
 text_data file text = object (member (codes "file") (string file) (member (codes "text") (string text) no_members))
+
+-- the same in parts: what begins it, its bytes, and what ends it
+abbrev pub text_begin : List ℕ → List ℕ
+text_begin file = (codes "{\"file\":" ++ quoted file) ++ codes ",\"text\":\""
+
+abbrev pub text_part : List ℕ → List ℕ
+text_part bytes = escape bytes
+
+abbrev pub text_end : List ℕ
+text_end = codes "\"}"
 
 -- the members that not each row has, as they are written behind others
 

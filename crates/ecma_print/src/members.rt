@@ -52,7 +52,7 @@ fn push_escape(out: &mut Vec<u8>, byte: u8) -> Result<(), AllocError>
 }
 
 /// Adds bytes as JSON strings have them. What lies between two escapes goes in at once.
-fn push_inside(out: &mut Vec<u8>, bytes: &[u8]) -> Result<(), AllocError>
+pub(crate) fn push_inside(out: &mut Vec<u8>, bytes: &[u8]) -> Result<(), AllocError>
     ensures { OnOk result (out.new.items ≡ out.old.items ++ escape bytes.now) }
 {
     let mut done = 0;
@@ -78,21 +78,6 @@ pub(crate) fn push_number_member(
     push_number(out, number)
 }
 
-/// Adds a member of a JSON object that is a string of these bytes, behind what comes before it.
-pub(crate) fn push_bytes_member(
-    out: &mut Vec<u8>,
-    before: &[u8],
-    bytes: &[u8],
-) -> Result<(), AllocError>
-    ensures { OnOk result (out.new.items ≡ out.old.items ++ (before.now ++ quoted bytes.now)) }
-{
-    out.extend_from_slice(before)?;
-    out.push(b'"')?;
-    push_inside(out, bytes)?;
-    out.push(b'"')?;
-    Ok(())
-}
-
 /// Adds a member of a JSON object that is a string, behind what comes before it.
 pub(crate) fn push_text_member(
     out: &mut Vec<u8>,
@@ -101,7 +86,11 @@ pub(crate) fn push_text_member(
 ) -> Result<(), AllocError>
     ensures { OnOk result (out.new.items ≡ out.old.items ++ (before.now ++ quoted text.now)) }
 {
-    push_bytes_member(out, before, text.as_bytes())
+    out.extend_from_slice(before)?;
+    out.push(b'"')?;
+    push_inside(out, text.as_bytes())?;
+    out.push(b'"')?;
+    Ok(())
 }
 
 /// Adds a member of a JSON object that is a truth value, behind what comes before it.

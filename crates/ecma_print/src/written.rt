@@ -4,13 +4,48 @@ ghost use Rattle.serde_json.specs.Written.{compact_text};
 ghost use Rattle.ecma_print.specs.Rows as row_specs;
 ghost use Rattle.ecma_print.specs.Values as value_specs;
 
-use crate::members::{push_bytes_member, push_flag_member, push_number_member, push_text_member};
+use crate::members::{push_flag_member, push_inside, push_number_member, push_text_member};
 use crate::row::{Imported, More, Row, Value};
 use crate::values::{push_digits, push_field, push_flags, push_form, push_value};
 use ecma_place::{BytePos, Span};
 use ecma_positions::Position;
 use ecma_stdio::{push_escaped, push_number};
 use std::alloc::AllocError;
+
+/// Adds what a whole text of a file begins with as a JSON object, before its own bytes.
+///
+/// # Errors
+///
+/// `AllocError` where allocation fails; a part may have been added then.
+pub fn push_text_begin(out: &mut Vec<u8>, file: &str) -> Result<(), AllocError>
+    ensures { OnOk result (out.new.items ≡ out.old.items ++ row_specs.text_begin file.now) }
+{
+    push_text_member(out, b"{\"file\":", file)?;
+    out.extend_from_slice(b",\"text\":\"")?;
+    Ok(())
+}
+
+/// Adds bytes of such a text.
+///
+/// # Errors
+///
+/// `AllocError` where allocation fails; a part may have been added then.
+pub fn push_text_part(out: &mut Vec<u8>, bytes: &[u8]) -> Result<(), AllocError>
+    ensures { OnOk result (out.new.items ≡ out.old.items ++ row_specs.text_part bytes.now) }
+{
+    push_inside(out, bytes)
+}
+
+/// Adds what such a text ends with.
+///
+/// # Errors
+///
+/// `AllocError` where allocation fails; a part may have been added then.
+pub fn push_text_end(out: &mut Vec<u8>) -> Result<(), AllocError>
+    ensures { OnOk result (out.new.items ≡ out.old.items ++ row_specs.text_end) }
+{
+    out.extend_from_slice(b"\"}")
+}
 
 /// Adds a whole text of a file as a JSON object.
 ///
@@ -20,9 +55,9 @@ use std::alloc::AllocError;
 pub fn push_text_object(out: &mut Vec<u8>, file: &str, bytes: &[u8]) -> Result<(), AllocError>
     ensures { OnOk result (out.new.items ≡ out.old.items ++ compact_text (row_specs.text_data file.now bytes.now)) }
 {
-    push_text_member(out, b"{\"file\":", file)?;
-    push_bytes_member(out, b",\"text\":", bytes)?;
-    out.push(b'}')?;
+    push_text_begin(out, file)?;
+    push_text_part(out, bytes)?;
+    push_text_end(out)?;
     Ok(())
 }
 

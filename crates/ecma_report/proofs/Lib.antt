@@ -1,2 +1,3 @@
+pub mod PartLemmas
 pub mod ReportLemmas
 pub mod WholeLemmas

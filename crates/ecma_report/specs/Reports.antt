@@ -5,7 +5,7 @@ use Rattle.ecma_print.specs.Lines.{Counts}
 use Rattle.ecma_report.specs.declared.report.Report.{Report}
 use Rattle.ecma_report.specs.Rows.{Look, look}
 use Rattle.ecma_report.specs.declared.words.Face.{Face}
-use Rattle.ecma_report.specs.declared.words.Face.TheVariants.{Canonical, Errors}
+use Rattle.ecma_report.specs.declared.words.Face.TheVariants.{Errors}
 
 abbrev pub look_of : Report → Look
 look_of report = look report.asked report.among
@@ -21,11 +21,6 @@ pub record IsOf (l : Look) (file bytes : List ℕ) (report : Report) : Type 0 wh
 abbrev pub writes_errors : Face → Bool
 writes_errors Errors = true
 writes_errors _ = false
-
--- comments are collected for it
-abbrev pub collects_comments : Face → Bool
-collects_comments Canonical = false
-collects_comments _ = true
 
 -- of the same as before
 pub record Stays (old new : Report) : Type 0 where

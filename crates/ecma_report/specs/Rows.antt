@@ -7,7 +7,7 @@ use Rattle.ecma_place.specs.declared.place.Span.{Span}
 use Rattle.ecma_stdio.specs.Escaped.{escaped}
 use Rattle.ecma_positions.specs.Columns.{position_by}
 use Rattle.ecma_positions.specs.declared.position.Position.{Position}
-use Rattle.ecma_print.specs.Rows.{MoreView, head_of, members, more_view, own_text, text_data}
+use Rattle.ecma_print.specs.Rows.{MoreView, head_of, members, more_view, own_text, text_begin, text_data, text_end, text_part}
 use Rattle.ecma_print.specs.declared.row.Row.{Row}
 use Rattle.ecma_report.specs.declared.words.Among.{Among}
 use Rattle.ecma_report.specs.declared.words.Asked.{Asked}
@@ -54,6 +54,17 @@ row_text l file text row = row_of l file text row.kind.now row.span (more_view r
 -- a text that is written whole: its bytes, or an object in a line; of several files each text ends with a line feed
 abbrev pub whole_text : Look → List ℕ → List ℕ → List ℕ
 whole_text l file bytes = if l.asked.json then compact_text (text_data file bytes) ++ 10 ∷ [] else if l.among.several then bytes ++ 10 ∷ [] else bytes
+
+-- The same in parts: what begins it, its bytes, and what ends it
+
+abbrev pub whole_begin : Look → List ℕ → List ℕ
+whole_begin l file = if l.asked.json then text_begin file else []
+
+abbrev pub whole_part : Look → List ℕ → List ℕ
+whole_part l bytes = if l.asked.json then text_part bytes else bytes
+
+abbrev pub whole_end : Look → List ℕ
+whole_end l = if l.asked.json then text_end ++ 10 ∷ [] else if l.among.several then 10 ∷ [] else []
 
 -- The text at a span, where it begins and ends with characters
 

@@ -6,14 +6,17 @@ ghost use Rattle.ecma_print.specs.Lines.{Counts};
 ghost use Rattle.ecma_report.specs.Reports.{Adds, IsOf, Stays, look_of};
 ghost use Rattle.ecma_print.specs.Rows.{head, more_view, own_text, text_data};
 ghost use Rattle.serde_json.specs.Written.{compact_text};
-ghost use Rattle.ecma_report.specs.Rows.{alone, line_text, look, name_asked, part_at, place_asked, row_parts, row_text, whole_text};
+ghost use Rattle.ecma_report.specs.Rows.{alone, line_text, look, name_asked, part_at, place_asked, row_parts, row_text, whole_begin, whole_end, whole_part, whole_text};
 
 use crate::words::{Among, Asked};
 use ecma_place::{BytePos, Span};
 use ecma_positions::Position;
 use ecma_print::lines::Lines;
 pub use ecma_print::row::{More, Row};
-use ecma_print::written::{push_head, push_message, push_object, push_own_text, push_text_object};
+use ecma_print::written::{
+    push_head, push_message, push_object, push_own_text, push_text_begin, push_text_end,
+    push_text_object, push_text_part,
+};
 use ecma_stdio::{FAILED, push_escaped, send};
 use ecma_token::SyntaxError;
 use std::alloc::{AllocError, Global};
@@ -281,6 +284,57 @@ impl<'a> Report<'a> {
         self.write_behind(bytes, out)?;
         if self.among.several {
             self.write_behind(b"\n", out)?;
+        }
+        Ok(())
+    }
+
+    /// Begins a text that is written whole, in parts. Of such a text the parts are added with [`Report::push_part`], and then it is
+    /// ended with [`Report::end_whole`]; it is then as [`Report::write_whole`] writes it.
+    ///
+    /// # Errors
+    ///
+    /// `AllocError` where allocation fails; a part of what was to be added may then be there.
+    pub fn begin_whole(&mut self) -> Result<(), AllocError>
+        ensures added { OnOk result (self.new.out.items ≡ self.old.out.items ++ whole_begin (look_of self.old) self.old.name.now) }
+        ensures stays { Stays self.old self.new }
+    {
+        if self.asked.json {
+            return push_text_begin(&mut self.out, self.name);
+        }
+        Ok(())
+    }
+
+    /// Adds a part of a text that is written whole.
+    ///
+    /// # Errors
+    ///
+    /// `AllocError` where allocation fails; a part of what was to be added may then be there.
+    pub fn push_part(&mut self, bytes: &[u8]) -> Result<(), AllocError>
+        ensures added { OnOk result (self.new.out.items ≡ self.old.out.items ++ whole_part (look_of self.old) bytes.now) }
+        ensures stays { Stays self.old self.new }
+    {
+        if self.asked.json {
+            return push_text_part(&mut self.out, bytes);
+        }
+        self.out.extend_from_slice(bytes)
+    }
+
+    /// Ends a text that is written whole, in parts.
+    ///
+    /// # Errors
+    ///
+    /// `AllocError` where allocation fails; a part of what was to be added may then be there.
+    pub fn end_whole(&mut self) -> Result<(), AllocError>
+        ensures added { OnOk result (self.new.out.items ≡ self.old.out.items ++ whole_end (look_of self.old)) }
+        ensures stays { Stays self.old self.new }
+    {
+        if self.asked.json {
+            push_text_end(&mut self.out)?;
+            self.out.push(b'\n')?;
+            return Ok(());
+        }
+        if self.among.several {
+            self.out.push(b'\n')?;
         }
         Ok(())
     }

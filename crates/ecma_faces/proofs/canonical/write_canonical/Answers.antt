@@ -15,7 +15,7 @@ pub write_measured-requires-clause-same : goal.write_measured-requires-clause-sa
 write_measured-requires-clause-same g c = sym c.in_ok-tell_errors.ensures.stays.text
 
 pub returns : goal.returns
-returns g c = λ ask file bytes of face plain.
+returns g c = λ ask file bytes of face.
     let first = c.args.report.now in
     let told = c.tell_errors.new.report in
     let last = c.write_measured.new.report in
@@ -35,8 +35,8 @@ returns g c = λ ask file bytes of face plain.
     let here = stays-of ask file bytes first told c.in_ok-tell_errors.ensures.stays of in
     let nothing = c.in_ok-tell_errors.ensures.adds (ap (λ l. writes_errors l.asked.face) of.look ∙ face) in
     let measured = c.and-measured.result in
-    let written = subst (λ t. IsOf ask file t told → ask.asked.json ≡ false → measured.clean ≡ reads_clean rule ask t → Counted measured.bytes (length (joined t None (tokens_by rule (begun ask.asked t))))
-    → OfCanon ask file (plainly ask) (chars t) (steps_by rule ask t) (λ all. Adds between after told.out.items last.out.items all)) of.text (c.in_ok-write_measured.ensures ask file) here plain clean counted in
+    let written = subst (λ t. IsOf ask file t told → measured.clean ≡ reads_clean rule ask t → Counted measured.bytes (length (joined t None (tokens_by rule (begun ask.asked t))))
+    → OfCanon ask file (plainly ask) (chars t) (steps_by rule ask t) (λ all. Adds between after told.out.items last.out.items all)) of.text (c.in_ok-write_measured.ensures ask file) here clean counted in
     record {
       told = written.told;
       is_told = written.is_told;

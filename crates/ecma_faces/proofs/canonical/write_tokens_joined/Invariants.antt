@@ -14,7 +14,7 @@ invariant-tokens g l =
     IsReady l.reader
     × (Stays l.initial.report l.report
     × ((rule : SlashRule) (begin : Session) (ask : Look) (file bytes : List ℕ) → Shows rule begin [] l.initial.reader → IsOf ask file bytes l.initial.report
-    → Tells rule begin (Joins bytes (g.W.Write.contents l.initial.out) (g.W.Write.contents l.out) l.initial.report.out.items l.report.out.items l.before) l.reader))
+    → Tells rule begin (Joins ask bytes (g.W.Write.contents l.initial.out) (g.W.Write.contents l.out) l.initial.report.out.items l.report.out.items l.before) l.reader))
 
 abbrev pub decreases-tokens : goal.decreases-tokens
 decreases-tokens g l = most_tokens (lexer_state l.reader.lexer)

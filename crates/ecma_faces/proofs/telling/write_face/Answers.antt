@@ -1,4 +1,4 @@
-use Rattle.std.proofs.Common.{◌∙◌, ap, sym}
+use Rattle.std.proofs.Common.{ap}
 use Rattle.ecma_report.specs.Reports.{writes_errors}
 use Rattle.ecma_faces.proofs.telling.write_face.Goals as goal
 
@@ -6,6 +6,4 @@ pub returns-in-Errors-clause-errors : goal.returns-in-Errors-clause-errors
 returns-in-Errors-clause-errors g c = λ look name text of is. c.write_errors.ensures look name text of (ap writes_errors is)
 
 pub returns-in-Canonical-clause-canonical : goal.returns-in-Canonical-clause-canonical
-returns-in-Canonical-clause-canonical g c = λ look name text of is.
-    let plain = ap (λ l. l.asked.json) (sym of.look) ∙ c.if-not-report.true in
-    c.write_canonical.ensures look name text of (ap writes_errors is) plain
+returns-in-Canonical-clause-canonical g c = λ look name text of is. c.write_canonical.ensures look name text of (ap writes_errors is)

@@ -1,13 +1,9 @@
-use Rattle.std.proofs.Common.{◌∙◌, ◌++◌, List, [], ap, map, refl, subst, sym, true, false}
+use Rattle.std.proofs.Common.{◌∙◌, ◌++◌, [], ap, map, refl, subst, sym, true}
 use Rattle.std.specs.Str.{chars}
 use Rattle.ecma_token.specs.View.{error_view}
 use Rattle.ecma_state.specs.Session.{kept_tokens}
-use Rattle.ecma_state.specs.declared.settings.Settings.{Settings}
-use Rattle.ecma_state.specs.declared.step.Step.{Step}
 use Rattle.ecma_options.specs.Begin as asks
-use Rattle.ecma_slashes.specs.Rereads.{rule_of, text_steps_by}
-use Rattle.ecma_slashes.proofs.PlainRuns.{texts_are_read_plainly}
-use Rattle.ecma_canonical.specs.Canonical.{GathersPlainly}
+use Rattle.ecma_slashes.specs.Rereads.{rule_of}
 use Rattle.ecma_classes.specs.Classes.{begin}
 use Rattle.ecma_faults.specs.Faults.{IsByPlace, all_of, view}
 use Rattle.ecma_looks.specs.Shown.{IsShown}
@@ -15,11 +11,10 @@ use Rattle.ecma_pieces.specs.Covered.{MayBeCovered}
 use Rattle.ecma_pieces.proofs.CoveredLemmas.{gathered_may_be_covered}
 use Rattle.ecma_reader.specs.Outputs.{error_tokens}
 use Rattle.ecma_faces.specs.Pieces.{piece_rows, pieces_by}
-use Rattle.ecma_faces.specs.Whole.{canon_written, html_written, places_of, shown_head}
-use Rattle.ecma_report.specs.Reports.{Adds, collects_comments, writes_errors}
+use Rattle.ecma_faces.specs.Whole.{html_written, places_of, shown_head}
+use Rattle.ecma_report.specs.Reports.{Adds, writes_errors}
 use Rattle.ecma_report.specs.Rows.{whole_text}
 use Rattle.ecma_report.specs.Runs.{read_to}
-use Rattle.ecma_report.specs.Slashes.{rule_at}
 use Rattle.ecma_html.specs.Marked.{AreInOrder}
 use Rattle.ecma_faces.proofs.WholeLemmas.{places-in-order}
 use Rattle.ecma_faces.proofs.ReadLemmas.{comments-asked, kept-asked, pieces-asked, read-as-asked, recorded-asked, refusals-asked}
@@ -28,17 +23,6 @@ use Rattle.ecma_faces.proofs.whole.tell_gathered.Goals as goal
 
 pub write_gathered-requires-clause-fits : goal.write_gathered-requires-clause-fits
 write_gathered-requires-clause-fits g c = rw (c.in_ok-tell_found.ensures.stays.text ∙ c.in_ok-tell_unmet.ensures.stays.text) c.requires
-
-pub write_gathered-requires-clause-plain : goal.write_gathered-requires-clause-plain
-write_gathered-requires-clause-plain g c =
-    let same = c.in_ok-tell_found.ensures.stays.text ∙ c.in_ok-tell_unmet.ensures.stays.text in
-    let input = begin 0 (chars c.args.report.now.text.now) in
-    let rule = rule_of c.slashes_at-slashes.result in
-    let settings = c.settings-settings.result in
-    let context = c.context-context.result in
-    let plain = texts_are_read_plainly rule settings context input (rw c.context-context.ensures refl) in
-    subst (λ t. (settings : Settings) × (steps : List Step) × GathersPlainly settings (begin 0 (chars t)) steps c.in_ok-read.read.gathered) (sym same)
-    (settings, text_steps_by rule settings context input, record { gathers = c.in_ok-read.ensures.gathers; clean = plain.clean })
 
 pub write_gathered-requires-clause-covered : goal.write_gathered-requires-clause-covered
 write_gathered-requires-clause-covered g c =
@@ -64,9 +48,8 @@ returns g c = record {
       let quiet = c.in_ok-tell_found.ensures.adds (ap (λ l. writes_errors l.asked.face) there.look ∙ ap writes_errors face) in
       let nothing = subst (λ items. Adds before between items told.out.items []) (ap (λ v. v.items) c.in_ok-tell_unmet.ensures.out) quiet in
       let asked = ap (λ l. l.asked) of.look in
-      let collected = ap (λ b. asks.settings b first.asked.options) (c.collects_comments.ensures ∙ ap (λ a. collects_comments a.face) asked ∙ ap collects_comments face) in
       let is = read-as-asked true named ask bytes first.text.now (rule_of c.slashes_at-slashes.result) c.settings-settings.result c.context-context.result read
-      c.slashes_at-slashes.ensures.rule (c.settings-settings.ensures ∙ collected ∙ ap (λ a. asks.settings true a.options) asked) (c.context-context.ensures ∙ ap (λ a. asks.context a.options) asked) of.text c.in_ok-read.ensures in
+      c.slashes_at-slashes.ensures.rule (c.settings-settings.ensures ∙ ap (λ a. asks.settings true a.options) asked) (c.context-context.ensures ∙ ap (λ a. asks.context a.options) asked) of.text c.in_ok-read.ensures in
       let rows = subst (λ ps. Adds between after told.out.items last.out.items (piece_rows ask file bytes ps)) (pieces-asked named ask bytes read is) (c.in_ok-write_gathered.ensures.classes ask file bytes here face) in
       adds-on before between after first.out.items told.out.items last.out.items [] (piece_rows ask file bytes (pieces_by named ask bytes)) nothing rows;
   html = λ ask file bytes of face.
@@ -85,9 +68,8 @@ returns g c = record {
       let quiet = c.in_ok-tell_found.ensures.adds (ap (λ l. writes_errors l.asked.face) there.look ∙ ap writes_errors face) in
       let nothing = subst (λ items. Adds before between items told.out.items []) (ap (λ v. v.items) c.in_ok-tell_unmet.ensures.out) quiet in
       let asked = ap (λ l. l.asked) of.look in
-      let collected = ap (λ b. asks.settings b first.asked.options) (c.collects_comments.ensures ∙ ap (λ a. collects_comments a.face) asked ∙ ap collects_comments face) in
       let is = read-as-asked true named ask bytes first.text.now (rule_of c.slashes_at-slashes.result) c.settings-settings.result c.context-context.result read
-      c.slashes_at-slashes.ensures.rule (c.settings-settings.ensures ∙ collected ∙ ap (λ a. asks.settings true a.options) asked) (c.context-context.ensures ∙ ap (λ a. asks.context a.options) asked) of.text c.in_ok-read.ensures in
+      c.slashes_at-slashes.ensures.rule (c.settings-settings.ensures ∙ ap (λ a. asks.settings true a.options) asked) (c.context-context.ensures ∙ ap (λ a. asks.context a.options) asked) of.text c.in_ok-read.ensures in
       let found = c.in_ok-found.found.items in
       let own_recorded = map error_view c.into_vec.result.items in
       let own_waiting = map error_view c.new-waiting.result.items in
@@ -123,9 +105,8 @@ returns g c = record {
       let quiet = c.in_ok-tell_found.ensures.adds (ap (λ l. writes_errors l.asked.face) there.look ∙ ap writes_errors face) in
       let nothing = subst (λ items. Adds before between items told.out.items []) (ap (λ v. v.items) c.in_ok-tell_unmet.ensures.out) quiet in
       let asked = ap (λ l. l.asked) of.look in
-      let collected = ap (λ b. asks.settings b first.asked.options) (c.collects_comments.ensures ∙ ap (λ a. collects_comments a.face) asked ∙ ap collects_comments face) in
       let is = read-as-asked true named ask bytes first.text.now (rule_of c.slashes_at-slashes.result) c.settings-settings.result c.context-context.result read
-      c.slashes_at-slashes.ensures.rule (c.settings-settings.ensures ∙ collected ∙ ap (λ a. asks.settings true a.options) asked) (c.context-context.ensures ∙ ap (λ a. asks.context a.options) asked) of.text c.in_ok-read.ensures in
+      c.slashes_at-slashes.ensures.rule (c.settings-settings.ensures ∙ ap (λ a. asks.settings true a.options) asked) (c.context-context.ensures ∙ ap (λ a. asks.context a.options) asked) of.text c.in_ok-read.ensures in
       let recorded = ap (map error_view) c.into_vec.ensures ∙ c.in_ok-recorded.ensures ∙ recorded-asked named ask bytes read is in
       let waiting = ap (map error_view) c.new-waiting.ensures.items in
       let all = ap (λ es. all_of es own_recorded own_waiting) (refusals-asked named ask bytes read is) ∙ ap (λ es. all_of (error_tokens s) es own_waiting) recorded ∙ ap (λ es. all_of (error_tokens s) s.errors.recorded es) waiting in
@@ -140,29 +121,5 @@ returns g c = record {
           is_shown = subst (λ cs. IsShown bytes (kept_tokens s) cs (map view found) ask.asked.colours lines.lines) (comments-asked named ask bytes read is) with_kept;
           holds = adds-on before between after first.out.items told.out.items last.out.items [] (shown_head ask file ++ whole_text ask file lines.lines) nothing lines.holds;
         };
-      };
-  canonical = λ ask file bytes of face.
-      let first = c.args.report.now in
-      let unmet = c.tell_unmet.new.report in
-      let told = c.tell_found.new.report in
-      let last = c.write_gathered.new.report in
-      let named = c.args.named in
-      let read = c.in_ok-read.read in
-      let before = g.W.Write.contents c.args.out.now in
-      let between = g.W.Write.contents c.tell_found.new.out in
-      let after = g.W.Write.contents c.write_gathered.new.out in
-      let there = stays-of ask file bytes first unmet c.in_ok-tell_unmet.ensures.stays of in
-      let here = stays-of ask file bytes unmet told c.in_ok-tell_found.ensures.stays there in
-      let quiet = c.in_ok-tell_found.ensures.adds (ap (λ l. writes_errors l.asked.face) there.look ∙ ap writes_errors face) in
-      let nothing = subst (λ items. Adds before between items told.out.items []) (ap (λ v. v.items) c.in_ok-tell_unmet.ensures.out) quiet in
-      let asked = ap (λ l. l.asked) of.look in
-      let collected = ap (λ b. asks.settings b first.asked.options) (c.collects_comments.ensures ∙ ap (λ a. collects_comments a.face) asked ∙ ap collects_comments face) in
-      let is = read-as-asked false named ask bytes first.text.now (rule_of c.slashes_at-slashes.result) c.settings-settings.result c.context-context.result read
-      c.slashes_at-slashes.ensures.rule (c.settings-settings.ensures ∙ collected ∙ ap (λ a. asks.settings false a.options) asked) (c.context-context.ensures ∙ ap (λ a. asks.context a.options) asked) of.text c.in_ok-read.ensures in
-      let written = c.in_ok-write_gathered.ensures.canonical ask file bytes (rule_at named) here face is.gathers in
-      record {
-        told = written.told;
-        is_told = written.is_told;
-        holds = adds-on before between after first.out.items told.out.items last.out.items [] (canon_written ask file written.told) nothing written.holds;
       };
 }

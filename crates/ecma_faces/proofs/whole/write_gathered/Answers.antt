@@ -1,13 +1,9 @@
 use Rattle.std.proofs.Common.{◌∙◌, ap}
 use Rattle.ecma_faces.proofs.whole.write_gathered.Goals as goal
 
-pub returns-in-Show-clause-shown : goal.returns-in-Show-clause-shown
-returns-in-Show-clause-shown g c = λ ask file bytes of face. c.write_shown.ensures ask file bytes of
-
 pub returns-in_default : goal.returns-in_default
 returns-in_default g c = record {
   classes = λ ask file bytes of face. absurd (c.in_default.not-Classes (ap (λ l. l.asked.face) of.look ∙ face));
   html = λ ask file bytes of face. absurd (c.in_default.not-Html (ap (λ l. l.asked.face) of.look ∙ face));
-  shown = λ ask file bytes of face. absurd (c.in_default.not-Show (ap (λ l. l.asked.face) of.look ∙ face));
-  canonical = λ ask file bytes rule of face gathers. c.write_canon_of.ensures ask file bytes rule of gathers;
+  shown = λ ask file bytes of face. c.write_shown.ensures ask file bytes of;
 }

@@ -1,4 +1,4 @@
-use Rattle.std.proofs.Common.{◌≡◌, ◌∙◌, ◌++◌, Some, ap, sym}
+use Rattle.std.proofs.Common.{◌∙◌, ◌++◌, ap, sym}
 use Rattle.ecma_print.specs.Rows.{attributes_text}
 use Rattle.ecma_print.proofs.ObjectLemmas.{behind}
 use Rattle.ecma_print.proofs.written.push_attributes.Goals as goal

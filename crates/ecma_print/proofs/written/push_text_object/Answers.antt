@@ -1,10 +1,15 @@
-use Rattle.std.proofs.Common.{◌≡◌, ◌∙◌, ◌++◌, ap}
-use Rattle.ecma_print.proofs.ObjectLemmas.{behind, text_parts, text-parts-object}
+use Rattle.std.proofs.Common.{◌∙◌, ◌++◌, ap}
+use Rattle.ecma_print.specs.Rows.{text_begin, text_end, text_part}
+use Rattle.ecma_print.proofs.ObjectLemmas.{behind, text-in-parts}
 use Rattle.ecma_print.proofs.written.push_text_object.Goals as goal
 
 pub returns : goal.returns
 returns c =
-    let added : c.push.new.self.items ≡ c.args.out.now.items ++ text_parts c.args.file.now c.args.bytes.now =
-    (behind c.args.out.now.items c.push_text_member.new.out.items c.push.new.self.items _ _ c.in_ok-push_text_member.ensures
-    (behind c.push_text_member.new.out.items c.push_bytes_member.new.out.items c.push.new.self.items _ _ c.in_ok-push_bytes_member.ensures c.in_ok-push.ensures.items)) in
-    added ∙ ap (λ text. c.args.out.now.items ++ text) (text-parts-object c.args.file.now c.args.bytes.now)
+    let before = c.args.out.now.items in
+    let begun = c.push_text_begin.new.out.items in
+    let ended = c.push_text_end.new.out.items in
+    let file = c.args.file.now in
+    let bytes = c.args.bytes.now in
+    behind before begun ended (text_begin file) (text_part bytes ++ text_end) c.in_ok-push_text_begin.ensures
+    (behind begun c.push_text_part.new.out.items ended (text_part bytes) text_end c.in_ok-push_text_part.ensures c.in_ok-push_text_end.ensures)
+    ∙ ap (λ text. before ++ text) (text-in-parts file bytes)

@@ -1,4 +1,4 @@
-use Rattle.std.proofs.Common.{◌≡◌, ◌∙◌, ◌+◌, ◌<◌, ◌^◌, ap, sym, arith, subst, min, length}
+use Rattle.std.proofs.Common.{◌≡◌, ◌∙◌, ◌+◌, ap, arith, subst, min, length}
 use Rattle.ecma_print.specs.Lines.{Counts}
 use Rattle.ecma_print.specs.declared.lines.Lines.{Lines}
 use Rattle.ecma_print.proofs.LineLemmas.{position-is}

@@ -1,6 +1,6 @@
-use Rattle.std.proofs.Common.{◌≡◌, ◌∙◌, ◌+◌, ◌*◌, ◌<◌, ◌≤◌, ◌^◌, ℕ, ap, arith, drop, length, min, sym, take}
+use Rattle.std.proofs.Common.{◌≡◌, ◌∙◌, ◌+◌, ◌<◌, ◌^◌, ℕ, ap, arith, drop, sym, take}
 use Rattle.std.specs.Prelude.{slice_range}
-use Rattle.ecma_positions.specs.Columns.{position_by, utf16_behind}
+use Rattle.ecma_positions.specs.Columns.{position_by}
 use Rattle.ecma_positions.specs.Positions.{last_line}
 use Rattle.ecma_positions.specs.Units.{utf16_length}
 use Rattle.ecma_positions.specs.declared.position.Position.{Position}

@@ -1,4 +1,4 @@
-use Rattle.std.proofs.Common.{◌≡◌, ◌∙◌, ◌+◌, ◌*◌, ◌≤◌, ap, arith, length, sym}
+use Rattle.std.proofs.Common.{◌≡◌, ◌∙◌, ◌≤◌, ap, arith, sym}
 use Rattle.std.specs.Prelude.{slice_range}
 use Rattle.ecma_positions.specs.Units.{utf16_length}
 use Rattle.ecma_print.proofs.LineLemmas.{few-units, more-units, slice-long}
