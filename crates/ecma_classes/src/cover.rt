@@ -83,6 +83,7 @@ impl<'k> Cover<'k> {
     }
 
     /// The next piece. It does not allocate.
+    #[inline(always)]
     pub fn next(&mut self) -> Option<Piece>
         ensures { MatchOption result ((self.old ≡ []) × (self.new ≡ [])) (λ piece. self.old ≡ piece ∷ self.new) }
     {

@@ -81,6 +81,7 @@ impl<'t> Markup<'t> {
     /// # Errors
     ///
     /// `AllocError` where allocation fails for the bytes, of which a part may then be there. The piece is taken all the same.
+    #[inline(always)]
     pub fn push_next(&mut self, out: &mut Vec<u8>) -> Result<bool, AllocError>
         ensures added { AreInOrder self.old.places → OnOk result (Moves out.old.items out.new.items self.old self.new) }
         ensures shorter { IfOk result (λ more. more ≡ true → length self.new.pieces < length self.old.pieces) }

@@ -309,6 +309,7 @@ impl<'a> Report<'a> {
     /// # Errors
     ///
     /// `AllocError` where allocation fails; a part of what was to be added may then be there.
+    #[inline(always)]
     pub fn push_part(&mut self, bytes: &[u8]) -> Result<(), AllocError>
         ensures added { OnOk result (self.new.out.items ≡ self.old.out.items ++ whole_part (look_of self.old) bytes.now) }
         ensures stays { Stays self.old self.new }
