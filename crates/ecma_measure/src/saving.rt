@@ -3,6 +3,7 @@ use crate::command::Saves;
 use ecma_slashes::{Slashes, read_telling};
 use ecma_stdio::Fault;
 use ecma_stream::{Checkpoint, Lexer};
+use ecma_token::TokenAndSpan;
 use std::alloc::AllocError;
 
 /// Lets go of what was kept. A call of its own, as is each of the four: what one writes is then no cost of another.
@@ -46,21 +47,37 @@ fn save(lexer: &mut Lexer, saves: Saves, kept: &mut Option<Checkpoint>) -> Resul
     }
 }
 
-/// Reads to the end, and each slash again that the lexer's flag names, with a save every so many tokens. Says how many tokens
-/// there are.
-pub fn read_out_saving(lexer: &mut Lexer, saves: Saves, every: u64) -> Result<u64, Fault> {
-    let mut slot = None;
-    let mut kept = None;
-    for before in 0..u64::MAX {
-        if before % every.max(1) == 0 {
-            save(lexer, saves, &mut kept)?;
-        }
+/// Reads so many tokens, and each slash again that the lexer's flag names. Says how many there were.
+fn read_some<'a>(
+    lexer: &mut Lexer<'a>,
+    slot: &mut Option<TokenAndSpan<'a>>,
+    most: u64,
+) -> Result<u64, Fault> {
+    for before in 0..most {
         if lexer.reads_again() {
             return Err(Fault::NoSlash);
         }
-        read_telling(lexer, &mut slot, Slashes::ByFlag)?;
+        read_telling(lexer, slot, Slashes::ByFlag)?;
         if slot.is_none() {
             return Ok(before);
+        }
+    }
+    Ok(most)
+}
+
+/// Reads to the end, and each slash again that the lexer's flag names, with a save every so many tokens. Says how many tokens
+/// there are.
+pub fn read_out_saving(lexer: &mut Lexer, saves: Saves, every: u64) -> Result<u64, Fault> {
+    let every = every.max(1);
+    let mut slot = None;
+    let mut kept = None;
+    let mut tokens = 0u64;
+    for _ in 0..u64::MAX {
+        save(lexer, saves, &mut kept)?;
+        let read = read_some(lexer, &mut slot, every)?;
+        tokens = tokens.checked_add(read).ok_or(Fault::TooLong)?;
+        if read < every {
+            return Ok(tokens);
         }
     }
     Err(Fault::TooLong)
