@@ -1,1 +1,2 @@
 pub mod ContextPairLemmas
+pub mod SharedPairsLemmas

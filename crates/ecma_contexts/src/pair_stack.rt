@@ -7,8 +7,8 @@ use crate::shared_pairs::SharedPairs;
 use std::alloc::{AllocError, Global};
 use std::marker::Model;
 
-/// How many pairs at a time go between those in the value and those that copies share. There is then room on either
-/// side, so that no few calls back and forth move pairs again.
+/// How many of the outermost pairs go at a time from those in the value to those that copies share. Enough stay that no few
+/// calls back and forth reach the shared ones.
 const MOVED: usize = 32;
 
 /// Pairs, the innermost last. Up to 63 do not allocate, and a copy never does.
@@ -52,20 +52,6 @@ fn move_out(
     Ok(())
 }
 
-/// Takes the innermost pair off, where none is near, and moves those right around it near.
-#[inline(never)]
-fn move_in(near: &mut NearPairs, far: &mut SharedPairs) -> Option<ContextPair>
-    requires { near.old ≡ [] }
-    ensures { MatchOption result
-        ((far.old ≡ []) × (far.new ++ near.new ≡ []))
-        (λ pair. far.old ≡ (far.new ++ near.new) ++ pair ∷ []) }
-{
-    let kept = far.len().saturating_sub(MOVED);
-    near.extend(&far.as_slice()[kept..]);
-    far.shorten(kept);
-    near.pop()
-}
-
 impl PairStack {
     /// No pairs, which does not allocate.
     pub(crate) fn new(alloc: Global) -> PairStack
@@ -93,7 +79,7 @@ impl PairStack {
     {
         match self.near.as_slice().last() {
             Some(pair) => Some(*pair),
-            None => self.far.as_slice().last().copied(),
+            None => self.far.last(),
         }
     }
 
@@ -122,7 +108,7 @@ impl PairStack {
     {
         match self.near.pop() {
             Some(pair) => Some(pair),
-            None => move_in(&mut self.near, &mut self.far),
+            None => self.far.pop(),
         }
     }
 
