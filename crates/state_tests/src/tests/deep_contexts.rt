@@ -128,15 +128,31 @@ fn go_on(rt: &impl Abort, alloc: Global, copy: Beside, round: usize) -> Result<(
     go_with_copy(rt, alloc, &mut copy, round)
 }
 
+fn assert_all_go_on(rt: &impl Abort, alloc: Global, depths: &[usize]) -> Result<(), AllocError> {
+    let copies = copies(rt, alloc, depths)?;
+    for (round, copy) in copies.into_iter().enumerate() {
+        go_on(rt, alloc, copy, round)?;
+    }
+    Ok(())
+}
+
 #[test]
 fn copies_of_deep_contexts_go_on_by_themselves(rt: HostRuntime) -> Result<(), Fail> {
     // Around the depths at which pairs move: 64 pairs and more, and down to none near.
     const DEPTHS: &[usize] = &[
         127, 128, 129, 130, 120, 66, 64, 60, 131, 195, 130, 260, 126, 62, 300, 301, 1, 192, 0, 257,
     ];
-    let copies = copies(&rt, rt.alloc(), DEPTHS)?;
-    for (round, copy) in copies.into_iter().enumerate() {
-        go_on(&rt, rt.alloc(), copy, round)?;
-    }
+    assert_all_go_on(&rt, rt.alloc(), DEPTHS)?;
+    Ok(())
+}
+
+#[test]
+fn copies_of_contexts_in_several_blocks_go_on_by_themselves(rt: HostRuntime) -> Result<(), Fail> {
+    // Around the depths at which a block of 4,096 contexts is full: with up to 128 more that are in no block.
+    const DEPTHS: &[usize] = &[
+        4_097, 4_161, 4_162, 4_224, 4_225, 4_290, 4_160, 4_098, 4_095, 8_300, 8_322, 4_100, 8_420,
+        200, 12_700, 0, 4_226,
+    ];
+    assert_all_go_on(&rt, rt.alloc(), DEPTHS)?;
     Ok(())
 }
