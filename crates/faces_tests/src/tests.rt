@@ -1,11 +1,6 @@
-//! Rows of slashes by the flag, of HTML and pages, of what is imported, of lines and columns, and of what is reported.
+//! Rows of what the faces of `ecma` write, of HTML and pages, and of what is imported.
 
 mod faces;
 mod markup;
-mod numbers;
 mod pages;
-mod positions;
-mod report;
-mod roles;
-mod slashes;
 mod specifiers;

@@ -1,3 +1,4 @@
 //! Rows of lines and columns.
 
+mod line_starts;
 mod positions;

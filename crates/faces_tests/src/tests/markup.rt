@@ -1,7 +1,7 @@
 //! Rows of texts as HTML.
 use ecma_html::html_text;
-use ecma_lexer::Settings;
 use ecma_place::{BytePos, StringInput};
+use ecma_state::Settings;
 use ecma_syntax::{Context, EsVersion, NumberRule, Syntax};
 use std::alloc::{AllocError, Global};
 use std::test::Fail;

@@ -1,7 +1,7 @@
 //! Rows of what texts import.
 use ecma_imports::imports_text;
-use ecma_lexer::Settings;
 use ecma_place::{BytePos, StringInput};
+use ecma_state::Settings;
 use ecma_syntax::{Context, EsVersion, NumberRule, Syntax, TsSyntax};
 use std::alloc::{AllocError, Global};
 use std::test::Fail;

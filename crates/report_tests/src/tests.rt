@@ -1,0 +1,3 @@
+//! Rows of what is reported.
+
+mod report;

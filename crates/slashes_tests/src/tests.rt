@@ -1,0 +1,5 @@
+//! Rows of slashes.
+
+mod numbers;
+mod roles;
+mod slashes;
