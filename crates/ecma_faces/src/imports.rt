@@ -1,11 +1,10 @@
 //! Rows of what is imported and exported.
-ghost use Rattle.std.specs.Prelude.{◌≡◌, ◌++◌, ◌<◌, ◌^◌, List, [], false, length, map, option_map, ℕ, IfOk, OnOk};
-ghost use Rattle.ecma_token.specs.View.{spanned_view};
+ghost use Rattle.std.specs.Prelude.{◌≡◌, ◌++◌, ◌<◌, ◌^◌, List, [], false, length, map, ℕ, IfOk, OnOk};
 ghost use Rattle.ecma_module_table.specs.declared.rows.ModuleOptions.{ModuleOptions};
-ghost use Rattle.ecma_modules.specs.Modules.{exports_of, gathered, gathered_over, imports_of};
+ghost use Rattle.ecma_modules.specs.Modules.{exports_of, gathered, imports_of};
 ghost use Rattle.ecma_state.specs.Session.{Session, kept_of};
 ghost use Rattle.ecma_slashes.specs.Rereads.{SlashRule};
-ghost use Rattle.ecma_reader.specs.Readers.{IsReady, Shows, tokens_by, tokens_found};
+ghost use Rattle.ecma_reader.specs.Readers.{IsReady, Shows, tokens_by};
 ghost use Rattle.ecma_print.specs.Rows.{text_behind};
 ghost use Rattle.ecma_faces.specs.Modules as rows;
 ghost use Rattle.ecma_faces.specs.Modules.{export_rows, import_rows, kept_by};
@@ -22,8 +21,7 @@ use ecma_report::faults::keep_error;
 use ecma_report::report::{More, Report, Row, Stop};
 use ecma_report::slashes::open;
 use ecma_report::words::{Asked, Named};
-use ecma_state::Kept;
-use ecma_token::{Error, TokenAndSpan};
+use ecma_token::Error;
 use std::alloc::AllocError;
 use std::io::Write;
 
@@ -131,16 +129,6 @@ fn push_exports<W: Write>(report: &mut Report, exports: &[Export], out: &mut W) 
     Ok(())
 }
 
-/// Gathers what the token that was read tells, if there is one.
-fn gather_slot(gathering: &mut Gathering, slot: &Option<TokenAndSpan>) -> Result<(), AllocError>
-    ensures { OnOk result (gathering.new ≡ gathered_over gathering.old (map kept_of (tokens_found (option_map spanned_view slot.now)))) }
-{
-    if let Some(token) = slot {
-        gathering.take(&Kept::of(token))?;
-    }
-    Ok(())
-}
-
 /// Reads to the end, gathers what each token tells, and keeps the errors of tokens.
 fn gather_tokens<'a>(
     reader: &mut Reader<'a>,
@@ -153,7 +141,7 @@ fn gather_tokens<'a>(
 {
     let mut slot = None;
     'tokens: while reader.read_into(&mut slot)? {
-        gather_slot(gathering, &slot)?;
+        gathering.take_read(&slot)?;
         keep_error(errors, &mut slot)?;
     }
     Ok(())

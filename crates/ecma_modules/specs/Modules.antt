@@ -65,10 +65,10 @@ gathering s imports exports = record { scan = s; imports = imports; exports = ex
 abbrev pub gathered_with : GatheringView → Kept → GatheringView
 gathered_with g k = gathering (scanned g.scan k) (imports_behind (told g.scan k).import g.imports) (exports_behind (told g.scan k).export g.exports)
 
--- what is gathered of tokens behind others
-abbrev pub gathered_over : GatheringView → List Kept → GatheringView
-gathered_over g [] = g
-gathered_over g (k ∷ ks) = gathered_over (gathered_with g k) ks
+-- the same of the token that was read, if there is one
+abbrev pub gathered_read : GatheringView → Option Kept → GatheringView
+gathered_read g None = g
+gathered_read g (Some k) = gathered_with g k
 
 abbrev pub gathered : ModuleOptions → List Kept → GatheringView
 gathered options kept = gathering (scan_of options kept) (imports_over (first_scan options) [] kept) (exports_over (first_scan options) [] kept)

@@ -1,11 +1,14 @@
 //! The imports and exports of all tokens of a text.
-ghost use Rattle.std.specs.Prelude.{◌≡◌, [], length, IfOk, OnOk};
+ghost use Rattle.std.specs.Prelude.{◌≡◌, [], length, option_map, IfOk, OnOk};
+ghost use Rattle.ecma_token.specs.View.{spanned_view};
+ghost use Rattle.ecma_state.specs.Session.{kept_in};
 ghost use Rattle.ecma_modules.specs.Modules as modules;
 ghost use Rattle.ecma_modules.specs.Scans as scans;
 
 use crate::scan::Scan;
 use ecma_module_table::rows::{Export, Import, ImportTold, ModuleOptions};
 use ecma_state::Kept;
+use ecma_token::TokenAndSpan;
 use std::alloc::{AllocError, Global};
 use std::marker::Model;
 
@@ -121,6 +124,20 @@ impl Gathering {
             return Ok(());
         }
         self.take_told(token)
+    }
+
+    /// Takes the token that was read, if there is one.
+    ///
+    /// # Errors
+    ///
+    /// As of [`Gathering::take`].
+    pub fn take_read(&mut self, read: &Option<TokenAndSpan>) -> Result<(), AllocError>
+        ensures { OnOk result (self.new ≡ modules.gathered_read self.old (kept_in (option_map spanned_view read.now))) }
+    {
+        match read {
+            Some(token) => self.take(&Kept::of(token)),
+            None => Ok(()),
+        }
     }
 
     /// What all tokens import and export, behind the last of them.

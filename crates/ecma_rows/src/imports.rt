@@ -1,11 +1,10 @@
 //! What a text imports and exports, as rows.
-ghost use Rattle.std.specs.Prelude.{◌≡◌, Ok, [], false, map, option_map, IfOk, OnErr, OnOk};
-ghost use Rattle.ecma_token.specs.View.{spanned_view};
+ghost use Rattle.std.specs.Prelude.{◌≡◌, Ok, [], false, map, IfOk, OnErr, OnOk};
 ghost use Rattle.ecma_module_table.specs.declared.rows.ModuleOptions.{ModuleOptions};
-ghost use Rattle.ecma_modules.specs.Modules.{gathered, gathered_over};
+ghost use Rattle.ecma_modules.specs.Modules.{gathered};
 ghost use Rattle.ecma_state.specs.Session.{Session, kept_of};
 ghost use Rattle.ecma_slashes.specs.Rereads.{SlashRule};
-ghost use Rattle.ecma_reader.specs.Readers.{HasRead, IsReady, Shows, tokens_by, tokens_found};
+ghost use Rattle.ecma_reader.specs.Readers.{HasRead, IsReady, Shows, tokens_by};
 ghost use Rattle.ecma_rows.specs.Asked.{asked_view, judged, place_at};
 ghost use Rattle.ecma_rows.specs.ModuleRows as rows;
 ghost use Rattle.ecma_rows.specs.ModuleRows.{TellsModule, module_told};
@@ -19,8 +18,6 @@ use crate::room::put;
 use ecma_module_table::rows::{Export, Import, ModuleOptions};
 use ecma_modules::{Gathering, Module};
 use ecma_reader::Reader;
-use ecma_state::Kept;
-use ecma_token::TokenAndSpan;
 use std::alloc::{AllocError, Global};
 
 /// What a call came to, how many rows of imports and of exports there are, also where there is no room for all of them,
@@ -50,16 +47,6 @@ impl ModuleAnswer {
     }
 }
 
-/// Gathers what the token that was read tells, if there is one.
-fn gather_slot(gathering: &mut Gathering, slot: &Option<TokenAndSpan>) -> Result<(), AllocError>
-    ensures { OnOk result (gathering.new ≡ gathered_over gathering.old (map kept_of (tokens_found (option_map spanned_view slot.now)))) }
-{
-    if let Some(token) = slot {
-        gathering.take(&Kept::of(token))?;
-    }
-    Ok(())
-}
-
 /// Reads to the end, and gathers what each token tells.
 fn gather_tokens(reader: &mut Reader, gathering: &mut Gathering) -> Result<(), AllocError>
     requires ready { IsReady reader.old }
@@ -70,7 +57,7 @@ fn gather_tokens(reader: &mut Reader, gathering: &mut Gathering) -> Result<(), A
 {
     let mut slot = None;
     'tokens: while reader.read_into(&mut slot)? {
-        gather_slot(gathering, &slot)?;
+        gathering.take_read(&slot)?;
     }
     Ok(())
 }

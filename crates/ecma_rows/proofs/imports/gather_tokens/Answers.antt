@@ -1,7 +1,5 @@
-use Rattle.std.proofs.Common.{ap}
 use Rattle.std.specs.Prelude.{option_map}
 use Rattle.ecma_token.specs.View.{spanned_view}
-use Rattle.ecma_reader.specs.Readers.{tokens_found}
 use Rattle.ecma_reader.proofs.FoldLemmas.{told-end, told-next, told-start}
 use Rattle.ecma_modules.proofs.TokenLemmas.{Gathers, gathered-token}
 use Rattle.ecma_rows.proofs.imports.gather_tokens.Goals as goal
@@ -22,9 +20,9 @@ tokens-preserved c =
       ok.ready c.if-branch.true,
       λ rule begin options shows so.
           let tells = c.tokens.invariant.1 rule begin options shows so in
-          told-next rule begin (Gathers options c.tokens.gathering) (Gathers options c.gather_slot.new.gathering) c.tokens.reader c.read_into.new.self found _ tells
+          told-next rule begin (Gathers options c.tokens.gathering) (Gathers options c.take_read.new.self) c.tokens.reader c.read_into.new.self found _ tells
           (ok.reads rule begin tells.tokens tells.shows) c.if-branch.true
-          (λ t is told. gathered-token options c.tokens.gathering c.gather_slot.new.gathering (tokens_found found) tells.tokens t told (ap tokens_found is) c.in_ok-gather_slot.ensures),
+          (λ t is told. gathered-token options c.tokens.gathering c.take_read.new.self found tells.tokens t told is c.in_ok-take_read.ensures),
     )
 
 pub returns-clause-gathered : goal.returns-clause-gathered
