@@ -13,7 +13,7 @@ use Rattle.ecma_comments.specs.declared.comments_buffer.BufferedComment.{Buffere
 use Rattle.ecma_contexts.specs.Contexts.{Contexts}
 use Rattle.ecma_grammar.specs.Found.{Fault}
 use Rattle.ecma_state.specs.Disposition.{Disposition, Dropped, Errors, Recorded, Waiting, disposed, disposition, with_fault, with_faults}
-use Rattle.ecma_state.specs.Run.{act_all, act_on, at_place, popped_from, reading_of, reread_from}
+use Rattle.ecma_state.specs.Run.{act_all, act_on, at_place, popped_from, reading_of, reread_from, state_behind}
 use Rattle.ecma_state.specs.Session.{LexerState, Session, seen_of, state_of}
 use Rattle.ecma_state.specs.State.{last_slash}
 use Rattle.ecma_state.specs.TokenAt.{is_empty}
@@ -65,7 +65,7 @@ faults-begin context first all (f ∷ faults) begins =
 
 -- Going on
 
-same-on : (l : LexerState) → GoesOn l l
+pub same-on : (l : LexerState) → GoesOn l l
 same-on l = record {
   settings = refl;
   begin = refl;
@@ -76,7 +76,7 @@ same-on l = record {
   comments = begins-same l.comments;
 }
 
-kept-on : (l m : LexerState) → m.settings ≡ l.settings → m.input ≡ l.input → m.state.start ≡ l.state.start → m.errors ≡ l.errors → m.comments ≡ l.comments → GoesOn l m
+pub kept-on : (l m : LexerState) → m.settings ≡ l.settings → m.input ≡ l.input → m.state.start ≡ l.state.start → m.errors ≡ l.errors → m.comments ≡ l.comments → GoesOn l m
 kept-on l m settings input start errors comments = record {
   settings = settings;
   begin = ap (λ c. c.start) input;
@@ -87,7 +87,7 @@ kept-on l m settings input start errors comments = record {
   comments = rw comments (begins-same l.comments);
 }
 
-further-on : (l m n : LexerState) → GoesOn l m → GoesOn m n → GoesOn l n
+pub further-on : (l m n : LexerState) → GoesOn l m → GoesOn m n → GoesOn l n
 further-on l m n one two = record {
   settings = two.settings ∙ one.settings;
   begin = two.begin ∙ one.begin;
@@ -98,11 +98,10 @@ further-on l m n one two = record {
   comments = begins-further l.comments m.comments n.comments one.comments two.comments;
 }
 
-read-on : (s : Session) → GoesOn (state_of s) (state_of (act_on s Read))
-read-on s =
-    let r = reading_of (state_of s) in
-    let from = reads-from (state_of s) in
-    let errors = faults-begin s.context s.errors s.errors r.faults (record { recorded = begins-same s.errors.recorded; waiting = begins-same s.errors.waiting }) in
+pub reading-on : (l : LexerState) → GoesOn l (state_behind l (reading_of l))
+reading-on l =
+    let from = reads-from l in
+    let errors = faults-begin l.context l.errors l.errors (reading_of l).faults (record { recorded = begins-same l.errors.recorded; waiting = begins-same l.errors.waiting }) in
     record {
       settings = refl;
       begin = from.start;
@@ -110,8 +109,13 @@ read-on s =
       start = refl;
       recorded = errors.recorded;
       waiting = errors.waiting;
-      comments = take-append_seam s.comments _;
+      comments = take-append_seam l.comments _;
     }
+
+read-on : (s : Session) → GoesOn (state_of s) (state_of (act_on s Read))
+read-on s =
+    let on = reading-on (state_of s) in
+    record { settings = refl; begin = on.begin; text = on.text; start = refl; recorded = on.recorded; waiting = on.waiting; comments = on.comments }
 
 context-on : (s : Session) (context : Context) → (not context.«module» || is_empty s.errors.waiting) ≡ true → GoesOn (state_of s) (state_of (act_on s (SetCtx context)))
 context-on s context none = go context.«module» s.errors.waiting refl none

@@ -13,6 +13,8 @@ use Rattle.ecma_state.specs.declared.step.Step.TheVariants.{Read}
 use Rattle.ecma_stream.specs.Ending.{most_tokens}
 use Rattle.ecma_stream.specs.Slashes.{slash_answered}
 use Rattle.ecma_stream.proofs.EndingLemmas.{end_found, state-behind, tokens_run_out}
+use Rattle.ecma_rewinding.specs.Rewinding.{GoesOn}
+use Rattle.ecma_rewinding.proofs.RewindingLemmas.{further-on, kept-on, reading-on}
 use Rattle.ecma_slashes.specs.Known.{Known, expected_by}
 use Rattle.ecma_slashes.specs.Rereads.{ReadsBy, SlashRule, are_free_by, behind_by, expects_next, found_by, is_free, known_by, last_read, meets_expression, names, names_answer, read_steps}
 use Rattle.ecma_slashes.specs.Roles.{is_assign}
@@ -195,3 +197,16 @@ twice-free rule s l next asked p first t at track before named moved told sets f
     let again : is_free (last_read true s) ≡ true = ap (λ b. is_free (last_read b s)) (sym meets) ∙ both.1 in
     let few = and_parts (nat_lt (length (last_read true s).contexts) 128) (is_free_read (state_of (last_read true s))) again in
     subst (λ x. (length x.state.contexts < 128) × (is_free_read x ≡ true)) (sym begins) (ltb-true (length (last_read true s).contexts) 128 few.0, few.1)
+
+-- Where memory is refused, nothing of what was before the read is lost
+
+pub refused-first : (l refused : LexerState) → refused ≡ record l { refused = true } → GoesOn l refused
+refused-first l refused so = subst (GoesOn l) (sym so) (kept-on l (record l { refused = true }) refl refl refl refl refl)
+
+pub refused-again : (l next asked refused done : LexerState) (slash : Option BytePos) → next ≡ state_behind l (reading_of l) → asked ≡ state_rereading slash next → refused ≡ record asked { refused = true }
+    → done ≡ state_rereading None refused → GoesOn l done
+refused-again l next asked refused done slash moved sets so withdrawn =
+    further-on l next done (subst (GoesOn l) (sym moved) (reading-on l)) (subst (GoesOn next) (sym whole) (kept-on next (state_rereading None (record (state_rereading slash next) { refused = true })) refl refl refl refl refl))
+  where
+    whole : done ≡ state_rereading None (record (state_rereading slash next) { refused = true })
+    whole = withdrawn ∙ ap (state_rereading None) (so ∙ ap (λ (m : LexerState). record m { refused = true }) sets)

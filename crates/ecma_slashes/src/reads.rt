@@ -7,6 +7,7 @@ ghost use Rattle.ecma_state.specs.Run.{act_all};
 ghost use Rattle.ecma_state.specs.Session.{Session, lexer_state, state_of};
 ghost use Rattle.ecma_stream.specs.View.{IsGivenAs};
 ghost use Rattle.ecma_stream.specs.Ending.{most_tokens};
+ghost use Rattle.ecma_rewinding.specs.Rewinding.{GoesOn};
 ghost use Rattle.ecma_slashes.specs.Rereads.{Decides, HasRoom, MayName, NamesAs, PassesBy, ReadsBy, SlashRule, StepsOn, are_free_by, behind_by, is_in_order, meets_expression, names, rereads, rule_of, says, steps_to_end_by, text_steps_by};
 
 use crate::decider::{Decider, Namer};
@@ -37,6 +38,7 @@ pub(crate) fn read_naming<'a>(
     ensures refused { lexer.old.refused ≡ true → (result ≡ Err alloc_error) × (lexer.new ≡ lexer.old) }
     ensures refusal { OnErr result (lexer.new.refused ≡ true) }
     ensures given { OnErr result (IsGivenAs lexer.old lexer.new) }
+    ensures on { OnErr result (GoesOn (lexer_state lexer.old) (lexer_state lexer.new)) }
     ensures free { (rule : SlashRule) (s : Session) → state_of s ≡ lexer_state lexer.old → NamesAs rule s (says namer.entry) → lexer.old.refused ≡ false → are_free_by rule s ≡ true → IsOk result }
     ensures ended { lexer.old.refused ≡ false → rest lexer.old.input ≡ [] → IsOk result }
 {
@@ -71,6 +73,7 @@ fn read_plainly<'a>(
     ensures refused { lexer.old.refused ≡ true → (result ≡ Err alloc_error) × (lexer.new ≡ lexer.old) }
     ensures refusal { OnErr result (lexer.new.refused ≡ true) }
     ensures given { OnErr result (IsGivenAs lexer.old lexer.new) }
+    ensures on { OnErr result (GoesOn (lexer_state lexer.old) (lexer_state lexer.new)) }
     ensures free { (rule : SlashRule) (s : Session) → state_of s ≡ lexer_state lexer.old → NamesAs rule s (λ allowed is_assign p. names (rule_of slashes.entry) allowed false p) → lexer.old.refused ≡ false → are_free_by rule s ≡ true → IsOk result }
     ensures ended { lexer.old.refused ≡ false → rest lexer.old.input ≡ [] → IsOk result }
 {
@@ -94,6 +97,7 @@ fn read_knowing<'a>(
     ensures no_reread { OnOk result (lexer.new.reread ≡ None) }
     ensures refused { lexer.old.refused ≡ true → (result ≡ Err alloc_error) × (lexer.new ≡ lexer.old) }
     ensures given { OnErr result (IsGivenAs lexer.old lexer.new) }
+    ensures on { OnErr result (GoesOn (lexer_state lexer.old) (lexer_state lexer.new)) }
     ensures err { OnErr result (((lexer.new ≡ lexer.old) × (slot.new ≡ slot.old) × (decider.new ≡ decider.old)) ⊎ (lexer.new.refused ≡ true)) }
     ensures decides_still { (rule : SlashRule) (s : Session) → Decides rule s decider.old → OnErr result (Decides rule s decider.new) }
     ensures free { (rule : SlashRule) (s : Session) → state_of s ≡ lexer_state lexer.old → Decides rule s decider.old → HasRoom decider.old.track → lexer.old.refused ≡ false → are_free_by rule s ≡ true → IsOk result }
@@ -133,6 +137,7 @@ pub fn read_deciding<'a>(
     ensures no_reread { OnOk result (lexer.new.reread ≡ None) }
     ensures refused { lexer.old.refused ≡ true → (result ≡ Err alloc_error) × (lexer.new ≡ lexer.old) }
     ensures given { OnErr result (IsGivenAs lexer.old lexer.new) }
+    ensures on { OnErr result (GoesOn (lexer_state lexer.old) (lexer_state lexer.new)) }
     ensures err { OnErr result (((lexer.new ≡ lexer.old) × (slot.new ≡ slot.old) × (decider.new ≡ decider.old)) ⊎ (lexer.new.refused ≡ true)) }
     ensures decides_still { (rule : SlashRule) (s : Session) → Decides rule s decider.old → OnErr result (Decides rule s decider.new) }
     ensures free { (rule : SlashRule) (s : Session) → state_of s ≡ lexer_state lexer.old → Decides rule s decider.old → HasRoom decider.old.track → lexer.old.refused ≡ false → are_free_by rule s ≡ true → IsOk result }

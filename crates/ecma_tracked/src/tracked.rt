@@ -9,6 +9,7 @@ ghost use Rattle.ecma_state.specs.Session.{Session, lexer_state, state_of};
 ghost use Rattle.ecma_state.specs.declared.step.Step.{Step};
 ghost use Rattle.ecma_stream.specs.Ending.{most_tokens};
 ghost use Rattle.ecma_stream.specs.View.{IsGivenAs};
+ghost use Rattle.ecma_rewinding.specs.Rewinding.{GoesOn};
 ghost use Rattle.ecma_slashes.specs.Known.{expected_by};
 ghost use Rattle.ecma_slashes.specs.Rereads.{entered};
 ghost use Rattle.ecma_tracked.specs.Marks.{back_to, mark_of};
@@ -162,6 +163,8 @@ impl<'a> Tracked<'a> {
         ensures refused { self.old.refused ≡ true → (result ≡ Err alloc_error) × (self.new ≡ self.old) }
         ensures refusal { OnErr result (self.new.refused ≡ true) }
         ensures given { OnErr result (IsGivenAs self.old.lexer self.new.lexer) }
+        // So a checkpoint of before undoes it, as the law `rewinding_undoes` has it.
+        ensures on { OnErr result (GoesOn (lexer_state self.old.lexer) (lexer_state self.new.lexer)) }
         // What is expected is then what was expected before.
         ensures expects_still { (s : Session) → tracked_of s ≡ tracked_state self.old → OnErr result (self.new.known ≡ self.old.known) }
     {
@@ -188,6 +191,8 @@ impl<'a> Tracked<'a> {
         ensures refused { self.old.refused ≡ true → (result ≡ Err alloc_error) × (self.new ≡ self.old) }
         ensures refusal { OnErr result (self.new.refused ≡ true) }
         ensures given { OnErr result (IsGivenAs self.old.lexer self.new.lexer) }
+        // So a checkpoint of before undoes it, as the law `rewinding_undoes` has it.
+        ensures on { OnErr result (GoesOn (lexer_state self.old.lexer) (lexer_state self.new.lexer)) }
         ensures expects_still { (s : Session) → tracked_of s ≡ tracked_state self.old → OnErr result (self.new.known ≡ self.old.known) }
     {
         let mut slot = None;

@@ -3,8 +3,8 @@ use Rattle.std.specs.Prelude.{IsOk, option_map}
 use Rattle.ecma_token.specs.View.{spanned_view}
 use Rattle.ecma_state.specs.Session.{lexer_state}
 use Rattle.ecma_slashes.specs.Rereads.{known_by}
-use Rattle.ecma_slashes.proofs.RoleLemmas.{named}
-use Rattle.ecma_slashes.proofs.TokenLemmas.{end-no-slash, fewer-seen, fewer-twice, lexer-no-slash, lexer-not-named, lexer-twice, never, twice-free}
+use Rattle.ecma_slashes.proofs.RoleLemmas.{in-error, named}
+use Rattle.ecma_slashes.proofs.TokenLemmas.{end-no-slash, fewer-seen, fewer-twice, lexer-no-slash, lexer-not-named, lexer-twice, never, refused-again, refused-first, twice-free}
 use Rattle.ecma_slashes.proofs.reads.read_naming.Goals as goal
 
 pub returns-then-not-names-clause-fewer : goal.returns-then-not-names-clause-fewer
@@ -50,3 +50,11 @@ returns-in_err-again-clause-free c = λ rule s at names going free.
     refl c.in_ok-read_into.ensures.answer (sym c.if-not-names.false ∙ named rule s _ _ _ _ _ c.names.result names c.names.ensures c.expr_allowed-allowed.ensures)
     c.in_ok-read_into.ensures.after (sym c.in-Some.is ∙ c.last_slash.ensures) c.set_next_regexp.ensures free in
     absurd (never (subst IsOk c.in_err-again.was (c.read_into-again.ensures.free refused quiet.0 quiet.1)))
+
+pub returns-in_err-read_into-clause-on : goal.returns-in_err-read_into-clause-on
+returns-in_err-read_into-clause-on c = in-error c.from_residual.result (refused-first _ _ (ap lexer_state c.in_err-read_into.ensures.refusal))
+
+pub returns-in_err-again-clause-on : goal.returns-in_err-again-clause-on
+returns-in_err-again-clause-on c = in-error c.from_residual-in_err-again.result
+    (refused-again _ (lexer_state c.read_into.new.self) (lexer_state c.set_next_regexp.new.self) (lexer_state c.read_into-again.new.self) _ _ c.in_ok-read_into.ensures.after c.set_next_regexp.ensures (ap lexer_state c.in_err-again.ensures.refusal)
+    c.set_next_regexp-2.ensures)
