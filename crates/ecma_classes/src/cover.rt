@@ -13,8 +13,8 @@ use ecma_state::kept::Kept;
 use std::alloc::{AllocError, Global};
 use std::marker::Model;
 
-/// The next mark that begins at a place, or behind it. Those that begin before lie in the piece that ends there, and are passed
-/// over.
+/// The next mark that begins at a place, or behind it. Those that begin before lie in the piece that ends there, and are
+/// passed over.
 fn next_mark(marks: &mut Marks, reached: BytePos) -> Option<Piece>
     ensures { Reaches reached.0 (left marks.old) result (left marks.new) }
 {
@@ -26,7 +26,8 @@ fn next_mark(marks: &mut Marks, reached: BytePos) -> Option<Piece>
     None
 }
 
-/// The pieces that cover a text, in order of place, which are made one at a time. Contracts see it as the list of those to come.
+/// The pieces that cover a text, in order of place, which are made one at a time. Contracts see it as the list of those to
+/// come.
 #[derive(Drop)]
 pub struct Cover<'k> {
     marks: Marks<'k>,
@@ -48,8 +49,8 @@ impl<'k> Model for Cover<'k> {
 }
 
 impl<'k> Cover<'k> {
-    /// The pieces of a text that starts at a place, as of [`classes`], for the same texts, tokens and comments. It holds the places
-    /// of the comments, and no list of pieces.
+    /// The pieces of a text that starts at a place, as of [`classes`], for the same texts, tokens and comments. It holds
+    /// the places of the comments, and no list of pieces.
     ///
     /// # Errors
     ///
@@ -109,12 +110,13 @@ impl<'k> Cover<'k> {
     }
 }
 
-/// The pieces of a text that starts at a place, in order of place: each kept token, each comment outside of all tokens, and as
-/// trivia all that is between two of these. A token or comment whose span is empty has no piece, nor has the empty text. The comments may come in any order, as that of their attachment.
+/// The pieces of a text that starts at a place, in order of place: each kept token, each comment outside of all tokens,
+/// and as trivia all that is between two of these. A token or comment whose span is empty has no piece, nor has the empty
+/// text. The comments may come in any order, as that of their attachment.
 ///
-/// The caller knows that the text fits its places ([`StringInput::fits`](ecma_place::StringInput::fits)); that the tokens lie
-/// in it between places of the text, in order, none over another; that the comments lie in it so, that no byte lies in two of
-/// them, and that each holds no byte, or lies in one token or outside all. No tokens and no comments are so.
+/// The caller knows that the text fits its places ([`StringInput::fits`](ecma_place::StringInput::fits)); that the tokens
+/// lie in it between places of the text, in order, none over another; that the comments lie in it so, that no byte lies in
+/// two of them, and that each holds no byte, or lies in one token or outside all. No tokens and no comments are so.
 ///
 /// # Errors
 ///

@@ -77,8 +77,8 @@ fn token_before(tokens: &[Kept], comment: Option<Piece>) -> Option<(Span, &[Kept
 }
 
 impl<'k> Marks<'k> {
-    /// All of a text: its tokens, which lie in order, and its comments, which may come in any order. A token is before the comments
-    /// that begin where it does.
+    /// All of a text: its tokens, which lie in order, and its comments, which may come in any order. A token is before the
+    /// comments that begin where it does.
     pub(crate) fn new(
         alloc: Global,
         kept: &'k [Kept],

@@ -211,8 +211,8 @@ fn write_measured<'a, W: Write>(
     }
 }
 
-/// Writes the canonical text, and nothing where there is none, and tells of errors. The text is read twice: whether all is clean
-/// is known at its end.
+/// Writes the canonical text, and nothing where there is none, and tells of errors. The text is read twice: whether all is
+/// clean is known at its end.
 pub(crate) fn write_canonical<'a, W: Write>(
     report: &mut Report<'a>,
     named: Named<'a>,

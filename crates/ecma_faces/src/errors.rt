@@ -10,7 +10,13 @@ use ecma_report::words::Named;
 use ecma_token::Error;
 use std::io::Write;
 
-/// Tells of the errors of tokens, and of those that were recorded, where so many slashes were read again.
+/// Takes the errors of tokens and those that were recorded, in any order, and tells of each in order of place, as
+/// [`tell_found`] does. Before them it tells of the places that were named and are no slash's; `rereads` is how many slashes
+/// the reader read again.
+///
+/// # Errors
+///
+/// `OutOfMemory` where allocation fails, `Closed` where a write fails; what was written before stays.
 pub(crate) fn tell_errors<'a, W: Write>(
     report: &mut Report<'a>,
     named: Named<'a>,

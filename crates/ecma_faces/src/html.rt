@@ -31,8 +31,8 @@ fn places_of(alloc: Global, found: &[Found]) -> Result<Vec<BytePos>, AllocError>
     Ok(places)
 }
 
-/// Adds the next piece as a part of a text, and says whether there was one. The vector is for the bytes of a piece that goes into
-/// an object.
+/// Takes the next piece of the markup, adds its HTML to the report as a part of a text, and answers whether there was one.
+/// `own` is room for the HTML of a piece that goes into a JSON object, and what it held before is lost.
 fn push_piece(
     report: &mut Report,
     markup: &mut Markup,

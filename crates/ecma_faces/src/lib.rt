@@ -1,8 +1,9 @@
 //! What `ecma` writes of a text, while the text is read.
 //!
 //! `telling.rt` has the call, `tell`, whose contract says for each face what is written. `tokens.rt` (with `values.rt`),
-//! `comments.rt`, `imports.rt` and `canonical.rt` are loops over a `Reader`, `errors.rt` has what they tell of errors,
-//! `whole.rt` what needs all tokens, and `html.rt` what it writes as HTML. The rows of a report, its errors and its words are in `ecma_report`.
+//! `comments.rt`, `imports.rt` and `canonical.rt` have a loop over a `Reader` each, and `errors.rt` what these tell of
+//! errors. `whole.rt` has the faces that need all tokens first, and `html.rt` writes one of these, HTML, a piece at a time.
+//! The rows of a report, the face of errors and the words of the command are in `ecma_report`.
 #![tactic(auto)]
 
 mod canonical;

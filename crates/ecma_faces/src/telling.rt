@@ -66,8 +66,8 @@ fn write_face<'a, W: Write>(
     }
 }
 
-/// Writes what a report is asked for of its text, while the text is read, and gathers the lines that tell of faults. Which slashes
-/// begin regular expressions is said by `named`, whose places ascend.
+/// Writes what a report is asked for of its text, while the text is read, and gathers the lines that tell of faults. Which
+/// slashes begin regular expressions is said by `named`, whose places ascend.
 ///
 /// Rows of tokens are written in blocks as they are read. Errors and comments are known at the end, and are written in blocks
 /// then, errors in order of place. The caller knows that the text has fewer than 2^32 bytes.

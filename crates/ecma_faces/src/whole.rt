@@ -98,8 +98,8 @@ fn lines_shown(report: &Report, gathered: &Gathered, found: &[Found]) -> Result<
     )
 }
 
-/// Writes a text as it is shown in a terminal, with these errors below their lines, and of several files behind a line with its
-/// name.
+/// Writes a text as it is shown in a terminal, with these errors below their lines, and of several files behind a line with
+/// its name.
 fn write_shown<W: Write>(
     report: &mut Report,
     gathered: &Gathered,

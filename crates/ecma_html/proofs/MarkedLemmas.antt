@@ -124,3 +124,16 @@ text-read source ps before after html whole first w last =
     ap read written
     ∙ html-read source w.parts
     ∙ ap (λ bytes. at Outside (shown bytes)) (parts-bytes source w.parts ∙ ap (bytes_at source) w.spans ∙ pieces-bytes source ps ∙ whole)
+
+-- what is written of each piece is at its span, whatever class it is shown with
+styled-spans : (places : List BytePos) (classes : List (Option Class)) (ps : List Piece) → map part_span (marked places (styled classes ps)) ≡ map piece_span ps
+styled-spans places classes [] = refl
+styled-spans places classes (p ∷ ps) = ap (λ spans. p.span ∷ spans) (styled-spans places (left_classes p.class classes) ps)
+
+-- so it is where the pieces are shown with these classes, and as errors at these places
+pub marked-read : (text : List ℕ) (ps : List Piece) (classes : List (Option Class)) (places : List BytePos) → joined 0 text ps ≡ text
+    → read (html_of text (marked places (styled classes ps))) ≡ at Outside (shown text)
+marked-read text ps classes places whole =
+    let parts : List Styled = marked places (styled classes ps) in
+    html-read text parts
+    ∙ ap (λ bytes. at Outside (shown bytes)) (parts-bytes text parts ∙ ap (bytes_at text) (styled-spans places classes ps) ∙ pieces-bytes text ps ∙ whole)

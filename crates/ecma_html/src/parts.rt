@@ -1,7 +1,7 @@
 //! The markup of a text, which is written a piece at a time.
 ghost use Rattle.std.specs.Prelude.{◌≡◌, ◌++◌, ◌<◌, ◌^◌, false, true, [], length, IfOk, OnOk};
 ghost use Rattle.std.specs.Str.{chars};
-ghost use Rattle.ecma_classes.specs.Classes.{begin, classes_of};
+ghost use Rattle.ecma_classes.specs.Classes.{begin, classes_of, joined};
 ghost use Rattle.ecma_pieces.specs.Covered.{MayBeCovered};
 ghost use Rattle.ecma_styles.specs.Tokens as tokens;
 ghost use Rattle.ecma_html.specs.Marked.{AreInOrder};
@@ -18,8 +18,8 @@ use ecma_styles::{Class, class_of_piece, taken_behind, token_classes};
 use std::alloc::{AllocError, Global};
 use std::marker::Model;
 
-/// The pieces of a text that are not yet written, with what says how each is shown. It holds the class of each token and the places
-/// of the comments, and no list of pieces.
+/// The pieces of a text that are not yet written, with what says how each is shown. It holds the class of each token and the
+/// places of the comments, and no list of pieces.
 #[derive(Drop)]
 pub struct Markup<'t> {
     bytes: &'t [u8],
@@ -45,7 +45,8 @@ impl<'t> Model for Markup<'t> {
 
 impl<'t> Markup<'t> {
     /// All pieces of a text that starts at the place 0, by its tokens and comments, as
-    /// [`html_with_errors`](crate::html_with_errors) shows them. The places are those where errors of the text begin, in order.
+    /// [`html_with_errors`](crate::html_with_errors) shows them. The places are those where errors of the text begin, in
+    /// order.
     ///
     /// The caller knows that pieces can cover the text with these tokens and comments.
     ///
@@ -64,6 +65,7 @@ impl<'t> Markup<'t> {
         ensures text { IfOk result (λ m. m.text ≡ source.now) }
         ensures styles { IfOk result (λ m. m.styles ≡ tokens.token_classes kept.now) }
         ensures pieces { IfOk result (λ m. m.pieces ≡ classes_of 0 (length source.now) kept.now comments.now) }
+        ensures whole { IfOk result (λ m. joined 0 source.now m.pieces ≡ source.now) }
         ensures places { IfOk result (λ m. m.places ≡ places.now) }
     {
         let cover = Cover::new(alloc, source, BytePos(0), kept, comments)?;
@@ -80,7 +82,8 @@ impl<'t> Markup<'t> {
     ///
     /// # Errors
     ///
-    /// `AllocError` where allocation fails for the bytes, of which a part may then be there. The piece is taken all the same.
+    /// `AllocError` where allocation fails for the bytes, of which a part may then be there. The piece is taken all the
+    /// same.
     #[inline(always)]
     pub fn push_next(&mut self, out: &mut Vec<u8>) -> Result<bool, AllocError>
         ensures added { AreInOrder self.old.places → OnOk result (Moves out.old.items out.new.items self.old self.new) }

@@ -18,8 +18,8 @@ use ecma_styles::token_classes;
 use ecma_syntax::Context;
 use std::alloc::{AllocError, Global};
 
-/// A text as HTML ([`html_of_gathered`]), in which each piece that one of the places lies in is shown as an error, in place of
-/// its own class ([`html_marked`]). The places are those where errors of the text begin, in order. Our own.
+/// A text as HTML ([`html_of_gathered`]), in which each piece that one of the places lies in is shown as an error, in place
+/// of its own class ([`html_marked`]). The places are those where errors of the text begin, in order. Our own.
 ///
 /// Whatever the places are, what is left without the markup is the text, with U+FFFD for each NUL.
 ///
@@ -47,8 +47,8 @@ pub fn html_with_errors(
     html_marked(alloc, source, &styles, &pieces, places)
 }
 
-/// A text as HTML ([`html`](crate::html)), by what was gathered of it: the tokens that were kept, and the comments that were collected. The
-/// text starts at the place 0. Our own.
+/// A text as HTML ([`html`](crate::html)), by what was gathered of it: the tokens that were kept, and the comments that were
+/// collected. The text starts at the place 0. Our own.
 ///
 /// The caller knows that pieces can cover the text with these tokens and comments, as with what
 /// [`gather`](ecma_replay::gather), or one reading, gathered of it.
@@ -69,8 +69,9 @@ pub fn html_of_gathered(
     html_with_errors(alloc, source, gathered, &[])
 }
 
-/// A text as HTML ([`html`](crate::html)), by what a list of steps keeps of it and collects: tokens and comments that the steps did not come
-/// to have no class, nor have comments where the settings collect none. The text starts at the place 0. Our own.
+/// A text as HTML ([`html`](crate::html)), by what a list of steps keeps of it and collects: tokens and comments that the
+/// steps did not come to have no class, nor have comments where the settings collect none. The text starts at the place 0.
+/// Our own.
 ///
 /// # Errors
 ///

@@ -47,8 +47,9 @@ fn save(lexer: &mut Lexer, saves: Saves, kept: &mut Option<Checkpoint>) -> Resul
     }
 }
 
-/// Reads so many tokens, and each slash again that the lexer's flag names. Says how many there were.
-fn read_some<'a>(
+/// Reads so many tokens, or to the end where there are fewer, and each slash again that the lexer's flag names. Says how
+/// many there were.
+pub(crate) fn read_some<'a>(
     lexer: &mut Lexer<'a>,
     slot: &mut Option<TokenAndSpan<'a>>,
     most: u64,
@@ -65,8 +66,8 @@ fn read_some<'a>(
     Ok(most)
 }
 
-/// Reads to the end, and each slash again that the lexer's flag names, with a save every so many tokens. Says how many tokens
-/// there are.
+/// Reads to the end, and each slash again that the lexer's flag names, with a save every so many tokens. Says how many
+/// tokens there are.
 pub fn read_out_saving(lexer: &mut Lexer, saves: Saves, every: u64) -> Result<u64, Fault> {
     let every = every.max(1);
     let mut slot = None;

@@ -3,9 +3,8 @@ ghost use Rattle.std.specs.Prelude.{◌^◌, ◌<◌, length};
 
 use crate::command::{Answers, Measure, Rereads};
 use crate::count::options;
-use crate::saving::read_out_saving;
+use crate::saving::{read_out_saving, read_some};
 use ecma_options::{begin, pass_next};
-use ecma_slashes::{Slashes, read_telling};
 use ecma_stdio::{Fault, Halt};
 use ecma_stream::{Lexer, Tokens};
 use ecma_token::TokenAndSpan;
@@ -94,16 +93,7 @@ fn read_out(lexer: &mut Lexer, answers: Answers, rereads: &[u64]) -> Result<u64,
 /// Reads to the end, and each slash again that the lexer's flag names. Says how many tokens there are.
 fn read_out_by_flag(lexer: &mut Lexer) -> Result<u64, Fault> {
     let mut slot = None;
-    for before in 0..u64::MAX {
-        if lexer.reads_again() {
-            return Err(Fault::NoSlash);
-        }
-        read_telling(lexer, &mut slot, Slashes::ByFlag)?;
-        if slot.is_none() {
-            return Ok(before);
-        }
-    }
-    Err(Fault::TooLong)
+    read_some(lexer, &mut slot, u64::MAX)
 }
 
 /// What was measured of a text.

@@ -12,7 +12,8 @@ use ecma_positions::Position;
 use ecma_stdio::{push_escaped, push_number};
 use std::alloc::AllocError;
 
-/// Adds what a whole text of a file begins with as a JSON object, before its own bytes.
+/// Adds what a whole text of a file begins with as a JSON object, before its own bytes. [`push_text_part`] adds these, and
+/// [`push_text_end`] what is behind them.
 ///
 /// # Errors
 ///
@@ -45,20 +46,6 @@ pub fn push_text_end(out: &mut Vec<u8>) -> Result<(), AllocError>
     ensures { OnOk result (out.new.items ≡ out.old.items ++ row_specs.text_end) }
 {
     out.extend_from_slice(b"\"}")
-}
-
-/// Adds a whole text of a file as a JSON object.
-///
-/// # Errors
-///
-/// `AllocError` where allocation fails; a part of the object may have been added then.
-pub fn push_text_object(out: &mut Vec<u8>, file: &str, bytes: &[u8]) -> Result<(), AllocError>
-    ensures { OnOk result (out.new.items ≡ out.old.items ++ compact_text (row_specs.text_data file.now bytes.now)) }
-{
-    push_text_begin(out, file)?;
-    push_text_part(out, bytes)?;
-    push_text_end(out)?;
-    Ok(())
 }
 
 /// The value of a token, where it is told.

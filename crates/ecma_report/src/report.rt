@@ -4,8 +4,7 @@ ghost use Rattle.std.specs.Io.KnownBytes.{Appends};
 ghost use Rattle.ecma_positions.specs.Columns.{position_by};
 ghost use Rattle.ecma_print.specs.Lines.{Counts};
 ghost use Rattle.ecma_report.specs.Reports.{Adds, IsOf, Stays, look_of};
-ghost use Rattle.ecma_print.specs.Rows.{head, more_view, own_text, text_data};
-ghost use Rattle.serde_json.specs.Written.{compact_text};
+ghost use Rattle.ecma_print.specs.Rows.{head, more_view, own_text};
 ghost use Rattle.ecma_report.specs.Rows.{alone, line_text, look, name_asked, part_at, place_asked, row_parts, row_text, whole_begin, whole_end, whole_part, whole_text};
 
 use crate::words::{Among, Asked};
@@ -15,7 +14,7 @@ use ecma_print::lines::Lines;
 pub use ecma_print::row::{More, Row};
 use ecma_print::written::{
     push_head, push_message, push_object, push_own_text, push_text_begin, push_text_end,
-    push_text_object, push_text_part,
+    push_text_part,
 };
 use ecma_stdio::{FAILED, push_escaped, send};
 use ecma_token::SyntaxError;
@@ -244,16 +243,6 @@ impl<'a> Report<'a> {
         pushed
     }
 
-    /// Adds a whole text with these bytes as a JSON object in a line.
-    fn push_text(&mut self, bytes: &[u8]) -> Result<(), AllocError>
-        ensures added { OnOk result (self.new.out.items ≡ self.old.out.items ++ (compact_text (text_data self.old.name.now bytes.now) ++ 10 ∷ [])) }
-        ensures stays { Stays self.old self.new }
-    {
-        push_text_object(&mut self.out, self.name, bytes)?;
-        self.out.push(b'\n')?;
-        Ok(())
-    }
-
     /// Writes these bytes behind the rows that were added.
     ///
     /// # Errors
@@ -279,7 +268,9 @@ impl<'a> Report<'a> {
         ensures stays { Stays self.old self.new }
     {
         if self.asked.json {
-            return Ok(self.push_text(bytes)?);
+            self.begin_whole()?;
+            self.push_part(bytes)?;
+            return Ok(self.end_whole()?);
         }
         self.write_behind(bytes, out)?;
         if self.among.several {
@@ -288,8 +279,8 @@ impl<'a> Report<'a> {
         Ok(())
     }
 
-    /// Begins a text that is written whole, in parts. Of such a text the parts are added with [`Report::push_part`], and then it is
-    /// ended with [`Report::end_whole`]; it is then as [`Report::write_whole`] writes it.
+    /// Begins a text that is written whole, in parts. Of such a text the parts are added with [`Report::push_part`], and
+    /// then it is ended with [`Report::end_whole`]; it is then as [`Report::write_whole`] writes it.
     ///
     /// # Errors
     ///
@@ -331,10 +322,8 @@ impl<'a> Report<'a> {
     {
         if self.asked.json {
             push_text_end(&mut self.out)?;
-            self.out.push(b'\n')?;
-            return Ok(());
         }
-        if self.among.several {
+        if self.asked.json || self.among.several {
             self.out.push(b'\n')?;
         }
         Ok(())
