@@ -3,6 +3,7 @@ pub mod Comments
 pub mod Modules
 pub mod Parts
 pub mod Pieces
+pub mod Telling
 pub mod Tokens
 pub mod Values
 pub mod Whole

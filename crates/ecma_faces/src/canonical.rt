@@ -1,16 +1,19 @@
 //! The canonical text, which is written while the text is read.
-ghost use Rattle.std.specs.Prelude.{◌≡◌, ◌++◌, ◌+◌, ◌<◌, ◌^◌, ◌&&◌, List, None, [], false, length, option_map, ℕ, IfOk, OnOk};
+ghost use Rattle.std.specs.Prelude.{◌≡◌, ◌++◌, ◌+◌, ◌<◌, ◌^◌, ◌&&◌, List, None, [], false, length, map, option_map, ℕ, IfOk, OnOk};
 ghost use Rattle.std.specs.List.{list_all};
 ghost use Rattle.std.specs.Str.{chars};
-ghost use Rattle.ecma_token.specs.View.{spanned_view};
+ghost use Rattle.ecma_token.specs.View.{error_view, spanned_view};
 ghost use Rattle.ecma_state.specs.Session.{Session};
 ghost use Rattle.ecma_slashes.specs.Rereads.{SlashRule};
+ghost use Rattle.ecma_reader.specs.Outputs.{errors_among};
 ghost use Rattle.ecma_reader.specs.Readers.{HasRead, IsReady, Shows, tokens_by, tokens_found};
+ghost use Rattle.ecma_report.specs.FaultLines.{OfFaults};
+ghost use Rattle.ecma_report.specs.Runs.{read_to};
 ghost use Rattle.ecma_report.specs.Reports.{Adds, IsOf, Stays, writes_errors};
 ghost use Rattle.ecma_report.specs.Slashes.{rule_at};
 ghost use Rattle.ecma_faces.specs.Canonical.{Counted, has_no_error, joined, reads_clean};
 ghost use Rattle.ecma_faces.specs.Tokens.{begun, kind_behind};
-ghost use Rattle.ecma_faces.specs.Whole.{OfCanon, plainly, steps_by};
+ghost use Rattle.ecma_faces.specs.Whole.{OfCanon, errors_told, plainly, steps_by};
 ghost use Rattle.ecma_report.specs.Rows.{Look, whole_part, whole_text};
 
 use crate::errors::tell_errors;
@@ -105,6 +108,8 @@ fn measure_tokens<'a>(
         → IfOk result (λ m. Counted m.bytes (length (joined report.now.text.now None (tokens_by rule begin)))) }
     ensures clean { (rule : SlashRule) (begin : Session) → Shows rule begin [] reader.old
         → IfOk result (λ m. m.clean ≡ list_all has_no_error (tokens_by rule begin)) }
+    ensures kept { (rule : SlashRule) (begin : Session) → Shows rule begin [] reader.old → errors.old.items ≡ []
+        → OnOk result (map error_view errors.new.items ≡ errors_among (tokens_by rule begin)) }
     ensures read { (rule : SlashRule) (begin : Session) → Shows rule begin [] reader.old → OnOk result (HasRead rule begin reader.new) }
 {
     let mut bytes = Some(0);
@@ -168,9 +173,10 @@ fn write_clean<'a, W: Write>(
     out: &mut W,
 ) -> Result<(), Stop>
     requires { length report.old.text.now < 2 ^ 32 }
-    ensures { (look : Look) (name text : List ℕ) → IsOf look name text report.old
+    ensures adds { (look : Look) (name text : List ℕ) → IsOf look name text report.old
         → OnOk result (Adds (W.contents out.old) (W.contents out.new) report.old.out.items report.new.out.items
         (whole_text look name (joined text None (tokens_by (rule_at named.entry) (begun look.asked text))))) }
+    ensures stays { OnOk result (Stays report.old report.new) }
 {
     let mut reader = open(report, named, false)?;
     report.begin_whole()?;
@@ -189,11 +195,12 @@ fn write_measured<'a, W: Write>(
 ) -> Result<(), Stop>
     requires same { text.now ≡ report.old.text.now }
     requires fits { length text.now < 2 ^ 32 }
-    ensures { (look : Look) (name : List ℕ) → IsOf look name text.now report.old
+    ensures told { (look : Look) (name : List ℕ) → IsOf look name text.now report.old
         → measured.clean ≡ reads_clean (rule_at named.entry) look text.now
         → Counted measured.bytes (length (joined text.now None (tokens_by (rule_at named.entry) (begun look.asked text.now))))
         → OnOk result (OfCanon look name (plainly look) (chars text.now) (steps_by (rule_at named.entry) look text.now)
         (λ all. Adds (W.contents out.old) (W.contents out.new) report.old.out.items report.new.out.items all)) }
+    ensures stays { OnOk result (Stays report.old report.new) }
 {
     if !measured.clean {
         report.is_faulty = true;
@@ -219,9 +226,11 @@ pub(crate) fn write_canonical<'a, W: Write>(
     out: &mut W,
 ) -> Result<(), Stop>
     requires { length report.old.text.now < 2 ^ 32 }
-    ensures { (look : Look) (name text : List ℕ) → IsOf look name text report.old → writes_errors look.asked.face ≡ false
+    ensures told { (look : Look) (name text : List ℕ) → IsOf look name text report.old → writes_errors look.asked.face ≡ false
         → OnOk result (OfCanon look name (plainly look) (chars text) (steps_by (rule_at named.entry) look text)
         (λ all. Adds (W.contents out.old) (W.contents out.new) report.old.out.items report.new.out.items all)) }
+    ensures lines { (look : Look) (name text : List ℕ) → IsOf look name text report.old
+        → OnOk result (OfFaults named.entry look name text (errors_told (read_to false named.entry look text)) report.old.faults.items report.new.faults.items) }
 {
     let text = report.text;
     let mut reader = open(report, named, false)?;

@@ -1,7 +1,10 @@
 //! Rows of comments.
-ghost use Rattle.std.specs.Prelude.{◌≡◌, ◌++◌, ◌<◌, ◌^◌, List, false, length, ℕ, OnOk};
+ghost use Rattle.std.specs.Prelude.{◌≡◌, ◌++◌, ◌<◌, ◌^◌, List, false, length, true, ℕ, OnOk};
 ghost use Rattle.ecma_faces.specs.Comments as rows;
 ghost use Rattle.ecma_faces.specs.Comments.{comment_rows, comments_by};
+ghost use Rattle.ecma_faces.specs.Whole.{errors_told};
+ghost use Rattle.ecma_report.specs.FaultLines.{OfFaults};
+ghost use Rattle.ecma_report.specs.Runs.{read_to};
 ghost use Rattle.ecma_report.specs.Reports.{Adds, IsOf, Stays, writes_errors};
 ghost use Rattle.ecma_report.specs.Rows.{Look};
 
@@ -39,8 +42,9 @@ fn push_comments<W: Write>(
     comments: &[BufferedComment],
     out: &mut W,
 ) -> Result<(), Stop>
-    ensures { (look : Look) (name text : List ℕ) → IsOf look name text report.old
+    ensures adds { (look : Look) (name text : List ℕ) → IsOf look name text report.old
         → OnOk result (Adds (W.contents out.old) (W.contents out.new) report.old.out.items report.new.out.items (comment_rows look name text comments.now)) }
+    ensures stays { OnOk result (Stays report.old report.new) }
 {
     'comments: for buffered in comments {
         push_comment(report, buffered)?;
@@ -56,8 +60,10 @@ pub(crate) fn write_comments<'a, W: Write>(
     out: &mut W,
 ) -> Result<(), Stop>
     requires { length report.old.text.now < 2 ^ 32 }
-    ensures { (look : Look) (name text : List ℕ) → IsOf look name text report.old → writes_errors look.asked.face ≡ false
+    ensures adds { (look : Look) (name text : List ℕ) → IsOf look name text report.old → writes_errors look.asked.face ≡ false
         → OnOk result (Adds (W.contents out.old) (W.contents out.new) report.old.out.items report.new.out.items (comment_rows look name text (comments_by named.entry look text))) }
+    ensures lines { (look : Look) (name text : List ℕ) → IsOf look name text report.old
+        → OnOk result (OfFaults named.entry look name text (errors_told (read_to true named.entry look text)) report.old.faults.items report.new.faults.items) }
 {
     let mut reader = open(report, named, true)?;
     let mut errors = Vec::new(report.alloc);

@@ -1,6 +1,10 @@
 //! What a loop over a reader tells of errors, when the text is read.
-ghost use Rattle.std.specs.Prelude.{◌≡◌, ◌<◌, ◌^◌, false, [], length, OnOk};
-ghost use Rattle.ecma_report.specs.Reports.{Adds, Stays, writes_errors};
+ghost use Rattle.std.specs.Prelude.{◌≡◌, ◌<◌, ◌^◌, List, false, [], length, map, ℕ, OnOk};
+ghost use Rattle.ecma_token.specs.View.{error_view};
+ghost use Rattle.ecma_faults.specs.Faults.{all_of};
+ghost use Rattle.ecma_report.specs.FaultLines.{OfFaults};
+ghost use Rattle.ecma_report.specs.Reports.{Adds, IsOf, IsStill, writes_errors};
+ghost use Rattle.ecma_report.specs.Rows.{Look};
 
 use ecma_faults::in_order;
 use ecma_report::faults::tell_found;
@@ -28,7 +32,9 @@ pub(crate) fn tell_errors<'a, W: Write>(
     requires { length report.old.text.now < 2 ^ 32 }
     ensures adds { writes_errors report.old.asked.face ≡ false
         → OnOk result (Adds (W.contents out.old) (W.contents out.new) report.old.out.items report.new.out.items []) }
-    ensures stays { OnOk result (Stays report.old report.new) }
+    ensures lines { (look : Look) (name text : List ℕ) → IsOf look name text report.old
+        → OnOk result (OfFaults named.entry look name text (all_of (map error_view tokens.entry.items) (map error_view recorded.entry.items) []) report.old.faults.items report.new.faults.items) }
+    ensures still { OnOk result (IsStill report.old report.new) }
 {
     let waiting = Vec::new(report.alloc);
     let found = in_order(report.alloc, tokens, recorded, waiting)?;

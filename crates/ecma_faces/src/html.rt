@@ -95,9 +95,10 @@ fn write_parts<W: Write>(
 ) -> Result<(), Stop>
     requires fits { length report.old.text.now < 2 ^ 32 }
     requires covered { MayBeCovered (begin 0 (chars report.old.text.now)) gathered.now.kept.items gathered.now.comments.items }
-    ensures { (look : Look) (name text : List ℕ) → IsOf look name text report.old → AreInOrder places.now
+    ensures adds { (look : Look) (name text : List ℕ) → IsOf look name text report.old → AreInOrder places.now
         → OnOk result (Adds (W.contents out.old) (W.contents out.new) report.old.out.items report.new.out.items
         (whole_text look name (html_by look.asked.page name text gathered.now.kept.items gathered.now.comments.items places.now))) }
+    ensures stays { OnOk result (Stays report.old report.new) }
 {
     let kept = gathered.kept.as_slice();
     let comments = gathered.comments.as_slice();
@@ -119,9 +120,10 @@ pub(crate) fn write_html<W: Write>(
 ) -> Result<(), Stop>
     requires fits { length report.old.text.now < 2 ^ 32 }
     requires covered { MayBeCovered (begin 0 (chars report.old.text.now)) gathered.now.kept.items gathered.now.comments.items }
-    ensures { (look : Look) (name text : List ℕ) → IsOf look name text report.old → AreInOrder (whole.places_of (map view found.now))
+    ensures adds { (look : Look) (name text : List ℕ) → IsOf look name text report.old → AreInOrder (whole.places_of (map view found.now))
         → OnOk result (Adds (W.contents out.old) (W.contents out.new) report.old.out.items report.new.out.items
         (html_written look name text gathered.now.kept.items gathered.now.comments.items (map view found.now))) }
+    ensures stays { OnOk result (Stays report.old report.new) }
 {
     let places = places_of(report.alloc, found)?;
     write_parts(report, gathered, &places, out)?;

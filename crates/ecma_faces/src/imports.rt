@@ -4,11 +4,16 @@ ghost use Rattle.ecma_module_table.specs.declared.rows.ModuleOptions.{ModuleOpti
 ghost use Rattle.ecma_modules.specs.Modules.{exports_of, gathered, imports_of};
 ghost use Rattle.ecma_state.specs.Session.{Session, kept_of};
 ghost use Rattle.ecma_slashes.specs.Rereads.{SlashRule};
-ghost use Rattle.ecma_reader.specs.Readers.{IsReady, Shows, tokens_by};
+ghost use Rattle.ecma_token.specs.View.{error_view};
+ghost use Rattle.ecma_reader.specs.Outputs.{errors_among};
+ghost use Rattle.ecma_reader.specs.Readers.{HasRead, IsReady, Shows, tokens_by};
 ghost use Rattle.ecma_print.specs.Rows.{text_behind};
+ghost use Rattle.ecma_faces.specs.Whole.{errors_told};
 ghost use Rattle.ecma_faces.specs.Modules as rows;
 ghost use Rattle.ecma_faces.specs.Modules.{export_rows, import_rows, kept_by};
-ghost use Rattle.ecma_report.specs.Reports.{Adds, IsOf, Stays, writes_errors};
+ghost use Rattle.ecma_report.specs.FaultLines.{OfFaults};
+ghost use Rattle.ecma_report.specs.Runs.{read_to};
+ghost use Rattle.ecma_report.specs.Reports.{Adds, IsOf, IsStill, Stays, writes_errors};
 ghost use Rattle.ecma_report.specs.Rows.{Look};
 
 use crate::errors::tell_errors;
@@ -107,8 +112,9 @@ fn push_export(report: &mut Report, export: Export) -> Result<(), AllocError>
 
 /// Writes the rows of imports.
 fn push_imports<W: Write>(report: &mut Report, imports: &[Import], out: &mut W) -> Result<(), Stop>
-    ensures { (look : Look) (name text : List ℕ) → IsOf look name text report.old
+    ensures adds { (look : Look) (name text : List ℕ) → IsOf look name text report.old
         → OnOk result (Adds (W.contents out.old) (W.contents out.new) report.old.out.items report.new.out.items (import_rows look name text imports.now)) }
+    ensures stays { OnOk result (Stays report.old report.new) }
 {
     'imports: for import in imports {
         push_import(report, *import)?;
@@ -119,8 +125,9 @@ fn push_imports<W: Write>(report: &mut Report, imports: &[Import], out: &mut W) 
 
 /// Writes the rows of exports.
 fn push_exports<W: Write>(report: &mut Report, exports: &[Export], out: &mut W) -> Result<(), Stop>
-    ensures { (look : Look) (name text : List ℕ) → IsOf look name text report.old
+    ensures adds { (look : Look) (name text : List ℕ) → IsOf look name text report.old
         → OnOk result (Adds (W.contents out.old) (W.contents out.new) report.old.out.items report.new.out.items (export_rows look name text exports.now)) }
+    ensures stays { OnOk result (Stays report.old report.new) }
 {
     'exports: for export in exports {
         push_export(report, *export)?;
@@ -136,8 +143,12 @@ fn gather_tokens<'a>(
     errors: &mut Vec<Error<'a>>,
 ) -> Result<(), AllocError>
     requires ready { IsReady reader.old }
-    ensures { (rule : SlashRule) (begin : Session) (options : ModuleOptions) → Shows rule begin [] reader.old → gathering.old ≡ gathered options []
+    ensures gathered { (rule : SlashRule) (begin : Session) (options : ModuleOptions) → Shows rule begin [] reader.old → gathering.old ≡ gathered options []
         → OnOk result (gathering.new ≡ gathered options (map kept_of (tokens_by rule begin))) }
+    ensures kept { (rule : SlashRule) (begin : Session) → Shows rule begin [] reader.old → errors.old.items ≡ []
+        → OnOk result (map error_view errors.new.items ≡ errors_among (tokens_by rule begin)) }
+    ensures read { (rule : SlashRule) (begin : Session) (options : ModuleOptions) → Shows rule begin [] reader.old → gathering.old ≡ gathered options []
+        → OnOk result (HasRead rule begin reader.new) }
 {
     let mut slot = None;
     'tokens: while reader.read_into(&mut slot)? {
@@ -170,7 +181,9 @@ fn read_module<'a, W: Write>(
         → IfOk result (λ m. m.exports.items ≡ exports_of (rows.module_options look.asked) (kept_by named.entry look text)) }
     ensures nothing { writes_errors report.old.asked.face ≡ false
         → OnOk result (Adds (W.contents out.old) (W.contents out.new) report.old.out.items report.new.out.items []) }
-    ensures stays { OnOk result (Stays report.old report.new) }
+    ensures lines { (look : Look) (name text : List ℕ) → IsOf look name text report.old
+        → OnOk result (OfFaults named.entry look name text (errors_told (read_to false named.entry look text)) report.old.faults.items report.new.faults.items) }
+    ensures still { OnOk result (IsStill report.old report.new) }
 {
     let mut reader = open(report, named, false)?;
     let mut gathering = Gathering::new(report.alloc, module_options(report.asked));
@@ -190,9 +203,11 @@ pub(crate) fn write_imports<'a, W: Write>(
     out: &mut W,
 ) -> Result<(), Stop>
     requires { length report.old.text.now < 2 ^ 32 }
-    ensures { (look : Look) (name text : List ℕ) → IsOf look name text report.old → writes_errors look.asked.face ≡ false
+    ensures adds { (look : Look) (name text : List ℕ) → IsOf look name text report.old → writes_errors look.asked.face ≡ false
         → OnOk result (Adds (W.contents out.old) (W.contents out.new) report.old.out.items report.new.out.items
         (import_rows look name text (imports_of (rows.module_options look.asked) (kept_by named.entry look text)))) }
+    ensures lines { (look : Look) (name text : List ℕ) → IsOf look name text report.old
+        → OnOk result (OfFaults named.entry look name text (errors_told (read_to false named.entry look text)) report.old.faults.items report.new.faults.items) }
 {
     let module = read_module(report, named, out)?;
     push_imports(report, &module.imports, out)?;
@@ -206,9 +221,11 @@ pub(crate) fn write_exports<'a, W: Write>(
     out: &mut W,
 ) -> Result<(), Stop>
     requires { length report.old.text.now < 2 ^ 32 }
-    ensures { (look : Look) (name text : List ℕ) → IsOf look name text report.old → writes_errors look.asked.face ≡ false
+    ensures adds { (look : Look) (name text : List ℕ) → IsOf look name text report.old → writes_errors look.asked.face ≡ false
         → OnOk result (Adds (W.contents out.old) (W.contents out.new) report.old.out.items report.new.out.items
         (export_rows look name text (exports_of (rows.module_options look.asked) (kept_by named.entry look text)))) }
+    ensures lines { (look : Look) (name text : List ℕ) → IsOf look name text report.old
+        → OnOk result (OfFaults named.entry look name text (errors_told (read_to false named.entry look text)) report.old.faults.items report.new.faults.items) }
 {
     let module = read_module(report, named, out)?;
     push_exports(report, &module.exports, out)?;

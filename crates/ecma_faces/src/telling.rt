@@ -1,5 +1,5 @@
 //! What is told of a text.
-ghost use Rattle.std.specs.Prelude.{◌≡◌, ◌++◌, ◌<◌, ◌^◌, List, None, length, ℕ, OnOk};
+ghost use Rattle.std.specs.Prelude.{◌≡◌, ◌++◌, ◌<◌, ◌^◌, List, None, false, length, true, ℕ, OnOk};
 ghost use Rattle.std.specs.Io.KnownBytes.{Appends};
 ghost use Rattle.std.specs.Str.{chars};
 ghost use Rattle.ecma_reader.specs.Readers.{tokens_by};
@@ -8,9 +8,12 @@ ghost use Rattle.ecma_faces.specs.Comments.{comment_rows, comments_by};
 ghost use Rattle.ecma_report.specs.Errors.{OfRowsByPlace, errors_by};
 ghost use Rattle.ecma_faces.specs.Modules.{export_rows, import_rows, kept_by, module_options};
 ghost use Rattle.ecma_faces.specs.Pieces.{piece_rows, pieces_by};
-ghost use Rattle.ecma_faces.specs.Whole.{OfCanon, OfHtml, OfShown, plainly, steps_by};
+ghost use Rattle.ecma_faces.specs.Whole.{OfCanon, OfHtml, OfShown, errors_told, plainly, steps_by};
+ghost use Rattle.ecma_report.specs.FaultLines.{OfFaults, OfUnmet, tells_faults};
+ghost use Rattle.ecma_report.specs.Runs.{read_to};
 ghost use Rattle.ecma_report.specs.Reports.{Adds, IsOf};
 ghost use Rattle.ecma_report.specs.Slashes.{rule_at};
+ghost use Rattle.ecma_faces.specs.Telling.{with_comments};
 ghost use Rattle.ecma_faces.specs.Tokens.{begun, token_rows};
 ghost use Rattle.ecma_report.specs.Rows.{Look};
 ghost use Rattle.ecma_report.specs.declared.words.Face.TheVariants as face;
@@ -54,6 +57,10 @@ fn write_face<'a, W: Write>(
     ensures canonical { (look : Look) (name text : List ℕ) → IsOf look name text report.old → look.asked.face ≡ face.Canonical
         → OnOk result (OfCanon look name (plainly look) (chars text) (steps_by (rule_at named.entry) look text)
         (λ all. Adds (W.contents out.old) (W.contents out.new) report.old.out.items report.new.out.items all)) }
+    ensures lines { (look : Look) (name text : List ℕ) → IsOf look name text report.old → tells_faults look.asked.face ≡ true
+        → OnOk result (OfFaults named.entry look name text (errors_told (read_to (with_comments look.asked.face) named.entry look text)) report.old.faults.items report.new.faults.items) }
+    ensures unmet { (look : Look) (name text : List ℕ) → IsOf look name text report.old → tells_faults look.asked.face ≡ false
+        → OnOk result (OfUnmet named.entry report.old.faults.items report.new.faults.items) }
 {
     match report.asked.face {
         Face::Tokens => write_tokens(report, named, out),
@@ -112,6 +119,12 @@ pub fn tell<'a, W: Write>(
     ensures canonical { (look : Look) (name text : List ℕ) → IsOf look name text report.old → look.asked.face ≡ face.Canonical
         → OnOk result (OfCanon look name (plainly look) (chars text) (steps_by (rule_at named.entry) look text)
         (λ all. Appends (W.contents out.old) (W.contents out.new) (report.old.out.items ++ all))) }
+    // Errors that have no rows and are not shown in the text have lines of faults, in order of place, behind those of the places
+    // that were named and are no slash's.
+    ensures lines { (look : Look) (name text : List ℕ) → IsOf look name text report.old → tells_faults look.asked.face ≡ true
+        → OnOk result (OfFaults named.entry look name text (errors_told (read_to (with_comments look.asked.face) named.entry look text)) report.old.faults.items report.new.faults.items) }
+    ensures unmet { (look : Look) (name text : List ℕ) → IsOf look name text report.old → tells_faults look.asked.face ≡ false
+        → OnOk result (OfUnmet named.entry report.old.faults.items report.new.faults.items) }
 {
     write_face(report, named, out)?;
     report.flush(out)?;

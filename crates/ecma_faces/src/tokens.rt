@@ -1,11 +1,15 @@
 //! Rows of tokens.
-ghost use Rattle.std.specs.Prelude.{◌≡◌, ◌++◌, ◌<◌, ◌^◌, List, None, [], false, length, option_map, ℕ, IfOk, OnOk};
-ghost use Rattle.ecma_token.specs.View.{spanned_view};
+ghost use Rattle.std.specs.Prelude.{◌≡◌, ◌++◌, ◌<◌, ◌^◌, List, None, [], false, length, map, option_map, ℕ, IfOk, OnOk};
+ghost use Rattle.ecma_token.specs.View.{error_view, spanned_view};
 ghost use Rattle.ecma_state.specs.Session.{Session};
 ghost use Rattle.ecma_slashes.specs.Rereads.{SlashRule};
-ghost use Rattle.ecma_reader.specs.Readers.{IsReady, Shows, tokens_by, tokens_found};
+ghost use Rattle.ecma_reader.specs.Outputs.{errors_among};
+ghost use Rattle.ecma_reader.specs.Readers.{HasRead, IsReady, Shows, tokens_by, tokens_found};
+ghost use Rattle.ecma_report.specs.FaultLines.{OfFaults};
+ghost use Rattle.ecma_report.specs.Runs.{read_to};
 ghost use Rattle.ecma_report.specs.Reports.{Adds, IsOf, Stays, writes_errors};
 ghost use Rattle.ecma_report.specs.Slashes.{rule_at};
+ghost use Rattle.ecma_faces.specs.Whole.{errors_told};
 ghost use Rattle.ecma_faces.specs.Tokens as rows;
 ghost use Rattle.ecma_faces.specs.Tokens.{begun, kind_behind, token_rows};
 ghost use Rattle.ecma_report.specs.Rows.{Look, row_of};
@@ -85,6 +89,10 @@ fn read_tokens<'a, W: Write>(
     requires ready { IsReady reader.old }
     ensures rows { (rule : SlashRule) (begin : Session) (look : Look) (name text : List ℕ) → Shows rule begin [] reader.old → IsOf look name text report.old
         → OnOk result (Adds (W.contents out.old) (W.contents out.new) report.old.out.items report.new.out.items (token_rows look name text None (tokens_by rule begin))) }
+    ensures kept { (rule : SlashRule) (begin : Session) → Shows rule begin [] reader.old → errors.old.items ≡ []
+        → OnOk result (map error_view errors.new.items ≡ errors_among (tokens_by rule begin)) }
+    ensures read { (rule : SlashRule) (begin : Session) → Shows rule begin [] reader.old → errors.old.items ≡ []
+        → OnOk result (HasRead rule begin reader.new) }
     ensures stays { OnOk result (Stays report.old report.new) }
 {
     let mut previous = None;
@@ -104,8 +112,10 @@ pub(crate) fn write_tokens<'a, W: Write>(
     out: &mut W,
 ) -> Result<(), Stop>
     requires { length report.old.text.now < 2 ^ 32 }
-    ensures { (look : Look) (name text : List ℕ) → IsOf look name text report.old → writes_errors look.asked.face ≡ false
+    ensures adds { (look : Look) (name text : List ℕ) → IsOf look name text report.old → writes_errors look.asked.face ≡ false
         → OnOk result (Adds (W.contents out.old) (W.contents out.new) report.old.out.items report.new.out.items (token_rows look name text None (tokens_by (rule_at named.entry) (begun look.asked text)))) }
+    ensures lines { (look : Look) (name text : List ℕ) → IsOf look name text report.old
+        → OnOk result (OfFaults named.entry look name text (errors_told (read_to false named.entry look text)) report.old.faults.items report.new.faults.items) }
 {
     let mut reader = open(report, named, false)?;
     let mut errors = Vec::new(report.alloc);

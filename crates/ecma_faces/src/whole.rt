@@ -1,5 +1,5 @@
 //! What is told of a text by all of its tokens: the pieces, the text as HTML, and as a terminal shows it.
-ghost use Rattle.std.specs.Prelude.{◌≡◌, ◌++◌, ◌<◌, ◌^◌, Bool, List, length, map, ℕ, IfOk, OnOk};
+ghost use Rattle.std.specs.Prelude.{◌≡◌, ◌++◌, ◌<◌, ◌^◌, Bool, List, false, length, map, true, ℕ, IfOk, OnOk};
 ghost use Rattle.std.specs.Str.{chars};
 ghost use Rattle.ecma_classes.specs.Classes.{begin, classes_of};
 ghost use Rattle.ecma_pieces.specs.Covered.{MayBeCovered};
@@ -9,7 +9,9 @@ ghost use Rattle.ecma_looks.specs.Shown.{IsShown};
 ghost use Rattle.ecma_faces.specs.Pieces as rows;
 ghost use Rattle.ecma_faces.specs.Pieces.{piece_rows, pieces_by};
 ghost use Rattle.ecma_faces.specs.Whole as whole_specs;
-ghost use Rattle.ecma_faces.specs.Whole.{OfHtml, OfLines, OfShown, html_written, shown_head};
+ghost use Rattle.ecma_faces.specs.Whole.{OfHtml, OfLines, OfShown, errors_told, html_written, shown_head};
+ghost use Rattle.ecma_report.specs.FaultLines.{OfFaults, OfUnmet, tells_faults};
+ghost use Rattle.ecma_report.specs.Runs.{read_to};
 ghost use Rattle.ecma_report.specs.Reports.{Adds, IsOf, Stays, look_of};
 ghost use Rattle.ecma_report.specs.Rows.{Look};
 ghost use Rattle.ecma_report.specs.declared.words.Face.TheVariants as face;
@@ -45,8 +47,9 @@ fn push_piece(report: &mut Report, piece: Piece) -> Result<(), AllocError>
 
 /// Writes the rows of pieces.
 fn push_pieces<W: Write>(report: &mut Report, cover: &mut Cover, out: &mut W) -> Result<(), Stop>
-    ensures { (look : Look) (name text : List ℕ) → IsOf look name text report.old
+    ensures adds { (look : Look) (name text : List ℕ) → IsOf look name text report.old
         → OnOk result (Adds (W.contents out.old) (W.contents out.new) report.old.out.items report.new.out.items (piece_rows look name text cover.old)) }
+    ensures stays { OnOk result (Stays report.old report.new) }
 {
     'pieces: while let Some(piece) = cover.next() {
         push_piece(report, piece)?;
@@ -58,9 +61,10 @@ fn push_pieces<W: Write>(report: &mut Report, cover: &mut Cover, out: &mut W) ->
 fn write_pieces<W: Write>(report: &mut Report, gathered: &Gathered, out: &mut W) -> Result<(), Stop>
     requires fits { length report.old.text.now < 2 ^ 32 }
     requires covered { MayBeCovered (begin 0 (chars report.old.text.now)) gathered.now.kept.items gathered.now.comments.items }
-    ensures { (look : Look) (name text : List ℕ) → IsOf look name text report.old
+    ensures adds { (look : Look) (name text : List ℕ) → IsOf look name text report.old
         → OnOk result (Adds (W.contents out.old) (W.contents out.new) report.old.out.items report.new.out.items
         (piece_rows look name text (classes_of 0 (length text) gathered.now.kept.items gathered.now.comments.items))) }
+    ensures stays { OnOk result (Stays report.old report.new) }
 {
     let kept = gathered.kept.as_slice();
     let comments = gathered.comments.as_slice();
@@ -108,9 +112,10 @@ fn write_shown<W: Write>(
 ) -> Result<(), Stop>
     requires fits { length report.old.text.now < 2 ^ 32 }
     requires covered { MayBeCovered (begin 0 (chars report.old.text.now)) gathered.now.kept.items gathered.now.comments.items }
-    ensures { (look : Look) (name text : List ℕ) → IsOf look name text report.old
+    ensures adds { (look : Look) (name text : List ℕ) → IsOf look name text report.old
         → OnOk result (OfLines look name text gathered.now.kept.items gathered.now.comments.items (map view found.now)
         (λ all. Adds (W.contents out.old) (W.contents out.new) report.old.out.items report.new.out.items all)) }
+    ensures stays { OnOk result (Stays report.old report.new) }
 {
     let lines = lines_shown(report, gathered, found)?;
     write_shown_head(report, out)?;
@@ -136,6 +141,7 @@ fn write_gathered<W: Write>(
     ensures shown { (look : Look) (name text : List ℕ) → IsOf look name text report.old → look.asked.face ≡ face.Show
         → OnOk result (OfLines look name text gathered.now.kept.items gathered.now.comments.items (map view found.now)
         (λ all. Adds (W.contents out.old) (W.contents out.new) report.old.out.items report.new.out.items all)) }
+    ensures stays { OnOk result (Stays report.old report.new) }
 {
     match report.asked.face {
         Face::Classes => write_pieces(report, gathered, out),
@@ -159,6 +165,10 @@ pub(crate) fn tell_gathered<'a, W: Write>(
     ensures shown { (look : Look) (name text : List ℕ) → IsOf look name text report.old → look.asked.face ≡ face.Show
         → OnOk result (OfShown named.entry look name text
         (λ all. Adds (W.contents out.old) (W.contents out.new) report.old.out.items report.new.out.items all)) }
+    ensures lines { (look : Look) (name text : List ℕ) → IsOf look name text report.old
+        → OnOk result (OfFaults named.entry look name text (errors_told (read_to true named.entry look text)) report.old.faults.items report.new.faults.items) }
+    ensures unmet { (look : Look) (name text : List ℕ) → IsOf look name text report.old → tells_faults look.asked.face ≡ false
+        → OnOk result (OfUnmet named.entry report.old.faults.items report.new.faults.items) }
 {
     let settings = report.asked.options.settings(true);
     let context = report.asked.options.context();

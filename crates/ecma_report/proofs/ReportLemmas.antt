@@ -5,17 +5,17 @@ use Rattle.std.proofs.Math.Seq.{take-suc}
 use Rattle.std.proofs.lemmas.Grind.{flat_map-append}
 use Rattle.std.specs.Io.KnownBytes.{Appends}
 use Rattle.ecma_print.specs.Lines.{Counts}
-use Rattle.ecma_report.specs.Reports.{Adds, IsOf, Stays, look_of}
+use Rattle.ecma_report.specs.Reports.{Adds, IsOf, IsStill, Stays, look_of}
 use Rattle.ecma_report.specs.Rows.{Look, look}
 use Rattle.ecma_report.specs.declared.report.Report.{Report}
 
 -- Of the same
 
-pub stays-same : (r : Report) → Stays r r
-stays-same r = record { asked = refl; among = refl; name = refl; text = refl; counts = λ counts. counts }
+pub still-same : (r : Report) → IsStill r r
+still-same r = record { asked = refl; among = refl; name = refl; text = refl; counts = λ counts. counts }
 
-pub stays-on : (a b c : Report) → Stays a b → Stays b c → Stays a c
-stays-on a b c first then =
+pub still-on : (a b c : Report) → IsStill a b → IsStill b c → IsStill a c
+still-on a b c first then =
     record {
       asked = then.asked ∙ first.asked;
       among = then.among ∙ first.among;
@@ -24,17 +24,37 @@ stays-on a b c first then =
       counts = λ counts. subst (λ t. Counts t c.lines) first.text (then.counts (subst (λ t. Counts t b.lines) (sym first.text) (first.counts counts)));
     }
 
+still-look : (old new : Report) → IsStill old new → look_of new ≡ look_of old
+still-look old new still = ap (λ a. look a new.among) still.asked ∙ ap (look old.asked) still.among
+
+pub still-of : (l : Look) (file bytes : List ℕ) (old new : Report) → IsStill old new → IsOf l file bytes old → IsOf l file bytes new
+still-of l file bytes old new still of =
+    record {
+      look = still-look old new still ∙ of.look;
+      name = still.name ∙ of.name;
+      text = still.text ∙ of.text;
+      counts = subst (λ t. Counts t new.lines) of.text (still.counts (subst (λ t. Counts t old.lines) (sym of.text) of.counts));
+    }
+
+-- the same, with the same lines of faults
+
+pub is-still : (old new : Report) → Stays old new → IsStill old new
+is-still old new stays = record { asked = stays.asked; among = stays.among; name = stays.name; text = stays.text; counts = stays.counts }
+
+stays-with : (old new : Report) → IsStill old new → new.faults.items ≡ old.faults.items → Stays old new
+stays-with old new still faults = record { asked = still.asked; among = still.among; name = still.name; text = still.text; counts = still.counts; faults = faults }
+
+pub stays-same : (r : Report) → Stays r r
+stays-same r = stays-with r r (still-same r) refl
+
+pub stays-on : (a b c : Report) → Stays a b → Stays b c → Stays a c
+stays-on a b c first then = stays-with a c (still-on a b c (is-still a b first) (is-still b c then)) (then.faults ∙ first.faults)
+
 pub same-look : (old new : Report) → Stays old new → look_of new ≡ look_of old
-same-look old new stays = ap (λ a. look a new.among) stays.asked ∙ ap (look old.asked) stays.among
+same-look old new stays = still-look old new (is-still old new stays)
 
 pub stays-of : (l : Look) (file bytes : List ℕ) (old new : Report) → Stays old new → IsOf l file bytes old → IsOf l file bytes new
-stays-of l file bytes old new stays of =
-    record {
-      look = same-look old new stays ∙ of.look;
-      name = stays.name ∙ of.name;
-      text = stays.text ∙ of.text;
-      counts = subst (λ t. Counts t new.lines) of.text (stays.counts (subst (λ t. Counts t old.lines) (sym of.text) of.counts));
-    }
+stays-of l file bytes old new stays of = still-of l file bytes old new (is-still old new stays) of
 
 pub counts-of : (l : Look) (file bytes : List ℕ) (r : Report) → IsOf l file bytes r → Counts r.text.now r.lines
 counts-of l file bytes r of = subst (λ t. Counts t r.lines) (sym of.text) of.counts
@@ -107,3 +127,13 @@ row-added f xs i d a b c held now pushed then low adds added passed =
     let held_on = adds-on a b b held now pushed before row adds (adds-held b now pushed row added) in
     let all = adds-on a b c held pushed then (before ++ row) [] held_on passed in
     subst (Adds a c held then) (append-nil (before ++ row) ∙ sym (rows-on f xs i d low)) all
+
+-- the line of one more, which passing rows on leaves as it is
+pub line-added : {A : Type 0} (f : A → List ℕ) (xs : List A) (i : ℕ) (d : A) (begun here told passed : List ℕ) → i < length xs
+    → here ≡ begun ++ flat_map f (take i xs) → told ≡ here ++ f (get_or xs i d) → passed ≡ told → passed ≡ begun ++ flat_map f (take (i + 1) xs)
+line-added f xs i d begun here told passed low so_far added same =
+    same
+    ∙ added
+    ∙ ap (λ l. l ++ f (get_or xs i d)) so_far
+    ∙ append_assoc begun (flat_map f (take i xs)) (f (get_or xs i d))
+    ∙ ap (λ l. begun ++ l) (sym (rows-on f xs i d low))

@@ -23,12 +23,21 @@ writes_errors Errors = true
 writes_errors _ = false
 
 -- of the same as before
+pub record IsStill (old new : Report) : Type 0 where
+  pub asked : new.asked ≡ old.asked
+  pub among : new.among ≡ old.among
+  pub name : new.name.now ≡ old.name.now
+  pub text : new.text.now ≡ old.text.now
+  pub counts : Counts old.text.now old.lines → Counts old.text.now new.lines
+
+-- and with the same lines of faults
 pub record Stays (old new : Report) : Type 0 where
   pub asked : new.asked ≡ old.asked
   pub among : new.among ≡ old.among
   pub name : new.name.now ≡ old.name.now
   pub text : new.text.now ≡ old.text.now
   pub counts : Counts old.text.now old.lines → Counts old.text.now new.lines
+  pub faults : new.faults.items ≡ old.faults.items
 
 -- This was added to the bytes that were written, where these are known, and to those that are held behind them: some of it all
 -- was written, and the rest is held.

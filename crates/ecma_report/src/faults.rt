@@ -8,7 +8,8 @@ ghost use Rattle.ecma_reader.specs.Readers.{HasRead, IsReady, Shows, tokens_by, 
 ghost use Rattle.ecma_faults.specs.Faults as faults;
 ghost use Rattle.ecma_report.specs.Errors as rows;
 ghost use Rattle.ecma_report.specs.Errors.{OfRowsByPlace, error_rows, errors_by};
-ghost use Rattle.ecma_report.specs.Reports.{Adds, IsOf, Stays, writes_errors};
+ghost use Rattle.ecma_report.specs.FaultLines.{OfUnmet, fault_of, told_fault, told_faults};
+ghost use Rattle.ecma_report.specs.Reports.{Adds, IsOf, IsStill, Stays, writes_errors};
 ghost use Rattle.ecma_report.specs.Rows.{Look};
 
 use crate::report::{More, Report, Row, Stop};
@@ -36,10 +37,12 @@ fn push_error(report: &mut Report, found: &Found) -> Result<(), AllocError>
     })
 }
 
-/// Adds an error to the faults of the file, but for one that counts in module code alone.
+/// Adds the line of an error to the faults of the file, but for one that counts in module code alone.
 fn push_fault(report: &mut Report, found: &Found) -> Result<(), AllocError>
     ensures out { report.new.out ≡ report.old.out }
-    ensures stays { Stays report.old report.new }
+    ensures line { (look : Look) (name text : List ℕ) → IsOf look name text report.old
+        → OnOk result (report.new.faults.items ≡ report.old.faults.items ++ fault_of look name text (faults.view found.now)) }
+    ensures still { IsStill report.old report.new }
 {
     if found.origin == Origin::Waiting {
         return Ok(());
@@ -52,7 +55,9 @@ fn tell_error(report: &mut Report, found: &Found) -> Result<(), AllocError>
     ensures out { writes_errors report.old.asked.face ≡ false → report.new.out ≡ report.old.out }
     ensures added { (look : Look) (name text : List ℕ) → IsOf look name text report.old → writes_errors report.old.asked.face ≡ true
         → OnOk result (report.new.out.items ≡ report.old.out.items ++ rows.error_row look name text (faults.view found.now)) }
-    ensures stays { Stays report.old report.new }
+    ensures line { (look : Look) (name text : List ℕ) → IsOf look name text report.old
+        → OnOk result (report.new.faults.items ≡ report.old.faults.items ++ told_fault look name text (faults.view found.now)) }
+    ensures still { IsStill report.old report.new }
 {
     report.is_faulty = report.is_faulty || found.origin != Origin::Waiting;
     match report.asked.face {
@@ -72,7 +77,9 @@ pub fn tell_found<W: Write>(report: &mut Report, found: &[Found], out: &mut W) -
         → OnOk result (Adds (W.contents out.old) (W.contents out.new) report.old.out.items report.new.out.items []) }
     ensures rows { (look : Look) (name text : List ℕ) → IsOf look name text report.old → writes_errors report.old.asked.face ≡ true
         → OnOk result (Adds (W.contents out.old) (W.contents out.new) report.old.out.items report.new.out.items (error_rows look name text (map faults.view found.now))) }
-    ensures stays { OnOk result (Stays report.old report.new) }
+    ensures lines { (look : Look) (name text : List ℕ) → IsOf look name text report.old
+        → OnOk result (report.new.faults.items ≡ report.old.faults.items ++ told_faults look name text (map faults.view found.now)) }
+    ensures still { OnOk result (IsStill report.old report.new) }
 {
     'found: for one in found {
         tell_error(report, one)?;
@@ -132,9 +139,11 @@ pub fn write_errors<'a, W: Write>(
     out: &mut W,
 ) -> Result<(), Stop>
     requires { length report.old.text.now < 2 ^ 32 }
-    ensures { (look : Look) (name text : List ℕ) → IsOf look name text report.old → writes_errors look.asked.face ≡ true
+    ensures rows { (look : Look) (name text : List ℕ) → IsOf look name text report.old → writes_errors look.asked.face ≡ true
         → OnOk result (OfRowsByPlace look name text (errors_by named.entry look text)
         (λ all. Adds (W.contents out.old) (W.contents out.new) report.old.out.items report.new.out.items all)) }
+    ensures lines { (look : Look) (name text : List ℕ) → IsOf look name text report.old → writes_errors look.asked.face ≡ true
+        → OnOk result (OfUnmet named.entry report.old.faults.items report.new.faults.items) }
 {
     let mut reader = open(report, named, false)?;
     let mut errors = Vec::new(report.alloc);

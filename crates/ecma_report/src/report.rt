@@ -1,9 +1,12 @@
 //! What is written of a text: lines, or JSON objects, in blocks.
 ghost use Rattle.std.specs.Prelude.{◌≡◌, ◌++◌, ◌∷◌, [], IfOk, OnOk};
 ghost use Rattle.std.specs.Io.KnownBytes.{Appends};
+ghost use Rattle.ecma_token.specs.View.{kind_view};
+ghost use Rattle.ecma_token.specs.MessageView.{view_message};
 ghost use Rattle.ecma_positions.specs.Columns.{position_by};
 ghost use Rattle.ecma_print.specs.Lines.{Counts};
-ghost use Rattle.ecma_report.specs.Reports.{Adds, IsOf, Stays, look_of};
+ghost use Rattle.ecma_report.specs.FaultLines.{fault_line, line_at, place_in};
+ghost use Rattle.ecma_report.specs.Reports.{Adds, IsOf, IsStill, Stays, look_of};
 ghost use Rattle.ecma_print.specs.Rows.{head, more_view, own_text};
 ghost use Rattle.ecma_report.specs.Rows.{alone, line_text, look, name_asked, part_at, place_asked, row_parts, row_text, whole_begin, whole_end, whole_part, whole_text};
 
@@ -16,7 +19,7 @@ use ecma_print::written::{
     push_head, push_message, push_object, push_own_text, push_text_begin, push_text_end,
     push_text_part,
 };
-use ecma_stdio::{FAILED, push_escaped, send};
+use ecma_stdio::{FAILED, push_escaped, push_number, send};
 use ecma_token::SyntaxError;
 use std::alloc::{AllocError, Global};
 use std::io::Write;
@@ -71,6 +74,33 @@ fn write_all<W: Write>(out: &mut W, bytes: &[u8]) -> Result<(), Stop>
     if send(out, 0, bytes) == FAILED {
         return Err(Stop::Closed);
     }
+    Ok(())
+}
+
+/// Adds the name of a file, a line and a column.
+fn push_place(out: &mut Vec<u8>, name: &str, position: Position) -> Result<(), AllocError>
+    ensures { OnOk result (out.new.items ≡ out.old.items ++ place_in name.now position) }
+{
+    out.extend_from_slice(name.as_bytes())?;
+    out.push(b':')?;
+    push_number(out, position.line)?;
+    out.push(b':')?;
+    push_number(out, position.column)
+}
+
+/// Adds the line of a fault: the name of the file, a line and a column, and a message in one line.
+fn push_fault_line(
+    out: &mut Vec<u8>,
+    name: &str,
+    position: Position,
+    message: &[u8],
+) -> Result<(), AllocError>
+    ensures { OnOk result (out.new.items ≡ out.old.items ++ line_at name.now position message.now) }
+{
+    push_place(out, name, position)?;
+    out.extend_from_slice(b": ")?;
+    push_message(out, message)?;
+    out.push(b'\n')?;
     Ok(())
 }
 
@@ -329,22 +359,20 @@ impl<'a> Report<'a> {
         Ok(())
     }
 
-    /// Adds an error to the faults, with the name of the file, its line and its column, and its message in one line.
+    /// Adds the line of an error to the faults: the name of the file, the line and the column, and the message in one line.
     ///
     /// # Errors
     ///
     /// `AllocError` where allocation fails for the line, of which a part may then be there.
     pub fn push_fault(&mut self, span: Span, kind: &SyntaxError) -> Result<(), AllocError>
+        ensures line { Counts self.old.text.now self.old.lines
+            → OnOk result (self.new.faults.items ≡ self.old.faults.items ++ fault_line (look_of self.old) self.old.name.now self.old.text.now span (view_message (kind_view kind.now))) }
         ensures out { self.new.out ≡ self.old.out }
-        ensures stays { Stays self.old self.new }
+        ensures still { IsStill self.old self.new }
     {
-        let Position { line, column } = self.position(span.lo);
-        let name = self.name;
+        let position = self.position(span.lo);
         let message = kind.msg(self.alloc)?;
-        let head = format!(in self.alloc; "{name}:{line}:{column}: ")?;
-        self.faults.extend_from_slice(head.as_bytes())?;
-        push_message(&mut self.faults, message.as_bytes())?;
-        self.faults.push(b'\n')?;
+        push_fault_line(&mut self.faults, self.name, position, message.as_bytes())?;
         self.is_faulty = true;
         Ok(())
     }

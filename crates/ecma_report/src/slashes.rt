@@ -1,9 +1,10 @@
 //! Which slashes begin regular expressions, and the places among them that are no slash's.
-ghost use Rattle.std.specs.Prelude.{◌≡◌, ◌<◌, ◌^◌, [], length, true, IfOk};
+ghost use Rattle.std.specs.Prelude.{◌≡◌, ◌<◌, ◌^◌, [], length, true, IfOk, OnOk};
 ghost use Rattle.ecma_options.specs.Begin.{begin};
 ghost use Rattle.ecma_slashes.specs.Rereads.{is_in_order, rule_of};
 ghost use Rattle.ecma_reader.specs.Readers.{IsReady, Shows};
-ghost use Rattle.ecma_report.specs.Reports.{Stays};
+ghost use Rattle.ecma_report.specs.FaultLines.{OfUnmet};
+ghost use Rattle.ecma_report.specs.Reports.{IsStill};
 ghost use Rattle.ecma_report.specs.Slashes.{rule_at};
 
 use crate::report::Report;
@@ -116,7 +117,8 @@ pub fn tell_unmet<'a>(
 ) -> Result<(), AllocError>
     requires { length report.old.text.now < 2 ^ 32 }
     ensures out { report.new.out ≡ report.old.out }
-    ensures stays { Stays report.old report.new }
+    ensures lines { OnOk result (OfUnmet named.entry report.old.faults.items report.new.faults.items) }
+    ensures still { IsStill report.old report.new }
 {
     let places = named.places;
     if places.is_empty() || rereads == places.len() {

@@ -10,8 +10,8 @@ use Rattle.ecma_report.proofs.PartLemmas.{whole-in-parts}
 use Rattle.ecma_report.proofs.ReportLemmas.{adds-held, adds-on, said-of, stays-of}
 use Rattle.ecma_faces.proofs.canonical.write_clean.Goals as goal
 
-pub returns : goal.returns
-returns g c = λ ask file bytes of.
+pub returns-clause-adds : goal.returns-clause-adds
+returns-clause-adds g c = λ ask file bytes of.
     let first = c.args.report.now in
     let opened = c.begin_whole.new.self in
     let written = c.write_tokens_joined.new.report in

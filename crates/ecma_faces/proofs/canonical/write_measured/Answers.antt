@@ -8,8 +8,8 @@ use Rattle.ecma_faces.proofs.CanonicalLemmas.{holds-where, told-text, told-too_l
 use Rattle.ecma_report.proofs.ReportLemmas.{adds-none}
 use Rattle.ecma_faces.proofs.canonical.write_measured.Goals as goal
 
-pub returns-in_ok-write_clean-in-Some : goal.returns-in_ok-write_clean-in-Some
-returns-in_ok-write_clean-in-Some g c = λ ask file of clean counted.
+pub returns-in_ok-write_clean-in-Some-clause-told : goal.returns-in_ok-write_clean-in-Some-clause-told
+returns-in_ok-write_clean-in-Some-clause-told g c = λ ask file of clean counted.
     let text = c.args.text.now in
     let rule = rule_at c.args.named in
     let own = joined text None (tokens_by rule (begun ask.asked text)) in
@@ -17,11 +17,11 @@ returns-in_ok-write_clean-in-Some g c = λ ask file of clean counted.
     record {
       told = Bytes own;
       is_told = told-text rule ask text c.in-Some.field-0 c.utf8.text c.requires.fits (sym (holds-where c.args.measured.clean c.if-not-measured.false) ∙ clean) is below;
-      holds = c.in_ok-write_clean-in-Some.ensures ask file text of;
+      holds = c.in_ok-write_clean-in-Some.ensures.adds ask file text of;
     }
 
-pub returns-in-None : goal.returns-in-None
-returns-in-None g c = λ ask file of clean counted.
+pub returns-in-None-clause-told : goal.returns-in-None-clause-told
+returns-in-None-clause-told g c = λ ask file of clean counted.
     let text = c.args.text.now in
     let rule = rule_at c.args.named in
     let own = joined text None (tokens_by rule (begun ask.asked text)) in

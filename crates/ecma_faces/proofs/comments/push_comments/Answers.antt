@@ -27,7 +27,7 @@ comments-preserved g c =
           c.in_ok-pass_on.ensures.adds,
     )
 
-pub returns : goal.returns
-returns g c = λ ask file bytes of.
+pub returns-clause-adds : goal.returns-clause-adds
+returns-clause-adds g c = λ ask file bytes of.
     subst (λ rows. Adds (g.W.Write.contents c.args.out.now) (g.W.Write.contents c.comments.out) c.args.report.now.out.items c.comments.report.out.items (flat_map (comment_row ask file bytes) rows))
     (take_all c.comments.buffered-index c.args.comments.now c.comments-test.false) (c.comments.invariant.1 ask file bytes of)

@@ -13,8 +13,8 @@ use Rattle.ecma_faces.specs.Whole.{html_by}
 use Rattle.ecma_faces.proofs.HtmlLemmas.{in-parts, left-is, part-three}
 use Rattle.ecma_faces.proofs.html.write_parts.Goals as goal
 
-pub returns : goal.returns
-returns g c = λ ask file bytes of order.
+pub returns-clause-adds : goal.returns-clause-adds
+returns-clause-adds g c = λ ask file bytes of order.
     let first = c.args.report.now in
     let opened = c.begin_whole.new.self in
     let begun = c.push_front.new.report in

@@ -27,7 +27,7 @@ exports-preserved g c =
           c.in_ok-pass_on.ensures.adds,
     )
 
-pub returns : goal.returns
-returns g c = λ ask file bytes of.
+pub returns-clause-adds : goal.returns-clause-adds
+returns-clause-adds g c = λ ask file bytes of.
     subst (λ rows. Adds (g.W.Write.contents c.args.out.now) (g.W.Write.contents c.exports.out) c.args.report.now.out.items c.exports.report.out.items (flat_map (export_row ask file bytes) rows))
     (take_all c.exports.export-index c.args.exports.now c.exports-test.false) (c.exports.invariant.1 ask file bytes of)

@@ -27,7 +27,7 @@ imports-preserved g c =
           c.in_ok-pass_on.ensures.adds,
     )
 
-pub returns : goal.returns
-returns g c = λ ask file bytes of.
+pub returns-clause-adds : goal.returns-clause-adds
+returns-clause-adds g c = λ ask file bytes of.
     subst (λ rows. Adds (g.W.Write.contents c.args.out.now) (g.W.Write.contents c.imports.out) c.args.report.now.out.items c.imports.report.out.items (flat_map (import_row ask file bytes) rows))
     (take_all c.imports.import-index c.args.imports.now c.imports-test.false) (c.imports.invariant.1 ask file bytes of)

@@ -1,12 +1,13 @@
-use Rattle.std.proofs.Common.{◌∙◌, [], ap, subst}
+use Rattle.std.proofs.Common.{◌∙◌, [], ap, refl, subst}
 use Rattle.ecma_modules.specs.Modules.{exports_of}
 use Rattle.ecma_faces.specs.Modules.{export_rows, kept_by, module_options}
 use Rattle.ecma_report.specs.Reports.{Adds, writes_errors}
-use Rattle.ecma_report.proofs.ReportLemmas.{adds-on, stays-of}
+use Rattle.ecma_report.proofs.FaultLemmas.{faults-as}
+use Rattle.ecma_report.proofs.ReportLemmas.{adds-on, still-of}
 use Rattle.ecma_faces.proofs.imports.write_exports.Goals as goal
 
-pub returns : goal.returns
-returns g c = λ ask file bytes of face.
+pub returns-clause-adds : goal.returns-clause-adds
+returns-clause-adds g c = λ ask file bytes of face.
     let first = c.args.report.now in
     let read = c.read_module.new.report in
     let last = c.push_exports.new.report in
@@ -16,6 +17,12 @@ returns g c = λ ask file bytes of face.
     let ok = c.in_ok-module.ensures in
     let nothing = ok.nothing (ap (λ l. writes_errors l.asked.face) of.look ∙ face) in
     let same = c.deref.ensures.value ∙ ok.exports ask file bytes of in
-    let here = stays-of ask file bytes first read ok.stays of in
-    let told = subst (λ rows. Adds between after read.out.items last.out.items (export_rows ask file bytes rows)) same (c.in_ok-push_exports.ensures ask file bytes here) in
+    let here = still-of ask file bytes first read ok.still of in
+    let told = subst (λ rows. Adds between after read.out.items last.out.items (export_rows ask file bytes rows)) same (c.in_ok-push_exports.ensures.adds ask file bytes here) in
     adds-on before between after first.out.items read.out.items last.out.items [] (export_rows ask file bytes (exports_of (module_options ask.asked) (kept_by c.args.named ask bytes))) nothing told
+
+pub returns-clause-lines : goal.returns-clause-lines
+returns-clause-lines g c = λ ask file bytes of.
+    let read = c.read_module.new.report in
+    let last = c.push_exports.new.report in
+    faults-as c.args.named ask file bytes _ _ c.args.report.now.faults.items c.args.report.now.faults.items read.faults.items last.faults.items refl refl c.in_ok-push_exports.ensures.stays.faults (c.in_ok-module.ensures.lines ask file bytes of)

@@ -1,4 +1,4 @@
-use Rattle.std.proofs.Common.{◌++◌, None, true}
+use Rattle.std.proofs.Common.{◌++◌, None, refl, true}
 use Rattle.ecma_state.specs.Session.{kept_tokens}
 use Rattle.ecma_modules.specs.Modules.{exports_of, imports_of}
 use Rattle.ecma_reader.specs.Readers.{tokens_by}
@@ -11,6 +11,7 @@ use Rattle.ecma_report.specs.Rows.{whole_text}
 use Rattle.ecma_report.specs.Runs.{read_to}
 use Rattle.ecma_report.specs.Slashes.{rule_at}
 use Rattle.ecma_faces.specs.Tokens.{begun, token_rows}
+use Rattle.ecma_report.proofs.FaultLemmas.{faults-as, unmet-as}
 use Rattle.ecma_report.proofs.ReportLemmas.{flushed-all}
 use Rattle.ecma_faces.proofs.telling.tell.Goals as goal
 
@@ -63,4 +64,9 @@ returns g c =
             is_told = told.is_told;
             holds = written (canon_written ask file told.told) told.holds flushed.written flushed.none;
           };
+      lines = λ ask file bytes of face.
+          faults-as c.args.named ask file bytes _ _ c.args.report.now.faults.items c.args.report.now.faults.items c.write_face.new.report.faults.items c.flush.new.self.faults.items refl refl flushed.stays.faults
+          (c.in_ok-write_face.ensures.lines ask file bytes of face);
+      unmet = λ ask file bytes of face.
+          unmet-as c.args.named c.args.report.now.faults.items c.write_face.new.report.faults.items c.flush.new.self.faults.items flushed.stays.faults (c.in_ok-write_face.ensures.unmet ask file bytes of face);
     }

@@ -3,7 +3,7 @@ use Rattle.ecma_report.specs.Reports.{writes_errors}
 use Rattle.ecma_faces.proofs.telling.write_face.Goals as goal
 
 pub returns-in-Errors-clause-errors : goal.returns-in-Errors-clause-errors
-returns-in-Errors-clause-errors g c = λ look name text of is. c.write_errors.ensures look name text of (ap writes_errors is)
+returns-in-Errors-clause-errors g c = λ look name text of is. c.write_errors.ensures.rows look name text of (ap writes_errors is)
 
 pub returns-in-Canonical-clause-canonical : goal.returns-in-Canonical-clause-canonical
-returns-in-Canonical-clause-canonical g c = λ look name text of is. c.write_canonical.ensures look name text of (ap writes_errors is)
+returns-in-Canonical-clause-canonical g c = λ look name text of is. c.write_canonical.ensures.told look name text of (ap writes_errors is)

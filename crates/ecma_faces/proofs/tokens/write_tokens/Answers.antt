@@ -1,17 +1,20 @@
-use Rattle.std.proofs.Common.{◌∙◌, [], None, false, append-nil, ap, subst}
+use Rattle.std.proofs.Common.{◌∙◌, [], None, false, append-nil, ap, map, refl, subst}
+use Rattle.ecma_token.specs.View.{error_view}
 use Rattle.ecma_options.specs.Begin.{begin}
 use Rattle.ecma_reader.specs.Readers.{Shows, tokens_by}
 use Rattle.ecma_report.specs.Reports.{Adds, writes_errors}
+use Rattle.ecma_report.specs.Runs.{read_to}
 use Rattle.ecma_report.specs.Slashes.{rule_at}
 use Rattle.ecma_faces.specs.Tokens.{begun, token_rows}
 use Rattle.ecma_report.proofs.ReportLemmas.{adds-on, said-of, stays-of}
+use Rattle.ecma_faces.proofs.FaultLemmas.{faults-read}
 use Rattle.ecma_faces.proofs.tokens.write_tokens.Goals as goal
 
 pub tell_errors-requires : goal.tell_errors-requires
 tell_errors-requires g c = rw c.in_ok-read_tokens.ensures.stays.text c.requires
 
-pub returns : goal.returns
-returns g c = λ ask file bytes of face.
+pub returns-clause-adds : goal.returns-clause-adds
+returns-clause-adds g c = λ ask file bytes of face.
     let first = c.args.report.now in
     let read = c.read_tokens.new.report in
     let last = c.tell_errors.new.report in
@@ -25,3 +28,18 @@ returns g c = λ ask file bytes of face.
     let here = stays-of ask file bytes first read c.in_ok-read_tokens.ensures.stays of in
     let behind = c.in_ok-tell_errors.ensures.adds (ap (λ l. writes_errors l.asked.face) here.look ∙ face) in
     subst (Adds before after first.out.items last.out.items) (append-nil rows) (adds-on before between after first.out.items read.out.items last.out.items rows [] told behind)
+
+pub returns-clause-lines : goal.returns-clause-lines
+returns-clause-lines g c = λ ask file bytes of.
+    let first = c.args.report.now in
+    let read = c.read_tokens.new.report in
+    let last = c.tell_errors.new.report in
+    let rule = rule_at c.args.named in
+    let start = begun ask.asked bytes in
+    let shows = said-of ask file bytes first (λ a n t. Shows rule (begin false a.asked.options t) [] c.in_ok-reader.reader) of c.in_ok-reader.ensures.shows in
+    let passed = c.in_ok-read_tokens.ensures in
+    let none = c.new-errors.ensures.items in
+    let left = c.finish-outcome.ensures.left (read_to false c.args.named ask bytes) (passed.read rule start shows none).at in
+    let told = c.in_ok-tell_errors.ensures.lines ask file bytes (stays-of ask file bytes first read passed.stays of) in
+    faults-read c.args.named ask file bytes (read_to false c.args.named ask bytes) _ _ read.faults.items first.faults.items last.faults.items last.faults.items
+    (passed.kept rule start shows none) (ap (map error_view) c.into_vec-recorded.ensures ∙ left.errors) passed.stays.faults refl told

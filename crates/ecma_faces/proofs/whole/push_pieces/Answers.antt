@@ -25,7 +25,7 @@ pieces-preserved g c =
           c.in_ok-pass_on.ensures.adds,
     )
 
-pub returns : goal.returns
-returns g c = λ ask file bytes of.
+pub returns-clause-adds : goal.returns-clause-adds
+returns-clause-adds g c = λ ask file bytes of.
     streams-all (g.W.Write.contents c.args.out.now) (g.W.Write.contents c.pieces.out) c.args.report.now.out.items c.pieces.report.out.items
     (piece_rows ask file bytes c.pieces.cover) (piece_rows ask file bytes c.args.cover.now) (c.pieces.invariant.1 ask file bytes of) (ap (piece_rows ask file bytes) c.in_default.ensures.0)

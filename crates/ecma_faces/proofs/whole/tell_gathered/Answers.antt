@@ -1,4 +1,4 @@
-use Rattle.std.proofs.Common.{◌∙◌, ◌++◌, [], ap, map, refl, subst, sym, true}
+use Rattle.std.proofs.Common.{◌≡◌, ◌∙◌, ◌++◌, [], ap, map, refl, subst, sym, true}
 use Rattle.std.specs.Str.{chars}
 use Rattle.ecma_token.specs.View.{error_view}
 use Rattle.ecma_state.specs.Session.{kept_tokens}
@@ -12,21 +12,24 @@ use Rattle.ecma_pieces.proofs.CoveredLemmas.{gathered_may_be_covered}
 use Rattle.ecma_reader.specs.Outputs.{error_tokens}
 use Rattle.ecma_faces.specs.Pieces.{piece_rows, pieces_by}
 use Rattle.ecma_faces.specs.Whole.{html_written, places_of, shown_head}
+use Rattle.ecma_report.specs.FaultLines.{told_faults}
 use Rattle.ecma_report.specs.Reports.{Adds, writes_errors}
 use Rattle.ecma_report.specs.Rows.{whole_text}
 use Rattle.ecma_report.specs.Runs.{read_to}
 use Rattle.ecma_html.specs.Marked.{AreInOrder}
 use Rattle.ecma_faces.proofs.WholeLemmas.{places-in-order}
 use Rattle.ecma_faces.proofs.ReadLemmas.{comments-asked, kept-asked, pieces-asked, read-as-asked, recorded-asked, refusals-asked}
-use Rattle.ecma_report.proofs.ReportLemmas.{adds-on, stays-of}
+use Rattle.ecma_report.proofs.FaultLemmas.{unmet-alone, unmet-as, unmet-first}
+use Rattle.ecma_faces.proofs.FaultLemmas.{faults-read}
+use Rattle.ecma_report.proofs.ReportLemmas.{adds-on, still-of}
 use Rattle.ecma_faces.proofs.whole.tell_gathered.Goals as goal
 
 pub write_gathered-requires-clause-fits : goal.write_gathered-requires-clause-fits
-write_gathered-requires-clause-fits g c = rw (c.in_ok-tell_found.ensures.stays.text ∙ c.in_ok-tell_unmet.ensures.stays.text) c.requires
+write_gathered-requires-clause-fits g c = rw (c.in_ok-tell_found.ensures.still.text ∙ c.in_ok-tell_unmet.ensures.still.text) c.requires
 
 pub write_gathered-requires-clause-covered : goal.write_gathered-requires-clause-covered
 write_gathered-requires-clause-covered g c =
-    let same = c.in_ok-tell_found.ensures.stays.text ∙ c.in_ok-tell_unmet.ensures.stays.text in
+    let same = c.in_ok-tell_found.ensures.still.text ∙ c.in_ok-tell_unmet.ensures.still.text in
     let gathered = c.in_ok-read.read.gathered in
     subst (λ t. MayBeCovered (begin 0 (chars t)) gathered.kept.items gathered.comments.items) (sym same)
     (gathered_may_be_covered _ (begin 0 (chars c.args.report.now.text.now)) _ gathered gathered.kept.items gathered.comments.items c.in_ok-read.ensures.gathers refl refl)
@@ -43,8 +46,8 @@ returns g c = record {
       let before = g.W.Write.contents c.args.out.now in
       let between = g.W.Write.contents c.tell_found.new.out in
       let after = g.W.Write.contents c.write_gathered.new.out in
-      let there = stays-of ask file bytes first unmet c.in_ok-tell_unmet.ensures.stays of in
-      let here = stays-of ask file bytes unmet told c.in_ok-tell_found.ensures.stays there in
+      let there = still-of ask file bytes first unmet c.in_ok-tell_unmet.ensures.still of in
+      let here = still-of ask file bytes unmet told c.in_ok-tell_found.ensures.still there in
       let quiet = c.in_ok-tell_found.ensures.adds (ap (λ l. writes_errors l.asked.face) there.look ∙ ap writes_errors face) in
       let nothing = subst (λ items. Adds before between items told.out.items []) (ap (λ v. v.items) c.in_ok-tell_unmet.ensures.out) quiet in
       let asked = ap (λ l. l.asked) of.look in
@@ -63,8 +66,8 @@ returns g c = record {
       let before = g.W.Write.contents c.args.out.now in
       let between = g.W.Write.contents c.tell_found.new.out in
       let after = g.W.Write.contents c.write_gathered.new.out in
-      let there = stays-of ask file bytes first unmet c.in_ok-tell_unmet.ensures.stays of in
-      let here = stays-of ask file bytes unmet told c.in_ok-tell_found.ensures.stays there in
+      let there = still-of ask file bytes first unmet c.in_ok-tell_unmet.ensures.still of in
+      let here = still-of ask file bytes unmet told c.in_ok-tell_found.ensures.still there in
       let quiet = c.in_ok-tell_found.ensures.adds (ap (λ l. writes_errors l.asked.face) there.look ∙ ap writes_errors face) in
       let nothing = subst (λ items. Adds before between items told.out.items []) (ap (λ v. v.items) c.in_ok-tell_unmet.ensures.out) quiet in
       let asked = ap (λ l. l.asked) of.look in
@@ -100,8 +103,8 @@ returns g c = record {
       let before = g.W.Write.contents c.args.out.now in
       let between = g.W.Write.contents c.tell_found.new.out in
       let after = g.W.Write.contents c.write_gathered.new.out in
-      let there = stays-of ask file bytes first unmet c.in_ok-tell_unmet.ensures.stays of in
-      let here = stays-of ask file bytes unmet told c.in_ok-tell_found.ensures.stays there in
+      let there = still-of ask file bytes first unmet c.in_ok-tell_unmet.ensures.still of in
+      let here = still-of ask file bytes unmet told c.in_ok-tell_found.ensures.still there in
       let quiet = c.in_ok-tell_found.ensures.adds (ap (λ l. writes_errors l.asked.face) there.look ∙ ap writes_errors face) in
       let nothing = subst (λ items. Adds before between items told.out.items []) (ap (λ v. v.items) c.in_ok-tell_unmet.ensures.out) quiet in
       let asked = ap (λ l. l.asked) of.look in
@@ -122,4 +125,29 @@ returns g c = record {
           holds = adds-on before between after first.out.items told.out.items last.out.items [] (shown_head ask file ++ whole_text ask file lines.lines) nothing lines.holds;
         };
       };
+  lines = λ ask file bytes of.
+      let first = c.args.report.now in
+      let unmet = c.tell_unmet.new.report in
+      let named = c.args.named in
+      let read = c.in_ok-read.read in
+      let s = read_to true named ask bytes in
+      let there = still-of ask file bytes first unmet c.in_ok-tell_unmet.ensures.still of in
+      let asked = ap (λ l. l.asked) of.look in
+      let is = read-as-asked true named ask bytes first.text.now (rule_of c.slashes_at-slashes.result) c.settings-settings.result c.context-context.result read
+      c.slashes_at-slashes.ensures.rule (c.settings-settings.ensures ∙ ap (λ a. asks.settings true a.options) asked) (c.context-context.ensures ∙ ap (λ a. asks.context a.options) asked) of.text c.in_ok-read.ensures in
+      let found = map view c.in_ok-found.found.items in
+      let own_recorded = map error_view c.into_vec.result.items in
+      let waiting = ap (map error_view) c.new-waiting.ensures.items in
+      let recorded = ap (map error_view) c.into_vec.ensures ∙ c.in_ok-recorded.ensures ∙ recorded-asked named ask bytes read is in
+      let by_place = subst (λ es. IsByPlace (all_of (map error_view read.refusals.items) own_recorded es) found) waiting c.in_ok-found.ensures in
+      let told = subst (λ fs. c.tell_found.new.report.faults.items ≡ unmet.faults.items ++ told_faults ask file bytes (map view fs)) c.deref.ensures.value (c.in_ok-tell_found.ensures.lines ask file bytes there) in
+      faults-read named ask file bytes s (map error_view read.refusals.items) own_recorded first.faults.items first.faults.items c.tell_found.new.report.faults.items c.write_gathered.new.report.faults.items
+      (refusals-asked named ask bytes read is) recorded refl c.in_ok-write_gathered.ensures.stays.faults
+      (unmet-first named ask file bytes (all_of (map error_view read.refusals.items) own_recorded []) found first.faults.items unmet.faults.items c.tell_found.new.report.faults.items by_place c.in_ok-tell_unmet.ensures.lines told);
+  unmet = λ ask file bytes of face.
+      let first = c.args.report.now in
+      let unmet = c.tell_unmet.new.report in
+      let there = still-of ask file bytes first unmet c.in_ok-tell_unmet.ensures.still of in
+      unmet-as c.args.named first.faults.items c.tell_found.new.report.faults.items c.write_gathered.new.report.faults.items c.in_ok-write_gathered.ensures.stays.faults
+      (unmet-alone c.args.named ask file bytes _ first.faults.items unmet.faults.items c.tell_found.new.report.faults.items face c.in_ok-tell_unmet.ensures.lines (c.in_ok-tell_found.ensures.lines ask file bytes there));
 }

@@ -10,8 +10,8 @@ new-requires-clause-tokens g c = rw c.as_slice-kept.ensures.value c.requires.cov
 pub new-requires-clause-comments : goal.new-requires-clause-comments
 new-requires-clause-comments g c = rw c.as_slice-comments.ensures.value c.requires.covered.comments_stand
 
-pub returns : goal.returns
-returns g c = λ ask file bytes of.
+pub returns-clause-adds : goal.returns-clause-adds
+returns-clause-adds g c = λ ask file bytes of.
     let first = c.args.report.now in
     let last = c.push_pieces.new.report in
     let kept = c.args.gathered.now.kept.items in
@@ -23,4 +23,4 @@ returns g c = λ ask file bytes of.
     ∙ ap (λ k. classes_of 0 (length first.text.now) k c.as_slice-comments.result.now) c.as_slice-kept.ensures.value
     ∙ ap (λ b. classes_of 0 (length first.text.now) kept b) c.as_slice-comments.ensures.value
     ∙ ap (λ t. classes_of 0 (length t) kept comments) of.text in
-    subst (λ pieces. Adds before after first.out.items last.out.items (piece_rows ask file bytes pieces)) same (c.in_ok-push_pieces.ensures ask file bytes of)
+    subst (λ pieces. Adds before after first.out.items last.out.items (piece_rows ask file bytes pieces)) same (c.in_ok-push_pieces.ensures.adds ask file bytes of)

@@ -7,8 +7,8 @@ use Rattle.ecma_report.specs.Rows.{whole_text}
 use Rattle.ecma_report.proofs.ReportLemmas.{adds-on, said-of, stays-of}
 use Rattle.ecma_faces.proofs.whole.write_shown.Goals as goal
 
-pub returns : goal.returns
-returns g c = λ ask file bytes of.
+pub returns-clause-adds : goal.returns-clause-adds
+returns-clause-adds g c = λ ask file bytes of.
     let first = c.args.report.now in
     let named = c.write_shown_head.new.report in
     let last = c.write_whole.new.self in

@@ -8,11 +8,12 @@ use Rattle.ecma_report.specs.Errors.{error_rows}
 use Rattle.ecma_report.specs.Reports.{Adds, writes_errors}
 use Rattle.ecma_report.specs.Runs.{read_to}
 use Rattle.ecma_report.specs.Slashes.{rule_at}
-use Rattle.ecma_report.proofs.ReportLemmas.{said-of, stays-of}
+use Rattle.ecma_report.proofs.FaultLemmas.{rows-no-lines, unmet-alone}
+use Rattle.ecma_report.proofs.ReportLemmas.{said-of, still-of}
 use Rattle.ecma_report.proofs.faults.write_errors.Goals as goal
 
-pub returns : goal.returns
-returns g c = λ ask file bytes of face.
+pub returns-clause-rows : goal.returns-clause-rows
+returns-clause-rows g c = λ ask file bytes of face.
     let first = c.args.report.now in
     let unmet = c.tell_unmet.new.report in
     let last = c.tell_found.new.report in
@@ -34,7 +35,7 @@ returns g c = λ ask file bytes of face.
     let own_recorded = map error_view c.into_vec.result.items in
     let own_waiting = map error_view c.into_vec-2.result.items in
     let all = ap (λ es. all_of es own_recorded own_waiting) tokens ∙ ap (λ es. all_of (error_tokens s) es own_waiting) recorded ∙ ap (λ es. all_of (error_tokens s) s.errors.recorded es) waiting in
-    let here = stays-of ask file bytes first unmet c.in_ok-tell_unmet.ensures.stays of in
+    let here = still-of ask file bytes first unmet c.in_ok-tell_unmet.ensures.still of in
     let rows = c.in_ok-tell_found.ensures.rows ask file bytes here (ap (λ l. writes_errors l.asked.face) here.look ∙ face) in
     let told = subst (λ fs. Adds before after unmet.out.items last.out.items (error_rows ask file bytes (map view fs))) c.deref.ensures.value rows in
     record {
@@ -42,3 +43,10 @@ returns g c = λ ask file bytes of face.
       by_place = subst (λ fs. IsByPlace fs (map view found)) all c.in_ok-found.ensures;
       holds = subst (λ items. Adds before after items last.out.items (error_rows ask file bytes (map view found))) (ap (λ v. v.items) c.in_ok-tell_unmet.ensures.out) told;
     }
+
+pub returns-clause-lines : goal.returns-clause-lines
+returns-clause-lines g c = λ ask file bytes of face.
+    let unmet = c.tell_unmet.new.report in
+    let here = still-of ask file bytes c.args.report.now unmet c.in_ok-tell_unmet.ensures.still of in
+    unmet-alone c.args.named ask file bytes _ c.args.report.now.faults.items unmet.faults.items c.tell_found.new.report.faults.items (rows-no-lines ask.asked.face face) c.in_ok-tell_unmet.ensures.lines
+    (c.in_ok-tell_found.ensures.lines ask file bytes here)
