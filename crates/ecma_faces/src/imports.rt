@@ -147,7 +147,7 @@ fn gather_tokens<'a>(
         → OnOk result (gathering.new ≡ gathered options (map kept_of (tokens_by rule begin))) }
     ensures kept { (rule : SlashRule) (begin : Session) → Shows rule begin [] reader.old → errors.old.items ≡ []
         → OnOk result (map error_view errors.new.items ≡ errors_among (tokens_by rule begin)) }
-    ensures read { (rule : SlashRule) (begin : Session) (options : ModuleOptions) → Shows rule begin [] reader.old → gathering.old ≡ gathered options []
+    ensures read { (rule : SlashRule) (begin : Session) → Shows rule begin [] reader.old → errors.old.items ≡ []
         → OnOk result (HasRead rule begin reader.new) }
 {
     let mut slot = None;

@@ -38,4 +38,4 @@ returns-clause-lines g c = λ ask file bytes of.
     let none = c.new-errors.ensures.items in
     let left = c.finish-recorded.ensures.left (read_to true c.args.named ask bytes) (passed.read rule start shows none).at in
     faults-read c.args.named ask file bytes (read_to true c.args.named ask bytes) _ _ first.faults.items first.faults.items c.tell_errors.new.report.faults.items c.push_comments.new.report.faults.items
-    (passed.kept rule start shows none) ? refl c.in_ok-push_comments.ensures.stays.faults (c.in_ok-tell_errors.ensures.lines ask file bytes of)
+    (passed.kept rule start shows none) (ap (map error_view) c.into_vec.ensures ∙ left.errors) refl c.in_ok-push_comments.ensures.stays.faults (c.in_ok-tell_errors.ensures.lines ask file bytes of)

@@ -42,14 +42,14 @@ returns-clause-gathered c = λ rule begin options shows so.
     let found = option_map spanned_view c.read_into.new.slot in
     (told-end rule begin (Gathers options c.tokens.gathering) c.tokens.reader c.read_into.new.self found _ tells (c.in_ok-read_into.ensures.reads rule begin tells.tokens tells.shows) c.if-branch.false).0
 
-pub returns-clause-read : goal.returns-clause-read
-returns-clause-read c = λ rule begin options shows so.
-    let tells = c.tokens.invariant.1.0 rule begin options shows so in
-    let found = option_map spanned_view c.read_into.new.slot in
-    (told-end rule begin (Gathers options c.tokens.gathering) c.tokens.reader c.read_into.new.self found _ tells (c.in_ok-read_into.ensures.reads rule begin tells.tokens tells.shows) c.if-branch.false).1
-
 pub returns-clause-kept : goal.returns-clause-kept
 returns-clause-kept c = λ rule begin shows none.
     let tells = c.tokens.invariant.1.1 rule begin shows none in
     (told-end rule begin (FlatMaps (λ (t : SpannedView). refusal_of t.token) (map error_view c.tokens.errors.items)) c.tokens.reader c.read_into.new.self (option_map spanned_view c.read_into.new.slot) _ tells
     (c.in_ok-read_into.ensures.reads rule begin tells.tokens tells.shows) c.if-branch.false).0
+
+pub returns-clause-read : goal.returns-clause-read
+returns-clause-read c = λ rule begin shows none.
+    let tells = c.tokens.invariant.1.1 rule begin shows none in
+    (told-end rule begin (FlatMaps (λ (t : SpannedView). refusal_of t.token) (map error_view c.tokens.errors.items)) c.tokens.reader c.read_into.new.self (option_map spanned_view c.read_into.new.slot) _ tells
+    (c.in_ok-read_into.ensures.reads rule begin tells.tokens tells.shows) c.if-branch.false).1

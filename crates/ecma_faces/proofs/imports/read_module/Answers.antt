@@ -5,9 +5,18 @@ use Rattle.ecma_reader.specs.Readers.{Shows}
 use Rattle.ecma_report.specs.Runs.{read_to}
 use Rattle.ecma_report.specs.Slashes.{rule_at}
 use Rattle.ecma_report.proofs.ReportLemmas.{said-of}
-use Rattle.ecma_faces.specs.Modules.{module_options}
 use Rattle.ecma_faces.proofs.FaultLemmas.{faults-read}
 use Rattle.ecma_faces.proofs.imports.read_module.Goals as goal
 
 pub returns-clause-lines : goal.returns-clause-lines
-returns-clause-lines g c = λ ask file bytes of. ?
+returns-clause-lines g c = λ ask file bytes of.
+    let first = c.args.report.now in
+    let last = c.tell_errors.new.report in
+    let rule = rule_at c.args.named in
+    let start = begin false ask.asked.options bytes in
+    let shows = said-of ask file bytes first (λ a n t. Shows rule (begin false a.asked.options t) [] c.in_ok-reader.reader) of c.in_ok-reader.ensures.shows in
+    let passed = c.in_ok-gather_tokens.ensures in
+    let none = c.new-errors.ensures.items in
+    let left = c.finish-outcome.ensures.left (read_to false c.args.named ask bytes) (passed.read rule start shows none).at in
+    faults-read c.args.named ask file bytes (read_to false c.args.named ask bytes) _ _ first.faults.items first.faults.items last.faults.items last.faults.items
+    (passed.kept rule start shows none) (ap (map error_view) c.into_vec-recorded.ensures ∙ left.errors) refl refl (c.in_ok-tell_errors.ensures.lines ask file bytes of)
