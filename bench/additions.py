@@ -72,13 +72,12 @@ def has_only_gained(old, new, parts):
 
 
 def said(row):
-    """What a declaration says that a crate is shown: of a list of modules each by itself, and an enum's variants in no order,
-    which no contract names."""
-    crate, path, shown = row
-    first, *rest = lines = shown.text.split("\n")
+    """What a declaration says that a crate is shown, wherever it stands: of a list of modules each by itself, and an enum's
+    variants in no order, which no contract names."""
+    first, *rest = lines = row[2].text.split("\n")
     if all(re.match(r"(pub(\([a-z ]+\))? )?mod\b|#!", it) for it in lines):
-        return [(crate, path, it.removeprefix("pub ")) for it in lines]
-    return [(crate, path, "\n".join([first, *sorted(rest)]) if re.match(r"(pub )?enum\b", first) else shown.text)]
+        return [it.removeprefix("pub ") for it in lines]
+    return ["\n".join([first, *sorted(rest)]) if re.match(r"(pub )?enum\b", first) else row[2].text]
 
 
 def is_shown_as_much(old, new):

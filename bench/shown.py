@@ -123,8 +123,8 @@ def reached(folder, below, parts, others):
 
 
 def reached_sum(folder, below, parts, others):
-    """A sum of what the crate in the folder reaches of those in the folders `below`."""
+    """A sum of what the crate in the folder reaches of those in the folders `below`, wherever in them it stands."""
     total = hashlib.sha256()
-    for crate, path, shown in reached(folder, below, parts, others):
-        total.update(f"{crate} {path}\n{shown.text}\n".encode())
+    for text in sorted({shown.text for _, _, shown in reached(folder, below, parts, others)}):
+        total.update(f"{text}\n".encode())
     return total.hexdigest()[:16]

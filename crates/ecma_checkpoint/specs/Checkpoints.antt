@@ -1,12 +1,12 @@
 -- Where a lexer is between two reads, as plain data, and where going back to it leads: our own choice.
 use Rattle.std.specs.Prelude.{◌≡◌, ◌≤◌, Bool, true, Option, Some, [], length, take}
-use Rattle.ecma_place.specs.Cursor.{Cursor, HasPlace, place, rest}
+use Rattle.ecma_place.specs.Cursor.{Cursor, HasPlace, place}
 use Rattle.ecma_place.specs.declared.place.BytePos.{BytePos}
 use Rattle.ecma_syntax.specs.declared.context.Context.{Context}
-use Rattle.ecma_grammar.specs.Expressions.{opens_expression}
 use Rattle.ecma_state.specs.Disposition.{Errors, no_errors}
 use Rattle.ecma_state.specs.Run.{at_place}
 use Rattle.ecma_state.specs.Session.{LexerState}
+use Rattle.ecma_state.specs.Slashes.{StandsSlash}
 use Rattle.ecma_state.specs.State.{StateValue, last_slash}
 use Rattle.ecma_state.specs.declared.settings.Settings.{Settings}
 use Rattle.ecma_checkpoint.specs.declared.checkpoint.Counts.{Counts}
@@ -34,12 +34,6 @@ checkpoint_of l =
       counts = counts_of l;
       refused = l.refused;
     }
-
--- A slash stands at a place of the text, and no template was opened behind it.
-pub record StandsSlash (input : Cursor) (opened p : BytePos) : Type 0 where
-  pub has_place : HasPlace input p.0
-  pub opens : opens_expression (rest (at_place p input)) ≡ true
-  pub opened_before : opened.0 ≤ p.0
 
 -- the same of a place, where there is one
 abbrev pub AreSlashes : Cursor → BytePos → Option BytePos → Type 0

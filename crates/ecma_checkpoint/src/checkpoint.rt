@@ -1,6 +1,7 @@
 //! Where a lexer is between two reads, as plain data: no text, and no list but the contexts. Our own.
 ghost use Rattle.std.specs.Prelude.{◌≡◌, ◌≤◌, ◌↔◌, Some, length, IsTrue, IfOk, IsOk};
-ghost use Rattle.ecma_checkpoint.specs.Checkpoints.{ArePlaces, AreSlashes, Fits, StandsSlash, Suits, Within};
+ghost use Rattle.ecma_checkpoint.specs.Checkpoints.{ArePlaces, AreSlashes, Fits, Suits, Within};
+ghost use Rattle.ecma_state.specs.Slashes.{StandsSlash};
 
 use ecma_place::{BytePos, StringInput};
 use ecma_state::state::State;

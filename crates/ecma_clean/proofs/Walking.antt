@@ -24,7 +24,7 @@ use Rattle.ecma_token.specs.View.{ErrorView, SpannedView, TokenView}
 use Rattle.ecma_parts.specs.BareReads.{Bare, any_recorded}
 use Rattle.ecma_parts.specs.Bearing.{Bearing}
 use Rattle.ecma_clean_reads.specs.Canonical.{Own, own_in}
-use Rattle.ecma_clean_reads.specs.Clean.{is_plain_step, takes_none}
+use Rattle.ecma_state.specs.Clean.{is_plain_step, takes_none}
 use Rattle.ecma_clean_reads.specs.Stages.{Stage, read_in, stage_with, stages}
 use Rattle.ecma_clean_reads.proofs.Disposed.{some-recorded}
 use Rattle.ecma_clean_reads.proofs.Spoiling.{IsPoised, good-step, is_good, is_unrefused, is_unspoilt, read-poised, spoilt-is-bad, unspoilt-left, unspoilt-right}

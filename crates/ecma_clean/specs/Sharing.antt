@@ -10,7 +10,7 @@ use Rattle.ecma_state.specs.TokenAt.{is_empty}
 use Rattle.ecma_state.specs.declared.settings.Settings.{Settings}
 use Rattle.ecma_state.specs.declared.step.Step.{Step}
 use Rattle.ecma_clean_reads.specs.Canonical.{Agree, Own, canonical_of, own_in}
-use Rattle.ecma_clean_reads.specs.Clean.{is_clean}
+use Rattle.ecma_state.specs.Clean.{is_clean}
 use Rattle.ecma_clean_reads.specs.Stages.{Stage, stages}
 
 -- a text from its beginning on

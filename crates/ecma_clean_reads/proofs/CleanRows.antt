@@ -4,7 +4,7 @@ use Rattle.ecma_place.specs.Cursor.{Cursor}
 use Rattle.ecma_state.specs.Counting.{count_step}
 use Rattle.ecma_state.specs.declared.settings.Settings.{Settings}
 use Rattle.ecma_state.specs.declared.step.Step.TheVariants.{PopContext}
-use Rattle.ecma_clean_reads.specs.Clean.{is_clean}
+use Rattle.ecma_state.specs.Clean.{is_clean}
 
 -- without steps no end was answered, whatever the text is
 no_steps : (settings : Settings) (input : Cursor) → is_clean settings input [] ≡ false

@@ -19,7 +19,7 @@ use Rattle.ecma_token.specs.Kinds.{kind_of}
 use Rattle.ecma_token.specs.View.{ErrorView, SpannedView}
 use Rattle.ecma_token.specs.declared.kind.TokenKind.{TokenKind}
 use Rattle.ecma_token.specs.declared.kind.TokenKind.TheVariants.{Error}
-use Rattle.ecma_clean_reads.specs.Clean.{each_step, ends_clean, is_plain_step, takes_none, was_again}
+use Rattle.ecma_state.specs.Clean.{each_step, ends_clean, is_plain_step, takes_none, was_again}
 
 -- From a session, steps are plain, take no error, and end cleanly
 abbrev pub is_good : Session → List Step → Bool

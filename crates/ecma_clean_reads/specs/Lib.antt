@@ -1,3 +1,2 @@
 pub mod Canonical
-pub mod Clean
 pub mod Stages

@@ -1,3 +1,3 @@
-//! Single reads of clean runs: what a clean run and a canonical text are; what a read of a session finds, apart from
-//! places, is what the grammar's parts find; and a run that went wrong stays so.
+//! Single reads of clean runs: what a canonical text is; what a read of a session finds, apart from places, is what the
+//! grammar's parts find; and a run that went wrong stays so.
 #![tactic(auto)]

@@ -16,8 +16,8 @@ use Rattle.ecma_state.specs.declared.step.Step.{Step}
 use Rattle.ecma_state.specs.declared.step.Step.TheVariants.{SetCtx}
 use Rattle.ecma_role_table.specs.Parts.{part_of}
 use Rattle.ecma_role_table.specs.declared.part.Part.{Part}
-use Rattle.ecma_stream.specs.Ending.{enough, most_tokens}
-use Rattle.ecma_stream.proofs.EndLemmas.{room-le}
+use Rattle.ecma_state.specs.Ending.{enough, most_tokens}
+use Rattle.ecma_reads.proofs.EndLemmas.{room-le}
 use Rattle.ecma_slashes.specs.Known.{Known, expected_by, known_behind}
 use Rattle.ecma_slashes.specs.Rereads.{SlashRule, all_by, at_places, behind_by, by_flag, by_role, entered, found_by, known_by, last_read, meets_expression, names_answer, numbered, read_steps, steps_by, steps_to_end_by, unless_ended}
 use Rattle.ecma_slashes.specs.Roles.{is_assign, is_assign_kind, part_in}

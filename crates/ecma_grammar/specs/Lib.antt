@@ -16,10 +16,3 @@ pub mod Strings
 pub mod Telling
 pub mod Templates
 pub mod Words
-pub use Rattle.ecma_place.specs.Atom
-pub use Rattle.ecma_place.specs.Character
-pub use Rattle.ecma_place.specs.Cursor
-pub use Rattle.ecma_place.specs.Text
-pub use Rattle.ecma_syntax.specs.Word
-pub use Rattle.ecma_token.specs.Kinds
-pub use Rattle.ecma_token.specs.View

@@ -28,7 +28,7 @@ pub(crate) fn count_comments(alloc: Global, text: &str) -> Result<usize, AllocEr
     let input = StringInput::new(text, START);
     let mut lexer = Lexer::with_settings(alloc, &settings(true), input);
     for token in &mut lexer {
-        let _token = token?;
+        drop(token?);
     }
     let mut comments = CommentList::new(alloc);
     let _at_end = hand_comments(&mut lexer, &mut comments)?;

@@ -28,13 +28,18 @@ fn read_operand<'a>(lexer: &mut Lexer<'a>) -> Result<Option<TokenAndSpan<'a>>, A
     expression
 }
 
+/// Reads a token, and says whether it is `=>`.
+fn reads_arrow(lexer: &mut Lexer) -> Result<bool, AllocError> {
+    match lexer.read()? {
+        Some(next) => Ok(next.token.kind() == TokenKind::Arrow),
+        None => Ok(false),
+    }
+}
+
 /// Whether the next token is `=>`, which is not read.
 fn is_arrow_ahead(lexer: &mut Lexer) -> Result<bool, AllocError> {
     let here = lexer.checkpoint()?;
-    let is_arrow = match lexer.read()? {
-        Some(next) => next.token.kind() == TokenKind::Arrow,
-        None => false,
-    };
+    let is_arrow = reads_arrow(lexer)?;
     let _went_back = lexer.rewind(&here)?;
     Ok(is_arrow)
 }
@@ -44,7 +49,7 @@ pub(crate) fn begins_with_arrow(alloc: Global, text: &str) -> Result<bool, Alloc
     requires { length text.now < 2 ^ 32 }
 {
     let mut lexer = lexer_of(alloc, text);
-    let _first = lexer.read()?;
+    drop(lexer.read()?);
     is_arrow_ahead(&mut lexer)
 }
 

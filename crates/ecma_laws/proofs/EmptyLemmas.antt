@@ -25,8 +25,8 @@ use Rattle.ecma_state.specs.State.{previous}
 use Rattle.ecma_state.specs.TokenAt.{token_at}
 use Rattle.ecma_state.specs.declared.mode.Mode.{Mode}
 use Rattle.ecma_state.specs.declared.step.Step.TheVariants.{Read}
-use Rattle.ecma_stream.proofs.EndLemmas.{hi_in, kind_in, lo_in, token-extent}
-use Rattle.ecma_stream.proofs.ProgressLemmas.{Nothing, Reads, Something, token-reads}
+use Rattle.ecma_reads.proofs.EndLemmas.{hi_in, kind_in, lo_in, token-extent}
+use Rattle.ecma_reads.proofs.ProgressLemmas.{Nothing, Reads, Something, token-reads}
 use Rattle.ecma_laws.proofs.StepLemmas.{fold-holds}
 
 -- what holds characters is not empty

@@ -19,7 +19,7 @@ use Rattle.ecma_state.specs.Session.{Past, Session, kept_back, last_flag, state_
 use Rattle.ecma_state.specs.declared.mode.Mode.{Mode}
 use Rattle.ecma_state.specs.declared.step.Step.TheVariants.{Read}
 use Rattle.ecma_laws.proofs.EmptyLemmas.{again-holds, bytes-some, empty_tokens_stand_alone}
-use Rattle.ecma_stream.proofs.EndLemmas.{ReadsOn, opens-some, reading-on, stands-opens, token-extent}
+use Rattle.ecma_reads.proofs.EndLemmas.{ReadsOn, opens-some, reading-on, stands-opens, token-extent}
 use Rattle.ecma_laws.proofs.StepLemmas.{fold-holds}
 use Rattle.ecma_laws.proofs.TilingLemmas.{session_standing}
 

@@ -42,8 +42,8 @@ use Rattle.ecma_state.specs.TokenAt.{asks_for_none, is_borrowed, is_borrowed_nam
 use Rattle.ecma_state.specs.declared.mode.Mode.{Mode}
 use Rattle.ecma_state.specs.declared.lookahead.Lookahead.{Lookahead}
 use Rattle.ecma_state.specs.declared.lookahead.Lookahead.TheVariants as opens
-use Rattle.ecma_dispatch.proofs.PlacedKinds.{placed-kind, value-kind}
-use Rattle.ecma_dispatch.proofs.ReadingLemmas.{placed-faults}
+use Rattle.ecma_reads.proofs.PlacedKinds.{placed-kind, value-kind}
+use Rattle.ecma_reads.proofs.ReadingLemmas.{placed-faults}
 use Rattle.ecma_laws.specs.FreeReads.{MeansItself, ReadsAreFree, spelling_at, spelling_from, turns_meaning}
 use Rattle.ecma_laws.specs.FreeTexts.{ExpressionIsFree, NumberIsFree, StringIsFree, TemplateIsFree, WordIsFree, is_backslash, is_turned_in, turned_in}
 

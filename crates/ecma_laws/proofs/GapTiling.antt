@@ -30,8 +30,8 @@ use Rattle.ecma_state.specs.declared.settings.Settings.{Settings}
 use Rattle.ecma_state.specs.declared.step.Step.{Step}
 use Rattle.ecma_state.specs.declared.step.Step.TheVariants.{Read, SetCtx, SetExprAllowed, SetContexts, PopContext, Reread, Withdraw, Save, Back, TakeErrors}
 use Rattle.ecma_token.specs.Kinds.{kind_of}
-use Rattle.ecma_stream.proofs.EndLemmas.{ReadsOn, lo_in, reading-on, token-extent}
-use Rattle.ecma_stream.proofs.SlashLemmas.{again-kind, expression-no-slash, place-there, slash-is}
+use Rattle.ecma_reads.proofs.EndLemmas.{ReadsOn, lo_in, reading-on, token-extent}
+use Rattle.ecma_reads.proofs.SlashLemmas.{again-kind, expression-no-slash, place-there, slash-is}
 use Rattle.ecma_laws.specs.Tiling.{EndBehind, NoGapInTemplates, Piece, Stand, StandsGap, Tiles, TokenBehind, bytes_between, gap_if, gap_read, joined, kept_spans, last_is_gap, piece_in, pieces_behind, pieces_by, pieces_from, pieces_read, spans_in, with_again}
 use Rattle.ecma_laws.proofs.TilingLemmas.{LastBegins, Standing, act_standing, again-ends, begins_standing, session_standing}
 

@@ -16,8 +16,8 @@ use Rattle.ecma_state.specs.State.{last_slash}
 use Rattle.ecma_state.specs.declared.settings.Settings.{Settings}
 use Rattle.ecma_state.specs.declared.step.Step.{Step}
 use Rattle.ecma_state.specs.declared.step.Step.TheVariants.{Read, SetCtx, SetExprAllowed, SetContexts, PopContext, Reread, Withdraw, Save, Back, TakeErrors}
-use Rattle.ecma_stream.proofs.EndLemmas.{ReadsOn, reading-on}
-use Rattle.ecma_stream.proofs.SlashLemmas.{begins-reading}
+use Rattle.ecma_reads.proofs.EndLemmas.{ReadsOn, reading-on}
+use Rattle.ecma_reads.proofs.SlashLemmas.{begins-reading}
 use Rattle.ecma_laws.proofs.TilingLemmas.{Standing, act_standing, again-ends, begins_standing}
 
 -- a span lies in the text of a cursor, between two of its places

@@ -5,8 +5,8 @@ use Rattle.ecma_place.specs.Cursor.{rest}
 use Rattle.ecma_state.specs.Run.{mode_of, reading_from, reading_of}
 use Rattle.ecma_state.specs.Reading.{reading}
 use Rattle.ecma_state.specs.Session.{LexerValue, lexer_state}
-use Rattle.ecma_stream.specs.Items.{GivesItem, ItemIf, ReadItem}
-use Rattle.ecma_stream.proofs.EndLemmas.{reading-end, reading-on}
+use Rattle.ecma_state.specs.Items.{GivesItem, ItemIf, ReadItem}
+use Rattle.ecma_reads.proofs.EndLemmas.{reading-end, reading-on}
 use Rattle.ecma_laws.specs.NothingBehind.{AllNothing, GivesItems, Item, NothingBehindTheEnd}
 
 -- memory was refused, or the text is read and no slash is read again

@@ -19,9 +19,9 @@ use Rattle.ecma_state.specs.Session.{Again, AtEnd, Past, Next, Session, has_ende
 use Rattle.ecma_state.specs.State.{is_slash, last_slash, slash_in}
 use Rattle.ecma_state.specs.Run.{act_on, acted_on, at_place, given_in, mode_of, popped_from, reading_from, reread_from, session, start_of}
 use Rattle.ecma_laws.specs.Order.{InOrder, TokensAreInOrder}
-use Rattle.ecma_stream.proofs.EndLemmas.{ReadsOn, reading-on}
-use Rattle.ecma_dispatch.proofs.FrontLemmas.{expression-front}
-use Rattle.ecma_stream.proofs.SlashLemmas.{again-kind, begins-reading, expression-no-slash, moved-begins, place-there, slash-is}
+use Rattle.ecma_reads.proofs.EndLemmas.{ReadsOn, reading-on}
+use Rattle.ecma_reads.proofs.FrontLemmas.{expression-front}
+use Rattle.ecma_reads.proofs.SlashLemmas.{again-kind, begins-reading, expression-no-slash, moved-begins, place-there, slash-is}
 
 later : (begin p q : ℕ) (ts : List SpannedView) → p ≤ q → InOrder begin ts p → InOrder begin ts q
 later begin p q [] h order = omega arith

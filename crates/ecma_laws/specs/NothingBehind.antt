@@ -3,7 +3,7 @@ use Rattle.std.specs.Prelude.{◌≡◌, ⊤, List, [], ◌∷◌, Option, None,
 use Rattle.std.specs.declared.alloc.AllocError.{AllocError}
 use Rattle.ecma_token.specs.declared.token.TokenAndSpan.{TokenAndSpan}
 use Rattle.ecma_state.specs.Session.{LexerValue}
-use Rattle.ecma_stream.specs.Items.{GivesItem}
+use Rattle.ecma_state.specs.Items.{GivesItem}
 
 -- what one call of the iterator gives
 abbrev pub Item : Type 0

@@ -2,7 +2,7 @@
 ghost use Rattle.ecma_laws.specs.Collecting.{CollectingChangesNothing, CommentsAreKept};
 ghost use Rattle.ecma_laws.specs.EmptyTokens.{EmptyTokensStandAlone};
 ghost use Rattle.ecma_laws.specs.Excursion.{GoingBackUndoes, NestedExcursionsAreUndone};
-ghost use Rattle.ecma_stream.specs.Ending.{ReadsOut, TokensRunOut};
+ghost use Rattle.ecma_state.specs.Ending.{ReadsOut, TokensRunOut};
 ghost use Rattle.ecma_laws.specs.FewTokens.{TokensAreFew};
 ghost use Rattle.ecma_laws.specs.FreeReads.{ReadsAreFree};
 ghost use Rattle.ecma_laws.specs.NothingBehind.{NothingBehindTheEnd};

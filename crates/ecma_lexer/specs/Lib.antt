@@ -14,10 +14,10 @@ pub use Rattle.ecma_state.specs.TokenAt
 pub use Rattle.ecma_state.specs.Transition
 pub use Rattle.ecma_dispatch.specs.Besides
 pub use Rattle.ecma_checkpoint.specs.Checkpoints
-pub use Rattle.ecma_stream.specs.Ending
-pub use Rattle.ecma_stream.specs.Items
+pub use Rattle.ecma_state.specs.Ending
+pub use Rattle.ecma_state.specs.Items
 pub use Rattle.ecma_stream.specs.Plain
-pub use Rattle.ecma_stream.specs.Slashes
+pub use Rattle.ecma_state.specs.Slashes
 pub use Rattle.ecma_stream.specs.View
 pub use Rattle.ecma_resuming.specs.Resuming
 pub use Rattle.ecma_rewinding.specs.Rewinding

@@ -7,9 +7,9 @@ use Rattle.std.proofs.lemmas.List.{length-append}
 use Rattle.ecma_place.specs.Text.{byte_len}
 use Rattle.ecma_token.specs.View.{SpannedView}
 use Rattle.ecma_state.specs.Session.{LexerState, state_of}
-use Rattle.ecma_stream.specs.Ending.{most_tokens, tokens_of}
+use Rattle.ecma_state.specs.Ending.{most_tokens, tokens_of}
 use Rattle.ecma_state.specs.Run.{reading_of, state_behind}
-use Rattle.ecma_stream.proofs.EndingLemmas.{ReadSoFar, read_tokens, so_far-end, so_far-plain, so_far-start, so_far-token, tokens_run_out}
+use Rattle.ecma_reads.proofs.EndingLemmas.{ReadSoFar, read_tokens, so_far-end, so_far-plain, so_far-start, so_far-token, tokens_run_out}
 use Rattle.ecma_measure.specs.Begin.{begin}
 
 -- so many reads gave a token each

@@ -1,6 +1,6 @@
 -- What is answered to the input where its tokens are counted, and memory is ample.
 use Rattle.std.specs.Prelude.{ℕ, Bool, List, [], ◌∷◌, ◌++◌, Result, Ok, Err, length, codes, decimal}
-use Rattle.ecma_stream.specs.Ending.{tokens_of}
+use Rattle.ecma_state.specs.Ending.{tokens_of}
 use Rattle.ecma_measure.specs.Begin.{begin}
 use Rattle.ecma_stdio.specs.declared.fault.Fault.{Fault}
 use Rattle.ecma_stdio.specs.Faults.{text_reply}

@@ -1,6 +1,6 @@
 //! How many tokens a text has.
 ghost use Rattle.std.specs.Prelude.{◌≡◌, ◌^◌, ◌<◌, length, string_bytes, IfOk};
-ghost use Rattle.ecma_stream.specs.Ending.{tokens_of};
+ghost use Rattle.ecma_state.specs.Ending.{tokens_of};
 ghost use Rattle.ecma_measure.specs.Begin as starts;
 ghost use Rattle.ecma_measure.specs.Reply.{count_line, count_text};
 

@@ -66,20 +66,34 @@ pub(crate) fn read_some<'a>(
     Ok(most)
 }
 
-/// Reads to the end, and each slash again that the lexer's flag names, with a save every so many tokens. Says how many
-/// tokens there are.
-pub fn read_out_saving(lexer: &mut Lexer, saves: Saves, every: u64) -> Result<u64, Fault> {
-    let every = every.max(1);
-    let mut slot = None;
-    let mut kept = None;
+/// Reads to the end, and each slash again that the lexer's flag names, with a save before every so many tokens. Says how
+/// many tokens there are.
+fn read_between_saves<'a>(
+    lexer: &mut Lexer<'a>,
+    slot: &mut Option<TokenAndSpan<'a>>,
+    kept: &mut Option<Checkpoint>,
+    saves: Saves,
+    every: u64,
+) -> Result<u64, Fault> {
     let mut tokens = 0u64;
     for _ in 0..u64::MAX {
-        save(lexer, saves, &mut kept)?;
-        let read = read_some(lexer, &mut slot, every)?;
+        save(lexer, saves, kept)?;
+        let read = read_some(lexer, slot, every)?;
         tokens = tokens.checked_add(read).ok_or(Fault::TooLong)?;
         if read < every {
             return Ok(tokens);
         }
     }
     Err(Fault::TooLong)
+}
+
+/// Reads to the end with saves, for which it has the place. A save is made before the first token too.
+pub(crate) fn read_out_saving<'a>(
+    lexer: &mut Lexer<'a>,
+    slot: &mut Option<TokenAndSpan<'a>>,
+    saves: Saves,
+    every: u64,
+) -> Result<u64, Fault> {
+    let mut kept = None;
+    read_between_saves(lexer, slot, &mut kept, saves, every.max(1))
 }

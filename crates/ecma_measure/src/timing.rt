@@ -76,24 +76,52 @@ fn read_rest<'a>(
     Err(Fault::TooLong)
 }
 
-/// Reads to the end, and behind each token with such a number that token again. Says how many tokens there are.
-fn read_out(lexer: &mut Lexer, answers: Answers, rereads: &[u64]) -> Result<u64, Fault> {
-    let mut slot = None;
+/// Reads the tokens up to the last of these numbers, and each with such a number again. Says how many there are.
+fn read_again_at<'a>(
+    lexer: &mut Lexer<'a>,
+    answers: Answers,
+    slot: &mut Option<TokenAndSpan<'a>>,
+    rereads: &[u64],
+) -> Result<u64, Fault> {
     let mut before = 0u64;
     for number in rereads {
         let tokens = number.checked_sub(before).ok_or(Fault::NoSlash)?;
-        read_on(lexer, answers, &mut slot, tokens)?;
-        reread(lexer, answers, &mut slot)?;
+        read_on(lexer, answers, slot, tokens)?;
+        reread(lexer, answers, slot)?;
         before = *number;
     }
-    let behind = read_rest(lexer, answers, &mut slot)?;
+    Ok(before)
+}
+
+/// Reads to the end, and each token with such a number again. Says how many tokens there are.
+fn read_out<'a>(
+    lexer: &mut Lexer<'a>,
+    answers: Answers,
+    slot: &mut Option<TokenAndSpan<'a>>,
+    rereads: &[u64],
+) -> Result<u64, Fault> {
+    let before = read_again_at(lexer, answers, slot, rereads)?;
+    let behind = read_rest(lexer, answers, slot)?;
     before.checked_add(behind).ok_or(Fault::TooLong)
 }
 
-/// Reads to the end, and each slash again that the lexer's flag names. Says how many tokens there are.
-fn read_out_by_flag(lexer: &mut Lexer) -> Result<u64, Fault> {
+/// Reads to the end as it is asked for, and says how many tokens there are.
+fn read_as_asked<'a>(
+    lexer: &mut Lexer<'a>,
+    slot: &mut Option<TokenAndSpan<'a>>,
+    asked: &Measure,
+) -> Result<u64, Fault> {
+    match &asked.rereads {
+        Rereads::ByFlag => read_some(lexer, slot, u64::MAX),
+        Rereads::ByFlagSaving(saves, every) => read_out_saving(lexer, slot, *saves, *every),
+        Rereads::Behind(numbers) => read_out(lexer, asked.answers, slot, numbers.as_slice()),
+    }
+}
+
+/// Reads to the end as it is asked for. This function alone drops a token: the proof of each that does is long.
+fn read_to_end(lexer: &mut Lexer, asked: &Measure) -> Result<u64, Fault> {
     let mut slot = None;
-    read_some(lexer, &mut slot, u64::MAX)
+    read_as_asked(lexer, &mut slot, asked)
 }
 
 /// What was measured of a text.
@@ -109,11 +137,7 @@ fn read_once(alloc: Global, asked: &Measure, text: &str) -> Result<u64, Fault>
     requires { length text.now < 2 ^ 32 }
 {
     let mut lexer = begin(alloc, asked.comments, options(asked.typescript), text)?;
-    match &asked.rereads {
-        Rereads::ByFlag => read_out_by_flag(&mut lexer),
-        Rereads::ByFlagSaving(saves, every) => read_out_saving(&mut lexer, *saves, *every),
-        Rereads::Behind(numbers) => read_out(&mut lexer, asked.answers, numbers.as_slice()),
-    }
+    read_to_end(&mut lexer, asked)
 }
 
 /// Reads a text to its end as often as is asked for, with a new lexer each time.

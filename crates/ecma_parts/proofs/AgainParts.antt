@@ -2,7 +2,7 @@
 use Rattle.std.proofs.Common.{◌≡◌, Bool, true, false, cond, ◌||◌, [], ◌∷◌, ◌++◌, drop, length, take-append-drop, Some, Result, Ok, Err, refl, sym, ap, ◌∙◌}
 use Rattle.std.proofs.lemmas.Bool.{or_parts}
 use Rattle.clean_runs.specs.Parts.{StartsGap, may_open}
-use Rattle.ecma_dispatch.proofs.FrontLemmas.{expression-front}
+use Rattle.ecma_reads.proofs.FrontLemmas.{expression-front}
 use Rattle.ecma_joining.specs.OwnContexts.{are_own}
 use Rattle.ecma_place.specs.Atom.{AtomView}
 use Rattle.ecma_place.specs.Text.{Text}

@@ -3,7 +3,7 @@ use Rattle.std.proofs.Common.{◌≡◌, ℕ, Bool, true, false, ◌||◌, ◌==
 use Rattle.std.proofs.lemmas.Bool.{or_left}
 use Rattle.clean_runs.specs.Grammar.{Final, again, ended, same, token}
 use Rattle.clean_runs.specs.Parts.{Again, Follows, is_text, joint, may_open}
-use Rattle.ecma_dispatch.proofs.FrontLemmas.{expression-front}
+use Rattle.ecma_reads.proofs.FrontLemmas.{expression-front}
 use Rattle.ecma_joining.proofs.BoundariesLaws.{nothing_behind_the_gap}
 use Rattle.ecma_joining.proofs.CodeKindsLaws.{closer_is_written, code_holds_no_break, code_is_neither}
 use Rattle.ecma_joining.proofs.CodeLaws.{code_begins_no_gap, code_is_local, code_is_token, code_opens_no_shebang}
@@ -29,7 +29,7 @@ use Rattle.ecma_state.specs.Transition.{tpl_on_top}
 use Rattle.ecma_state.specs.declared.mode.Mode.{Mode}
 use Rattle.ecma_state.specs.declared.lookahead.Lookahead.{Lookahead}
 use Rattle.ecma_state.specs.declared.lookahead.Lookahead.TheVariants as opens
-use Rattle.ecma_stream.proofs.SlashLemmas.{token-slash}
+use Rattle.ecma_reads.proofs.SlashLemmas.{token-slash}
 use Rattle.ecma_token.specs.Kinds.{kind_of}
 use Rattle.ecma_token.specs.View.{ErrorView, TokenView, error_token, plain_token, refused_template}
 use Rattle.ecma_token.specs.declared.kind.TokenKind.{TokenKind}

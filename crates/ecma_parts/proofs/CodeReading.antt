@@ -3,7 +3,7 @@ use Rattle.std.proofs.Common.{◌≡◌, ℕ, ◌<◌, Bool, true, false, not, �
 use Rattle.std.proofs.lemmas.Bool.{and_from, or_from, or_parts}
 use Rattle.clean_runs.specs.Grammar.{WaitsWithin, token}
 use Rattle.clean_runs.specs.Parts.{Again}
-use Rattle.ecma_dispatch.proofs.FrontLemmas.{token_at-front, token_at-some}
+use Rattle.ecma_reads.proofs.FrontLemmas.{token_at-front, token_at-some}
 use Rattle.ecma_joining.proofs.CodeLaws.{code_is_token}
 use Rattle.ecma_joining.specs.Code.{code_at, code_mode}
 use Rattle.ecma_joining.specs.Separators.{IsGap}

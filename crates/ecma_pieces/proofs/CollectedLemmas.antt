@@ -18,8 +18,8 @@ use Rattle.ecma_state.specs.State.{around_of, is_slash, last_slash, slash_in}
 use Rattle.ecma_state.specs.declared.settings.Settings.{Settings}
 use Rattle.ecma_state.specs.declared.step.Step.{Step}
 use Rattle.ecma_state.specs.declared.step.Step.TheVariants.{Read, SetCtx, SetExprAllowed, SetContexts, PopContext, Reread, Withdraw, Save, Back, TakeErrors}
-use Rattle.ecma_stream.proofs.EndLemmas.{ReadsOn, reading-on}
-use Rattle.ecma_stream.proofs.SlashLemmas.{again-kind, expression-no-slash, place-there, slash-is}
+use Rattle.ecma_reads.proofs.EndLemmas.{ReadsOn, reading-on}
+use Rattle.ecma_reads.proofs.SlashLemmas.{again-kind, expression-no-slash, place-there, slash-is}
 use Rattle.ecma_laws.specs.Order.{InOrder}
 use Rattle.ecma_laws.proofs.TilingLemmas.{LastBegins, Standing, act_standing, again-ends, begins_standing}
 use Rattle.ecma_classes.specs.Classes.{AreApart, spans_of_comments}

@@ -26,8 +26,8 @@ use Rattle.ecma_state.specs.TokenAt.{comments_in, lookahead, placed, read_opened
 use Rattle.ecma_state.specs.declared.mode.Mode.{Mode}
 use Rattle.ecma_state.specs.declared.lookahead.Lookahead.{Lookahead}
 use Rattle.ecma_state.specs.declared.lookahead.Lookahead.TheVariants as opens
-use Rattle.ecma_dispatch.proofs.FrontLemmas.{token_at-front}
-use Rattle.ecma_stream.proofs.EndLemmas.{hi_in, lo_in, token-extent}
+use Rattle.ecma_reads.proofs.FrontLemmas.{token_at-front}
+use Rattle.ecma_reads.proofs.EndLemmas.{hi_in, lo_in, token-extent}
 use Rattle.ecma_classes.proofs.MemberLemmas.{IsIn, in_either}
 use Rattle.ecma_pieces.proofs.AttachedLemmas.{more_between, one_between}
 use Rattle.ecma_pieces.proofs.ElementPlaces.{SpanStands, bars_signed, elements_stand, gap_signed, own_span, own_spans, place_in, span_in_front, written, written_common, written_gap}

@@ -37,8 +37,8 @@ use Rattle.ecma_state.specs.declared.lookahead.Lookahead.{Lookahead}
 use Rattle.ecma_state.specs.declared.lookahead.Lookahead.TheVariants as opens
 use Rattle.ecma_contexts.specs.declared.token_context.TokenContext.{TokenContext}
 use Rattle.ecma_contexts.specs.declared.token_context.TokenContext.TheVariants as context
-use Rattle.ecma_dispatch.proofs.ReadingLemmas.{free-reading, free-token, reading-some}
-use Rattle.ecma_dispatch.proofs.TokenLemmas.{view}
+use Rattle.ecma_reads.proofs.ReadingLemmas.{free-reading, free-token, reading-some}
+use Rattle.ecma_reads.proofs.TokenLemmas.{view}
 use Rattle.ecma_plain.proofs.AloneLemmas.{other-byte}
 
 -- Tokens

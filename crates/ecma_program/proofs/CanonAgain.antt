@@ -27,14 +27,14 @@ use Rattle.ecma_state.specs.declared.kept.Kept.{Kept}
 use Rattle.ecma_state.specs.declared.settings.Settings.{Settings}
 use Rattle.ecma_state.specs.declared.step.Step.{Step}
 use Rattle.ecma_state.specs.declared.step.Step.TheVariants.{Read, Reread, SetCtx}
-use Rattle.ecma_stream.specs.Ending.{behind_reads, enough, read_out, reads}
-use Rattle.ecma_stream.specs.Slashes.{slash_answered}
-use Rattle.ecma_stream.proofs.EndingLemmas.{reads_out}
-use Rattle.ecma_stream.proofs.SlashLemmas.{again-kind, expression-no-slash}
+use Rattle.ecma_state.specs.Ending.{behind_reads, enough, read_out, reads}
+use Rattle.ecma_state.specs.Slashes.{slash_answered}
+use Rattle.ecma_reads.proofs.EndingLemmas.{reads_out}
+use Rattle.ecma_reads.proofs.SlashLemmas.{again-kind, expression-no-slash}
 use Rattle.ecma_slashes.proofs.PlainRuns.{each-append}
 use Rattle.ecma_slashes.proofs.RunLemmas.{Counts, both-count, none-counts}
 use Rattle.ecma_clean_reads.specs.Canonical.{Own, between, canonical_behind, canonical_of, is_template_text, own_in}
-use Rattle.ecma_clean_reads.specs.Clean.{each_step, ends_clean, is_clean, is_plain_step, takes_none, was_again}
+use Rattle.ecma_state.specs.Clean.{each_step, ends_clean, is_clean, is_plain_step, takes_none, was_again}
 use Rattle.ecma_clean_reads.specs.Stages.{Stage, stages}
 use Rattle.ecma_clean.specs.Sharing.{canonical_text_of}
 use Rattle.ecma_clean.proofs.CanonicalLaws.{canonical_is_read, canonical_runs_alike}

@@ -1,7 +1,7 @@
 -- The tokens and comments of a text lie so that pieces can cover it.
 use Rattle.std.proofs.Common.{◌≡◌, ℕ, true, List, Some, refl, sym, subst}
 use Rattle.ecma_pieces.specs.Covered.{MayBeCovered}
-use Rattle.ecma_stream.specs.Ending.{comments_of, read_out}
+use Rattle.ecma_state.specs.Ending.{comments_of, read_out}
 use Rattle.ecma_state.specs.Session.{Session, kept_tokens}
 use Rattle.ecma_comments.specs.declared.comments_buffer.BufferedComment.{BufferedComment}
 use Rattle.ecma_state.specs.declared.kept.Kept.{Kept}

@@ -4,7 +4,7 @@ use Rattle.std.specs.Prelude.{is_some}
 use Rattle.ecma_place.specs.Comment.{Added, Side}
 use Rattle.ecma_place.specs.Comment as place
 use Rattle.ecma_token.specs.View.{SpannedView}
-use Rattle.ecma_stream.specs.Ending.{comments_of}
+use Rattle.ecma_state.specs.Ending.{comments_of}
 use Rattle.ecma_state.specs.HandOver.{HandsAll, added_of, has_comments, side_of}
 use Rattle.ecma_state.specs.Run.{reading_of, state_behind}
 use Rattle.ecma_state.specs.Session.{LexerState, Session, kept_in, state_of}
@@ -12,7 +12,7 @@ use Rattle.ecma_state.specs.State.{seen_behind}
 use Rattle.ecma_comments.specs.declared.comments_buffer.BufferedComment.{BufferedComment}
 use Rattle.ecma_comments.specs.declared.comments_buffer.BufferedCommentKind.{BufferedCommentKind}
 use Rattle.ecma_comments.specs.declared.comments_buffer.BufferedCommentKind.TheVariants.{Leading, Trailing}
-use Rattle.ecma_stream.proofs.EndingLemmas.{ReadSoFar, so_far-end, so_far-start, so_far-token}
+use Rattle.ecma_reads.proofs.EndingLemmas.{ReadSoFar, so_far-end, so_far-start, so_far-token}
 
 -- Reading to the end
 

@@ -10,20 +10,20 @@ use Rattle.std.proofs.lemmas.List.Sums.{fold-append}
 use Rattle.ecma_token.specs.Kinds.{kind_of}
 use Rattle.ecma_token.specs.View.{SpannedView}
 use Rattle.ecma_clean_reads.specs.Canonical.{canonical_of, own_in}
-use Rattle.ecma_clean_reads.specs.Clean.{ends_clean}
+use Rattle.ecma_state.specs.Clean.{ends_clean}
 use Rattle.ecma_state.specs.Disposition as lists
-use Rattle.ecma_stream.specs.Ending.{behind_reads, comments_of, enough, errors_of, read_out, reads, tokens_of}
+use Rattle.ecma_state.specs.Ending.{behind_reads, comments_of, enough, errors_of, read_out, reads, tokens_of}
 use Rattle.ecma_state.specs.HandOver.{has_comments}
 use Rattle.ecma_canonical.specs.Joined.{StandsIn}
 use Rattle.ecma_state.specs.Run.{act_all, act_on, reading_of, start_of, state_behind}
 use Rattle.ecma_state.specs.Session.{LexerState, Session, has_ended, kept_back, kept_of, kept_tokens, state_of}
 use Rattle.ecma_state.specs.State.{is_error}
 use Rattle.ecma_state.specs.TokenAt.{is_empty}
-use Rattle.ecma_stream.specs.Slashes.{slash_answered}
+use Rattle.ecma_state.specs.Slashes.{slash_answered}
 use Rattle.ecma_state.specs.declared.kept.Kept.{Kept}
 use Rattle.ecma_state.specs.declared.step.Step.{Step}
 use Rattle.ecma_state.specs.declared.step.Step.TheVariants.{SetCtx}
-use Rattle.ecma_stream.proofs.EndingLemmas.{ReadSoFar, read_tokens, reads_out, so_far-end, so_far-start, so_far-token}
+use Rattle.ecma_reads.proofs.EndingLemmas.{ReadSoFar, read_tokens, reads_out, so_far-end, so_far-start, so_far-token}
 use Rattle.ecma_canonical.proofs.KeptPlaces.{steps_keep_places}
 use Rattle.ecma_options.specs.Begin.{begin, context, settings, whole}
 use Rattle.ecma_program.specs.CanonText.{KeepsCleanly, canon_from, canon_text, canonical_bytes, unless_too_long}

@@ -11,11 +11,11 @@ use Rattle.ecma_token.specs.View.{SpannedView, spanned_view}
 use Rattle.ecma_state.specs.declared.kept.Kept.{Kept}
 use Rattle.ecma_state.specs.declared.step.Step.TheVariants.{SetCtx}
 use Rattle.ecma_state.specs.Session.{LexerState, Session, kept_back, kept_of, lexer_state, state_of}
-use Rattle.ecma_stream.specs.Ending.{behind_reads, errors_of, most_tokens, reads, tokens_of}
+use Rattle.ecma_state.specs.Ending.{behind_reads, errors_of, most_tokens, reads, tokens_of}
 use Rattle.ecma_state.specs.Reading.{reading}
 use Rattle.ecma_state.specs.Run.{mode_of, reading_of, start_of, state_behind}
-use Rattle.ecma_stream.proofs.EndLemmas.{reading-on}
-use Rattle.ecma_stream.proofs.EndingLemmas.{ReadSoFar, plain-reading, read_tokens, so_far-end, so_far-plain, so_far-start, so_far-token, tokens_run_out}
+use Rattle.ecma_reads.proofs.EndLemmas.{reading-on}
+use Rattle.ecma_reads.proofs.EndingLemmas.{ReadSoFar, plain-reading, read_tokens, so_far-end, so_far-plain, so_far-start, so_far-token, tokens_run_out}
 use Rattle.ecma_laws.proofs.TilingLemmas.{Standing, act_standing, fold_standing, session_standing}
 use Rattle.ecma_options.specs.Begin.{begin, context, settings, whole}
 use Rattle.ecma_program.specs.ErrorLines.{errors_from, errors_text, found_lines, list_lines, token_lines}

@@ -11,13 +11,13 @@ use Rattle.ecma_place.specs.declared.place.BytePos.{BytePos}
 use Rattle.ecma_token.specs.View.{SpannedView, spanned_view}
 use Rattle.ecma_token.specs.declared.token.TokenAndSpan.{TokenAndSpan}
 use Rattle.ecma_state.specs.declared.step.Step.TheVariants.{Read}
-use Rattle.ecma_stream.specs.Ending.{behind_reads, reads}
+use Rattle.ecma_state.specs.Ending.{behind_reads, reads}
 use Rattle.ecma_state.specs.Run.{act_all, act_on, given_in, mode_of, reading_of, state_behind, state_rereading}
 use Rattle.ecma_state.specs.Session.{LexerState, Past, Session, has_ended, kept_back, seen_of, state_of}
-use Rattle.ecma_stream.specs.Slashes.{slash_answered}
+use Rattle.ecma_state.specs.Slashes.{slash_answered}
 use Rattle.ecma_state.specs.State.{last_slash}
-use Rattle.ecma_stream.proofs.EndLemmas.{reading-on}
-use Rattle.ecma_stream.proofs.EndingLemmas.{ReadSoFar, plain-reading, so_far-start, so_far-token, stays}
+use Rattle.ecma_reads.proofs.EndLemmas.{reading-on}
+use Rattle.ecma_reads.proofs.EndingLemmas.{ReadSoFar, plain-reading, so_far-start, so_far-token, stays}
 use Rattle.ecma_slashes.proofs.RereadLemmas.{reread-steps}
 use Rattle.ecma_laws.specs.Order.{InOrder}
 use Rattle.ecma_laws.proofs.TilingLemmas.{Standing, fold_standing}

@@ -1,7 +1,7 @@
 -- What is written of the pieces that cover a text: a line each. The form of the lines is our own choice.
 use Rattle.std.specs.Prelude.{ℕ, true, List, ◌++◌, Option, codes, decimal, flat_map, length, option_map}
 use Rattle.ecma_classes.specs.Classes.{classes_of}
-use Rattle.ecma_stream.specs.Ending.{read_out}
+use Rattle.ecma_state.specs.Ending.{read_out}
 use Rattle.ecma_state.specs.Session.{Session, kept_tokens}
 use Rattle.ecma_classes.specs.declared.piece.Piece.{Piece}
 use Rattle.ecma_program.specs.Rereads.{session_behind}

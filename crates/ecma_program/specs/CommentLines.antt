@@ -1,7 +1,7 @@
 -- What is written of the comments of a text: a line each. The form of the lines is our own choice.
 use Rattle.std.specs.Prelude.{ℕ, true, List, [], ◌∷◌, ◌++◌, Option, codes, decimal, flat_map, option_map}
 use Rattle.ecma_names.specs.Names.{comment_name, side_name}
-use Rattle.ecma_stream.specs.Ending.{comments_of}
+use Rattle.ecma_state.specs.Ending.{comments_of}
 use Rattle.ecma_state.specs.Session.{Session}
 use Rattle.ecma_comments.specs.declared.comments_buffer.BufferedComment.{BufferedComment}
 use Rattle.ecma_stdio.specs.Escaped.{escaped}

@@ -3,7 +3,7 @@ use Rattle.std.specs.Prelude.{ℕ, false, List, [], ◌∷◌, ◌++◌, Option,
 use Rattle.ecma_place.specs.declared.place.Span.{Span}
 use Rattle.ecma_token.specs.View.{ErrorView, SpannedView, refusal_of}
 use Rattle.ecma_state.specs.Disposition as lists
-use Rattle.ecma_stream.specs.Ending.{errors_of, tokens_of}
+use Rattle.ecma_state.specs.Ending.{errors_of, tokens_of}
 use Rattle.ecma_state.specs.Session.{Session}
 use Rattle.ecma_stdio.specs.Escaped.{escaped}
 use Rattle.ecma_token.specs.MessageView.{view_message}

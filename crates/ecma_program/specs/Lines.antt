@@ -3,7 +3,7 @@ use Rattle.std.specs.Prelude.{ℕ, Bool, true, false, List, [], ◌∷◌, ◌++
 use Rattle.ecma_token.specs.KindNames.{kind_name}
 use Rattle.ecma_state.specs.declared.kept.Kept.{Kept}
 use Rattle.ecma_state.specs.Session.{Session, kept_of}
-use Rattle.ecma_stream.specs.Ending.{tokens_of}
+use Rattle.ecma_state.specs.Ending.{tokens_of}
 use Rattle.ecma_options.specs.declared.options.Options.{Options}
 use Rattle.ecma_program.specs.Rereads.{session_behind}
 use Rattle.ecma_stdio.specs.Escaped.{escaped}

@@ -1,10 +1,10 @@
 -- The tokens whose slashes are read again, and what is read behind them.
 use Rattle.std.specs.Prelude.{◌≡◌, ◌≤◌, ℕ, ◌-◌, ◌⊎◌, ⊤, Bool, true, false, List, [], ◌∷◌, Option, Some, None, Result, Ok, Err, if◌then◌else◌, is_some, map, reverse}
 use Rattle.ecma_token.specs.View.{SpannedView, spanned_view}
-use Rattle.ecma_stream.specs.Ending.{behind_reads}
+use Rattle.ecma_state.specs.Ending.{behind_reads}
 use Rattle.ecma_state.specs.Run.{act_all}
 use Rattle.ecma_state.specs.Session.{Session, kept_back, lexer_state, state_of}
-use Rattle.ecma_stream.specs.Slashes.{slash_answered}
+use Rattle.ecma_state.specs.Slashes.{slash_answered}
 use Rattle.ecma_state.specs.declared.step.Step.{Step}
 use Rattle.ecma_state.specs.declared.step.Step.TheVariants.{Read, Reread, Withdraw}
 use Rattle.ecma_options.specs.Begin.{begin}

@@ -1,6 +1,6 @@
 //! What is written of the comments of a text: a line each.
 ghost use Rattle.std.specs.Prelude.{◌≡◌, ◌++◌, None, Some, ◌^◌, ◌<◌, true, length, IfOk, MatchResult, OnOk};
-ghost use Rattle.ecma_stream.specs.Ending.{comments_of};
+ghost use Rattle.ecma_state.specs.Ending.{comments_of};
 ghost use Rattle.ecma_state.specs.HandOver.{has_comments};
 ghost use Rattle.ecma_state.specs.Session.{Session, lexer_state, state_of};
 ghost use Rattle.ecma_program.specs.CommentLines as rows;

@@ -1,7 +1,7 @@
 //! What is kept of the tokens of a text.
 ghost use Rattle.std.specs.Prelude.{◌≡◌, ◌++◌, None, true, map, reverse, IfOk, OnOk};
 ghost use Rattle.ecma_token.specs.View.{spanned_view};
-ghost use Rattle.ecma_stream.specs.Ending.{comments_of, errors_of, read_out, tokens_of};
+ghost use Rattle.ecma_state.specs.Ending.{comments_of, errors_of, read_out, tokens_of};
 ghost use Rattle.ecma_state.specs.HandOver.{has_comments};
 ghost use Rattle.ecma_state.specs.Session.{Session, kept_back, kept_of, kept_tokens, lexer_state, state_of};
 ghost use Rattle.ecma_program.specs.Rereads.{Stands};

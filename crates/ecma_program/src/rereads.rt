@@ -1,10 +1,10 @@
 //! The slashes that are read again as regular expressions.
 ghost use Rattle.std.specs.Prelude.{◌≡◌, ◌∷◌, ◌^◌, ◌<◌, true, List, Some, MatchResult, IfOk, OnOk, drop, is_some, length, map, reverse};
 ghost use Rattle.ecma_token.specs.View.{SpannedView, spanned_view};
-ghost use Rattle.ecma_stream.specs.Ending.{behind_reads};
+ghost use Rattle.ecma_state.specs.Ending.{behind_reads};
 ghost use Rattle.ecma_state.specs.Run.{act_all};
 ghost use Rattle.ecma_state.specs.Session.{Session, state_of};
-ghost use Rattle.ecma_stream.specs.Slashes.{slash_answered};
+ghost use Rattle.ecma_state.specs.Slashes.{slash_answered};
 ghost use Rattle.ecma_program.specs.Rereads.{CameTo, Lacks, Stands, behind_rereads, session_behind, rereading};
 
 use ecma_options::{Options, begin};

@@ -11,7 +11,7 @@ use Rattle.ecma_state.specs.Run.{act_all, act_on}
 use Rattle.ecma_state.specs.Session.{LexerState, Session, kept_back, lexer_state, state_of}
 use Rattle.ecma_state.specs.declared.settings.Settings.{Settings}
 use Rattle.ecma_state.specs.declared.step.Step.{Step}
-use Rattle.ecma_stream.specs.Ending.{most_tokens}
+use Rattle.ecma_state.specs.Ending.{most_tokens}
 use Rattle.ecma_slashes.specs.Rereads.{Decides, ReadsBy, SlashRule, StepsOn, all_by, behind_by, entered, is_in_order, meets_expression, rereads, rule_of, steps_by, steps_to_end_by}
 use Rattle.ecma_slashes.proofs.RoleLemmas.{tokens-behind}
 use Rattle.ecma_slashes.proofs.RunLemmas.{SoFar, runs_by_rule_end, so-far-end, so-far-next}

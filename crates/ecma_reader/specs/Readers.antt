@@ -4,7 +4,7 @@ use Rattle.ecma_token.specs.View.{SpannedView, error_view}
 use Rattle.ecma_state.specs.Run.{act_all}
 use Rattle.ecma_state.specs.Session.{Session, has_ended, lexer_state, state_of}
 use Rattle.ecma_state.specs.declared.step.Step.{Step}
-use Rattle.ecma_stream.specs.Ending.{most_tokens}
+use Rattle.ecma_state.specs.Ending.{most_tokens}
 use Rattle.ecma_slashes.specs.Rereads.{Decides, SlashRule, all_by, is_in_order, rereads, rule_of, steps_to_end_by}
 pub use Rattle.ecma_slashes.specs.Roles.{tokens_found, tokens_kept}
 use Rattle.ecma_reader.specs.declared.reader.Outcome.{Outcome}

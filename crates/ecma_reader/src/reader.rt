@@ -3,7 +3,7 @@ ghost use Rattle.std.specs.Prelude.{◌≡◌, ◌+◌, ◌<◌, ◌^◌, Err, L
 ghost use Rattle.std.specs.Str.{chars};
 ghost use Rattle.ecma_token.specs.View.{SpannedView, spanned_view};
 ghost use Rattle.ecma_state.specs.Session.{Session, lexer_state, state_of};
-ghost use Rattle.ecma_stream.specs.Ending.{most_tokens};
+ghost use Rattle.ecma_state.specs.Ending.{most_tokens};
 ghost use Rattle.ecma_slashes.specs.Rereads.{SlashRule, entered, is_in_order, rule_of};
 ghost use Rattle.ecma_reader.specs.Readers.{HasRead, IsReady, Leaves, Reads, Shows, one_if, tokens_by};
 

@@ -24,7 +24,7 @@ use Rattle.ecma_state.specs.Session.{LexerState, Session, kept_in, kept_of, seen
 use Rattle.ecma_state.specs.State.{last_slash, slash_in}
 use Rattle.ecma_state.specs.declared.step.Step.{Step}
 use Rattle.ecma_state.specs.declared.step.Step.TheVariants.{Read, SetCtx, SetExprAllowed, SetContexts, PopContext, Reread, Withdraw, Save, Back, TakeErrors}
-use Rattle.ecma_stream.proofs.SlashLemmas.{begins-reading, reads-from, slash-is}
+use Rattle.ecma_reads.proofs.SlashLemmas.{begins-reading, reads-from, slash-is}
 use Rattle.ecma_laws.proofs.DeterminedLemmas.{reading_is_determined}
 use Rattle.ecma_resuming.specs.Resuming.{IsRestOf, asks_no_errors}
 use Rattle.ecma_resuming.proofs.RestLemmas.{Alike, alike-at}

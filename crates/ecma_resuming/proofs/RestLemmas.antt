@@ -11,9 +11,9 @@ use Rattle.ecma_place.proofs.CursorLemmas.{count_within-byte_len}
 use Rattle.ecma_place.proofs.MoveLemmas.{byte_len-append}
 use Rattle.ecma_grammar.specs.Expressions.{opens_expression}
 use Rattle.ecma_state.specs.Run.{at_place}
-use Rattle.ecma_stream.proofs.SlashLemmas.{at-index, place-there}
+use Rattle.ecma_reads.proofs.SlashLemmas.{at-index, place-there}
 use Rattle.ecma_state.specs.State.{last_slash}
-use Rattle.ecma_checkpoint.specs.Checkpoints.{StandsSlash}
+use Rattle.ecma_state.specs.Slashes.{StandsSlash}
 use Rattle.ecma_resuming.specs.Resuming.{IsRestOf, RestsAreThere, begin_of, or_slash, rest_of}
 
 -- cursors before which the same stands at the same place

@@ -21,7 +21,7 @@ use Rattle.ecma_state.specs.declared.settings.Settings.{Settings}
 use Rattle.ecma_state.specs.declared.step.Step.{Step}
 use Rattle.ecma_state.specs.declared.step.Step.TheVariants.{Read, SetCtx, SetExprAllowed, SetContexts, PopContext, Reread, Withdraw, Save, Back, TakeErrors}
 use Rattle.ecma_checkpoint.specs.Checkpoints.{AreSlashes}
-use Rattle.ecma_stream.proofs.SlashLemmas.{at-index, reads-from, stands-moved}
+use Rattle.ecma_reads.proofs.SlashLemmas.{at-index, reads-from, stands-moved}
 use Rattle.ecma_rewinding.specs.Rewinding.{GoesOn, RefusalIsUndone, RewindingUndoes, StepsGoOn, take_none, takes_none}
 
 -- Lists that begin with others

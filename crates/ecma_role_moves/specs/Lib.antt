@@ -1,3 +1,2 @@
 pub mod Moves
 pub mod Nest
-pub use Rattle.ecma_role_table.specs.Frames

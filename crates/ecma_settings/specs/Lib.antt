@@ -1,10 +1,3 @@
 pub mod Defaults
 pub mod Questions
 pub mod Reserved
-pub use Rattle.ecma_word.specs.Keyword
-pub use Rattle.ecma_word.specs.KnownIdent
-pub use Rattle.ecma_word.specs.Laws
-pub use Rattle.ecma_word.specs.Operators
-pub use Rattle.ecma_word.specs.Table
-pub use Rattle.ecma_word.specs.Word
-pub use Rattle.ecma_place.specs.Atom

@@ -4,14 +4,14 @@ use Rattle.std.specs.Prelude.{is_some}
 use Rattle.std.proofs.lemmas.Bool.{and_parts}
 use Rattle.ecma_place.specs.declared.place.BytePos.{BytePos}
 use Rattle.ecma_token.specs.View.{SpannedView}
-use Rattle.ecma_clean_reads.specs.Clean.{each_step, ends_clean, is_plain_step, takes_none, was_again}
+use Rattle.ecma_state.specs.Clean.{each_step, ends_clean, is_plain_step, takes_none, was_again}
 use Rattle.ecma_state.specs.Counting.{counting}
 use Rattle.ecma_state.specs.Run.{act_all, act_on, given_in, reading_of, reread_from, session, start_of}
 use Rattle.ecma_state.specs.Session.{Past, Session, has_ended, seen_of, state_of}
 use Rattle.ecma_state.specs.State.{last_slash}
 use Rattle.ecma_state.specs.declared.step.Step.{Step}
 use Rattle.ecma_state.specs.declared.step.Step.TheVariants.{Read, Reread, SetCtx}
-use Rattle.ecma_stream.specs.Ending.{enough}
+use Rattle.ecma_state.specs.Ending.{enough}
 use Rattle.ecma_slashes.specs.Rereads.{SlashRule, TextsAreReadPlainly, all_by, behind_by, entered, meets_expression, read_steps, steps_by, steps_to_end_by, text_steps_by, unless_ended}
 use Rattle.ecma_slashes.proofs.RunLemmas.{text-counts}
 use Rattle.ecma_slashes.proofs.TokenLemmas.{behind-plain}

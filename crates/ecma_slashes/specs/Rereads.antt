@@ -12,11 +12,11 @@ use Rattle.ecma_state.specs.State.{last_slash}
 use Rattle.ecma_state.specs.declared.settings.Settings.{Settings}
 use Rattle.ecma_state.specs.declared.step.Step.{Step}
 use Rattle.ecma_state.specs.declared.step.Step.TheVariants.{Read, SetCtx, SetExprAllowed, SetContexts, PopContext, Reread, Withdraw, Save, Back, TakeErrors}
-use Rattle.ecma_clean_reads.specs.Clean.{each_step, ends_clean, is_clean, is_plain_step, takes_none}
+use Rattle.ecma_state.specs.Clean.{each_step, ends_clean, is_clean, is_plain_step, takes_none}
 use Rattle.ecma_role_table.specs.declared.part.Part.{Part}
 use Rattle.ecma_role_moves.specs.Nest.{IsShallow}
 use Rattle.ecma_roles.specs.Track.{TrackView}
-use Rattle.ecma_stream.specs.Ending.{enough}
+use Rattle.ecma_state.specs.Ending.{enough}
 use Rattle.ecma_slashes.specs.declared.slashes.Slashes.{Slashes}
 use Rattle.ecma_slashes.specs.declared.slashes.Slashes.TheVariants.{ByFlag, At, ByRole, Numbered}
 use Rattle.ecma_slashes.specs.declared.decider.Decider.{Decider}

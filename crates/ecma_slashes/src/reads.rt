@@ -6,7 +6,7 @@ ghost use Rattle.ecma_token.specs.View.{spanned_view};
 ghost use Rattle.ecma_state.specs.Run.{act_all};
 ghost use Rattle.ecma_state.specs.Session.{Session, lexer_state, state_of};
 ghost use Rattle.ecma_stream.specs.View.{IsGivenAs};
-ghost use Rattle.ecma_stream.specs.Ending.{most_tokens};
+ghost use Rattle.ecma_state.specs.Ending.{most_tokens};
 ghost use Rattle.ecma_rewinding.specs.Rewinding.{GoesOn};
 ghost use Rattle.ecma_slashes.specs.Rereads.{Decides, HasRoom, MayName, NamesAs, PassesBy, ReadsBy, SlashRule, StepsOn, are_free_by, behind_by, is_in_order, meets_expression, names, rereads, rule_of, says, steps_to_end_by, text_steps_by};
 

@@ -19,11 +19,11 @@ use Rattle.ecma_state.specs.Session.{LexerValue, LexerState, kept_of, lexer_stat
 use Rattle.ecma_plain.specs.Plain.{IsPlain, PassesWord, StandsPlain, begins_word, plain_reading}
 use Rattle.ecma_stream.specs.Giving.{IsBehindGap, back_at}
 use Rattle.ecma_state.specs.declared.mode.Mode.{Mode}
-use Rattle.ecma_stream.specs.Slashes.{IsAnswer}
+use Rattle.ecma_state.specs.Slashes.{IsAnswer}
 use Rattle.ecma_stream.specs.View.{IsLexer, lexer_view}
 use Rattle.ecma_stream.specs.declared.lexer.Lexer.TheInside.{Inside}
 use Rattle.ecma_plain.proofs.PlainLemmas.{none-is, plain-read}
-use Rattle.ecma_stream.proofs.SlashLemmas.{at-index, is-answer, place-there, stands-moved}
+use Rattle.ecma_reads.proofs.SlashLemmas.{at-index, is-answer, place-there, stands-moved}
 
 -- Places
 

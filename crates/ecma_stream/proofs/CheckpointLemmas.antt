@@ -16,7 +16,7 @@ use Rattle.ecma_state.specs.State.{StateValue}
 use Rattle.ecma_checkpoint.specs.Checkpoints.{CheckpointValue, Fits, GoesBack, checkpoint_of, counts_of}
 use Rattle.ecma_stream.specs.View.{HasMore, IsLexer, cut_to, lexer_view}
 use Rattle.ecma_stream.specs.declared.lexer.Lexer.TheInside.{Inside}
-use Rattle.ecma_stream.proofs.SlashLemmas.{place-there, stands-moved}
+use Rattle.ecma_reads.proofs.SlashLemmas.{place-there, stands-moved}
 
 -- the first errors of a list, as they are seen
 pub take_view : (n : ℕ) (errors : List Error) → map error_view (take n errors) ≡ take n (map error_view errors)

@@ -7,7 +7,7 @@ use Rattle.ecma_state.specs.Disposition.{no_errors}
 use Rattle.ecma_state.specs.Errors.{Begins}
 use Rattle.ecma_state.specs.Session.{LexerState, LexerValue}
 use Rattle.ecma_checkpoint.specs.declared.checkpoint.Counts.{Counts}
-use Rattle.ecma_stream.specs.Slashes.{StandsSlash}
+use Rattle.ecma_state.specs.Slashes.{StandsSlash}
 use Rattle.ecma_state.specs.State.{last_slash}
 
 abbrev pub lexer_view : Inside → LexerValue

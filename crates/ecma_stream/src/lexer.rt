@@ -6,7 +6,7 @@ ghost use Rattle.ecma_dispatch.specs.Besides.{IsBeside, TakesNone, bare, seen_be
 ghost use Rattle.ecma_place.specs.Cursor.{rest};
 ghost use Rattle.ecma_stream.specs.Giving.{back_at, Gives, IsBehindGap, IsRefused};
 ghost use Rattle.ecma_stream.specs.View.{HasMore, IsGivenAs, drained};
-ghost use Rattle.ecma_stream.specs.Slashes.{IsAnswer, MayReread, slash_answered};
+ghost use Rattle.ecma_state.specs.Slashes.{IsAnswer, MayReread, slash_answered};
 ghost use Rattle.ecma_state.specs.Session.{Session, kept_in, lexer_state, state_of};
 ghost use Rattle.ecma_state.specs.declared.step.Step.{Step};
 ghost use Rattle.ecma_state.specs.Run.{act, answer_in, is_free_read, mode_of, reading_of, start_of, state_allowing, state_behind, state_rereading, state_with_contexts};
@@ -368,7 +368,7 @@ impl<'a> Lexer<'a> {
 
     /// Reads with all that is found beside the token, which it puts into the slot.
     #[inline(never)]
-    #[tactic(auto, using(crate::proofs::SlashLemmas::free_read_faults, crate::proofs::SlashLemmas::free_read_comments, crate::proofs::EndingLemmas::end_found, crate::proofs::EndingLemmas::end_faults, crate::proofs::EndingLemmas::end_comments, crate::proofs::EndingLemmas::end_free))]
+    #[tactic(auto, using(ecma_reads::proofs::SlashLemmas::free_read_faults, ecma_reads::proofs::SlashLemmas::free_read_comments, ecma_reads::proofs::EndingLemmas::end_found, ecma_reads::proofs::EndingLemmas::end_faults, ecma_reads::proofs::EndingLemmas::end_comments, ecma_reads::proofs::EndingLemmas::end_free))]
     fn besides_into(&mut self, slot: &mut Option<TokenAndSpan<'a>>) -> Result<(), AllocError>
         ensures done { OnOk result (Gives self.old self.new slot.old slot.new true) }
         ensures refused { OnErr result (IsRefused self.old self.new slot.old slot.new) }
@@ -464,7 +464,7 @@ impl<'a> Lexer<'a> {
 }
 
 impl<'a> Iterator for Lexer<'a> {
-    ghost use Rattle.ecma_stream.specs.Items.{GivesItem, items_left};
+    ghost use Rattle.ecma_state.specs.Items.{GivesItem, items_left};
 
     type Item = Result<TokenAndSpan<'a>, AllocError>;
 

@@ -5,7 +5,7 @@ ghost use Rattle.ecma_token.specs.View.{error_view};
 ghost use Rattle.ecma_state.specs.Contexts.{Contexts};
 ghost use Rattle.ecma_state.specs.Session.{LexerState};
 ghost use Rattle.ecma_contexts.specs.contracts.token_contexts.TokenContexts as token_contexts;
-ghost use Rattle.ecma_stream.specs.Slashes.{MayReread};
+ghost use Rattle.ecma_state.specs.Slashes.{MayReread};
 ghost use Rattle.ecma_state.specs.Run.{state_allowing, state_in, state_rereading, state_with_contexts, state_with_error, state_with_module_mode_error, state_without_errors};
 
 use ecma_place::BytePos;

@@ -4,10 +4,3 @@ pub mod Marks
 pub mod Runs
 pub mod States
 pub mod Tracked
-pub use Rattle.ecma_checkpoint.specs.Checkpoints
-pub use Rattle.ecma_rewinding.specs.Rewinding
-pub use Rattle.ecma_state.specs.Run
-pub use Rattle.ecma_state.specs.Session
-pub use Rattle.ecma_slashes.specs.Known
-pub use Rattle.ecma_slashes.specs.Rereads
-pub use Rattle.ecma_slashes.specs.Roles

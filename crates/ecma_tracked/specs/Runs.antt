@@ -9,7 +9,7 @@ use Rattle.ecma_state.specs.Run.{act_all, session}
 use Rattle.ecma_state.specs.Session.{Session, has_ended, state_of}
 use Rattle.ecma_state.specs.declared.settings.Settings.{Settings}
 use Rattle.ecma_state.specs.declared.step.Step.{Step}
-use Rattle.ecma_stream.specs.Ending.{most_tokens}
+use Rattle.ecma_state.specs.Ending.{most_tokens}
 use Rattle.ecma_slashes.specs.Rereads.{all_by, behind_by, by_role, entered, found_by, steps_to_end_by, text_steps_by}
 use Rattle.ecma_slashes.specs.Roles.{tokens_kept}
 use Rattle.ecma_tracked.specs.Marks.{GoesBackTo}

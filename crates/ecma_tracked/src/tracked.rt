@@ -7,7 +7,7 @@ ghost use Rattle.ecma_checkpoint.specs.Checkpoints.{GoesBack, checkpoint_of};
 ghost use Rattle.ecma_state.specs.Run.{act_on};
 ghost use Rattle.ecma_state.specs.Session.{Session, lexer_state, state_of};
 ghost use Rattle.ecma_state.specs.declared.step.Step.{Step};
-ghost use Rattle.ecma_stream.specs.Ending.{most_tokens};
+ghost use Rattle.ecma_state.specs.Ending.{most_tokens};
 ghost use Rattle.ecma_stream.specs.View.{IsGivenAs};
 ghost use Rattle.ecma_rewinding.specs.Rewinding.{GoesOn};
 ghost use Rattle.ecma_slashes.specs.Known.{expected_by};

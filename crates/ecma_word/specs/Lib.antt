@@ -5,4 +5,3 @@ pub mod Operators
 pub mod ShortWords
 pub mod Table
 pub mod Word
-pub use Rattle.ecma_place.specs.Atom

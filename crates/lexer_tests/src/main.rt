@@ -1,4 +1,4 @@
-//! Tests of texts: what the lexer reads of each.
+//! Tests of texts: what the lexer reads of each, and their canonical texts.
 #![tactic(auto)]
 
 #[cfg(test)]

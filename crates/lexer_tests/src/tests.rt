@@ -1,11 +1,13 @@
-//! Rows of texts, each with its listing.
+//! Rows of texts, each with its listing, and canonical texts.
 mod attached;
 mod beginnings;
+mod canonical;
 mod code;
 mod errors;
 mod gaps;
 mod numbers;
 mod reader_texts;
+mod steps;
 mod strings;
 mod templates;
 mod words;

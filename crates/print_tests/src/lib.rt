@@ -1,4 +1,4 @@
-//! Tests of `ecma_print`.
+//! Tests of `ecma_print`, `ecma_show` and `ecma_faults`.
 #![tactic(auto)]
 
 #[cfg(test)]

@@ -1,7 +1,7 @@
 //! The tokens of a text, and what they import and export.
 use ecma_modules::{Module, ModuleOptions, module_of};
 use ecma_state::Kept;
-use ecma_stream::Tokens;
+use ecma_stream::{Lexer, Tokens};
 use listing::listing::{MODULE, Settings, opened, set_flags};
 use std::alloc::{AllocError, Global};
 
@@ -11,16 +11,30 @@ const TOKENS: usize = 200;
 /// TypeScript, as a module.
 pub const MODULE_TS: Settings = Settings { ts: true, ..MODULE };
 
+/// What is kept of the next token.
+fn next_kept(lexer: &mut Lexer) -> Result<Option<Kept>, AllocError> {
+    match lexer.read()? {
+        Some(token) => Ok(Some(Kept::of(&token))),
+        None => Ok(None),
+    }
+}
+
+/// Adds what is kept of each token.
+fn keep_all(lexer: &mut Lexer, kept: &mut Vec<Kept>) -> Result<(), AllocError> {
+    for _ in 0..TOKENS {
+        match next_kept(lexer)? {
+            Some(token) => kept.push(token)?,
+            None => break,
+        }
+    }
+    Ok(())
+}
+
 fn tokens(alloc: Global, settings: Settings, text: &str) -> Result<Vec<Kept>, AllocError> {
     let mut lexer = opened(alloc, settings, text)?;
     set_flags(&mut lexer, settings)?;
     let mut kept = Vec::new(alloc);
-    'tokens: for number in 0..TOKENS {
-        match lexer.read()? {
-            Some(token) => kept.push(Kept::of(&token))?,
-            None => break,
-        }
-    }
+    keep_all(&mut lexer, &mut kept)?;
     Ok(kept)
 }
 

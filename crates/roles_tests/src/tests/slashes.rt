@@ -2,7 +2,7 @@
 //! their parsers do.
 use ecma_roles::{Part, Track};
 use ecma_stream::{Lexer, Tokens};
-use ecma_token::{Token, TokenAndSpan};
+use ecma_token::Token;
 use listing::listing::{MODULE, PLAIN, Settings, TS, opened, set_flags};
 use std::alloc::{AllocError, Global};
 use std::process::Abort;
@@ -267,27 +267,66 @@ const MODULES: &[Row] = &[
     ("import(\"a\") / 2", "d"),
 ];
 
-/// Whether a slash that was read again as a regular expression is written for the token.
-fn read_slash<'a>(
-    lexer: &mut Lexer<'a>,
+/// What is asked of a token that was read.
+#[derive(Clone, Copy)]
+struct Seen {
+    part: Part,
+    is_assign: bool,
+}
+
+/// Reads the next token. This function alone drops one: the proof of each that does is long.
+fn next_seen(lexer: &mut Lexer) -> Result<Option<Seen>, AllocError> {
+    match lexer.read()? {
+        Some(token) => Ok(Some(Seen {
+            part: Part::of(&token.token, token.had_line_break),
+            is_assign: matches!(&token.token, Token::AssignOp(_)),
+        })),
+        None => Ok(None),
+    }
+}
+
+/// Writes what the token that was read last is where it is a slash, and reads it again where it begins a regular
+/// expression. Gives the token that then stands there.
+fn read_slash(
+    lexer: &mut Lexer,
     track: &Track,
-    token: TokenAndSpan<'a>,
+    found: Seen,
     out: &mut String,
-) -> Result<Option<TokenAndSpan<'a>>, AllocError> {
+) -> Result<Option<Seen>, AllocError> {
     let start = lexer.last_slash();
     if start.is_none() {
-        return Ok(Some(token));
+        return Ok(Some(found));
     }
-    let is_assign = matches!(&token.token, Token::AssignOp(_));
-    if !track.expects_operand(is_assign) {
+    if !track.expects_operand(found.is_assign) {
         out.push('d')?;
-        return Ok(Some(token));
+        return Ok(Some(found));
     }
     out.push('r')?;
     lexer.set_next_regexp(start);
-    let expression = lexer.read()?;
+    let expression = next_seen(lexer)?;
     lexer.set_next_regexp(None);
     Ok(expression)
+}
+
+/// Takes the next token into account, and writes what it is where it is a slash. Says whether there was a token.
+fn take_next(lexer: &mut Lexer, track: &mut Track, out: &mut String) -> Result<bool, AllocError> {
+    let Some(found) = next_seen(lexer)? else {
+        return Ok(false);
+    };
+    if let Some(seen) = read_slash(lexer, track, found, out)? {
+        track.step(&seen.part)?;
+    }
+    Ok(true)
+}
+
+/// Takes each token into account.
+fn take_all(lexer: &mut Lexer, track: &mut Track, out: &mut String) -> Result<(), AllocError> {
+    for _ in 0..TOKENS {
+        if !take_next(lexer, track, out)? {
+            break;
+        }
+    }
+    Ok(())
 }
 
 /// What the slashes of a text are, as a track of its tokens says.
@@ -296,14 +335,7 @@ fn slashes(alloc: Global, settings: Settings, text: &str) -> Result<String, Allo
     set_flags(&mut lexer, settings)?;
     let mut track = Track::new(alloc, settings.ts, settings.module);
     let mut out = String::new(alloc);
-    for _ in 0..TOKENS {
-        let Some(token) = lexer.read()? else {
-            break;
-        };
-        if let Some(token) = read_slash(&mut lexer, &track, token, &mut out)? {
-            track.step(&Part::of(&token.token, token.had_line_break))?;
-        }
-    }
+    take_all(&mut lexer, &mut track, &mut out)?;
     Ok(out)
 }
 

@@ -82,6 +82,17 @@ fn slashes_are_told_by_the_numbers_of_their_tokens(rt: HostRuntime) -> Result<()
     Ok(())
 }
 
+/// The kind of the next token, where the first one is named.
+fn kind_of_first(lexer: &mut Lexer) -> Result<Option<TokenKind>, AllocError> {
+    if lexer.reads_again() {
+        return Ok(None);
+    }
+    match read_by(lexer, Slashes::Numbered(&[1]))? {
+        Some(token) => Ok(Some(token.token.kind())),
+        None => Ok(None),
+    }
+}
+
 /// Where the tokens before are not at hand, no number names a slash.
 #[test]
 fn numbers_name_no_slash_alone(rt: HostRuntime) -> Result<(), Fail> {
@@ -93,11 +104,6 @@ fn numbers_name_no_slash_alone(rt: HostRuntime) -> Result<(), Fail> {
         input,
         false,
     );
-    let found = read_by(&mut lexer, Slashes::Numbered(&[1]))?;
-    let division = match found {
-        Some(token) => Kept::of(&token).kind == DIVISION,
-        None => false,
-    };
-    assert!(rt; division);
+    assert!(rt; kind_of_first(&mut lexer)? == Some(DIVISION));
     Ok(())
 }

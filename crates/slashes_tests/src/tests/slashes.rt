@@ -40,18 +40,32 @@ fn settings() -> Settings {
     }
 }
 
+/// What is kept of the next token by the flag.
+fn next_by_flag(lexer: &mut Lexer) -> Result<Option<Kept>, AllocError> {
+    if lexer.reads_again() {
+        return Ok(None);
+    }
+    match read_by_flag(lexer)? {
+        Some(token) => Ok(Some(Kept::of(&token))),
+        None => Ok(None),
+    }
+}
+
+/// Adds what is kept of each token by the flag.
+fn keep_all(lexer: &mut Lexer, tokens: &mut Vec<Kept>) -> Result<(), AllocError> {
+    for _ in 0..READS {
+        if let Some(token) = next_by_flag(lexer)? {
+            tokens.push(token)?;
+        }
+    }
+    Ok(())
+}
+
 /// Reads by the flag, and then once more behind the end, and gives what is kept.
 fn read_all(alloc: Global, input: StringInput) -> Result<Vec<Kept>, AllocError> {
     let mut lexer = Lexer::new(alloc, Syntax::default(), EsVersion::default(), input, false);
     let mut tokens = Vec::new(alloc);
-    for _ in 0..READS {
-        if lexer.reads_again() {
-            return Ok(tokens);
-        }
-        if let Some(token) = read_by_flag(&mut lexer)? {
-            tokens.push(Kept::of(&token))?;
-        }
-    }
+    keep_all(&mut lexer, &mut tokens)?;
     Ok(tokens)
 }
 
@@ -123,6 +137,31 @@ const PLACED: &[(&str, &[BytePos], usize, u32, u32, TokenKind)] = &[
     ("a / b", &[BytePos(2000)], 0, 2, 3, DIVISION),
 ];
 
+/// What is kept of the next token, with the slashes at these places.
+fn next_placed(lexer: &mut Lexer, places: &[BytePos]) -> Result<Option<Kept>, AllocError> {
+    if lexer.reads_again() || !ascend(places) {
+        return Ok(None);
+    }
+    match read_by(lexer, Slashes::At(places))? {
+        Some(token) => Ok(Some(Kept::of(&token))),
+        None => Ok(None),
+    }
+}
+
+/// Adds what is kept of each token, with the slashes at these places.
+fn keep_placed(
+    lexer: &mut Lexer,
+    places: &[BytePos],
+    tokens: &mut Vec<Kept>,
+) -> Result<(), AllocError> {
+    for _ in 0..READS {
+        if let Some(token) = next_placed(lexer, places)? {
+            tokens.push(token)?;
+        }
+    }
+    Ok(())
+}
+
 /// Reads with the slashes at these places, and gives what is kept.
 fn read_placed(
     alloc: Global,
@@ -131,14 +170,7 @@ fn read_placed(
 ) -> Result<Vec<Kept>, AllocError> {
     let mut lexer = Lexer::new(alloc, Syntax::default(), EsVersion::default(), input, false);
     let mut tokens = Vec::new(alloc);
-    for _ in 0..READS {
-        if lexer.reads_again() || !ascend(places) {
-            return Ok(tokens);
-        }
-        if let Some(token) = read_by(&mut lexer, Slashes::At(places))? {
-            tokens.push(Kept::of(&token))?;
-        }
-    }
+    keep_placed(&mut lexer, places, &mut tokens)?;
     Ok(tokens)
 }
 

@@ -1,7 +1,7 @@
 use Rattle.ecma_place.specs.Cursor.{rest}
 use Rattle.ecma_scan.specs.Expressions.{regular_expression}
 use Rattle.ecma_state.specs.TokenAt.{is_borrowed, is_empty}
-use Rattle.ecma_dispatch.proofs.TokenLemmas.{and-parts, borrowed-token}
+use Rattle.ecma_reads.proofs.TokenLemmas.{and-parts, borrowed-token}
 use Rattle.ecma_dispatch.proofs.read.read_again.Goals as goal
 
 pub returns-in_err-found-clause-free : goal.returns-in_err-found-clause-free

@@ -8,7 +8,7 @@ use Rattle.ecma_scan.specs.Comments.{comments_at}
 use Rattle.ecma_state.specs.Mode.{gap_mode}
 use Rattle.ecma_state.specs.Reading.{behind_gap, gap_in, is_free_behind, spanned}
 use Rattle.ecma_state.specs.TokenAt.{token_at, token_comments, token_found}
-use Rattle.ecma_dispatch.proofs.ReadingLemmas.{free-reading, free-token, reading-some}
+use Rattle.ecma_reads.proofs.ReadingLemmas.{free-reading, free-token, reading-some}
 use Rattle.ecma_dispatch.proofs.read.read_code.Goals as goal
 
 pub token_at-requires : goal.token_at-requires

@@ -2,7 +2,7 @@ use Rattle.std.proofs.Common.{◌≡◌, true}
 use Rattle.ecma_place.specs.Cursor.{rest}
 use Rattle.ecma_state.specs.TokenAt.{is_free_token, read_opened}
 use Rattle.ecma_state.specs.declared.lookahead.Lookahead.TheVariants as opens
-use Rattle.ecma_dispatch.proofs.TokenLemmas.{borrowed-token, free-parts}
+use Rattle.ecma_reads.proofs.TokenLemmas.{borrowed-token, free-parts}
 use Rattle.ecma_dispatch.proofs.token_at.plain_at.Goals as goal
 
 pub returns-in-String-clause-free : goal.returns-in-String-clause-free

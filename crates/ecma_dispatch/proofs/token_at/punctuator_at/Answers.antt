@@ -2,7 +2,7 @@ use Rattle.std.proofs.Common.{sym, ◌∙◌, true≢false}
 use Rattle.ecma_place.specs.Cursor.{rest, place}
 use Rattle.ecma_token.specs.View.{token_view}
 use Rattle.ecma_scan.specs.Punctuators.{punctuator_in}
-use Rattle.ecma_dispatch.proofs.TokenLemmas.{punctuator-some, punctuator-none, punctuator-stayed, punctuator-moved, stray-refused}
+use Rattle.ecma_reads.proofs.TokenLemmas.{punctuator-some, punctuator-none, punctuator-stayed, punctuator-moved, stray-refused}
 use Rattle.ecma_dispatch.proofs.token_at.punctuator_at.Goals as goal
 
 pub stray_at-requires : goal.stray_at-requires

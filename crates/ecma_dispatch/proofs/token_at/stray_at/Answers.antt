@@ -1,7 +1,7 @@
 use Rattle.std.proofs.Common.{◌∷◌, [], refl, ◌∙◌}
 use Rattle.ecma_place.specs.Cursor.{rest, place}
 use Rattle.ecma_place.proofs.MoveLemmas.{place-passed-le, span-passed}
-use Rattle.ecma_dispatch.proofs.TokenLemmas.{stray-first, first-front, empty-span}
+use Rattle.ecma_reads.proofs.TokenLemmas.{stray-first, first-front, empty-span}
 use Rattle.ecma_dispatch.proofs.token_at.stray_at.Goals as goal
 
 pub new-requires-4 : goal.new-requires-4

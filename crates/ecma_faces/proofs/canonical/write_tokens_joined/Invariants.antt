@@ -1,7 +1,7 @@
 -- The tokens so far were written, joined, or are held.
 use Rattle.std.proofs.Common.{ℕ, List, []}
 use Rattle.ecma_state.specs.Session.{Session, lexer_state}
-use Rattle.ecma_stream.specs.Ending.{most_tokens}
+use Rattle.ecma_state.specs.Ending.{most_tokens}
 use Rattle.ecma_slashes.specs.Rereads.{SlashRule}
 use Rattle.ecma_reader.specs.Readers.{IsReady, Shows, Tells}
 use Rattle.ecma_report.specs.Reports.{IsOf, Stays}

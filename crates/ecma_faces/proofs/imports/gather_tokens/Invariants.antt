@@ -4,7 +4,7 @@ use Rattle.ecma_token.specs.View.{error_view, refusal_of}
 use Rattle.ecma_module_table.specs.declared.rows.ModuleOptions.{ModuleOptions}
 use Rattle.ecma_modules.specs.Modules.{gathered}
 use Rattle.ecma_state.specs.Session.{Session, lexer_state}
-use Rattle.ecma_stream.specs.Ending.{most_tokens}
+use Rattle.ecma_state.specs.Ending.{most_tokens}
 use Rattle.ecma_slashes.specs.Rereads.{SlashRule}
 use Rattle.ecma_reader.specs.Readers.{FlatMaps, IsReady, Shows, Tells}
 use Rattle.ecma_modules.proofs.TokenLemmas.{Gathers}

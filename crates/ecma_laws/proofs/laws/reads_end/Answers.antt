@@ -1,4 +1,4 @@
-use Rattle.ecma_stream.proofs.EndingLemmas.{reads_out}
+use Rattle.ecma_reads.proofs.EndingLemmas.{reads_out}
 use Rattle.ecma_laws.proofs.laws.reads_end.Goals as goal
 
 pub returns : goal.returns

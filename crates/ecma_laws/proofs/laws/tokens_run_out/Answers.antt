@@ -1,4 +1,4 @@
-use Rattle.ecma_stream.proofs.EndingLemmas.{tokens_run_out}
+use Rattle.ecma_reads.proofs.EndingLemmas.{tokens_run_out}
 use Rattle.ecma_laws.proofs.laws.tokens_run_out.Goals as goal
 
 pub returns : goal.returns

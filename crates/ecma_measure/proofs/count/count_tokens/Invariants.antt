@@ -1,5 +1,5 @@
 -- So many tokens were read, until the end is answered.
-use Rattle.ecma_stream.specs.Ending.{most_tokens}
+use Rattle.ecma_state.specs.Ending.{most_tokens}
 use Rattle.ecma_state.specs.Session.{lexer_state}
 use Rattle.ecma_measure.proofs.Counting.{CountedSoFar}
 use Rattle.ecma_measure.proofs.count.count_tokens.Given as goal

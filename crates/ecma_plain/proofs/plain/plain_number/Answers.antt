@@ -2,7 +2,7 @@ use Rattle.ecma_place.specs.Cursor.{rest}
 use Rattle.ecma_scan.specs.Numbers.{number}
 use Rattle.ecma_state.specs.TokenAt.{ts1085}
 use Rattle.ecma_state.specs.declared.lookahead.Lookahead.TheVariants as opens
-use Rattle.ecma_dispatch.proofs.TokenLemmas.{free-parts, no-separator, ok-accepted}
+use Rattle.ecma_reads.proofs.TokenLemmas.{free-parts, no-separator, ok-accepted}
 use Rattle.ecma_plain.proofs.plain.plain_number.Goals as goal
 
 pub returns-in_err-found-clause-free : goal.returns-in_err-found-clause-free

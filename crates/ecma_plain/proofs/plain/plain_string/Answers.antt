@@ -1,7 +1,7 @@
 use Rattle.ecma_place.specs.Cursor.{rest}
 use Rattle.ecma_scan.specs.Strings.{string_literal}
 use Rattle.ecma_state.specs.declared.lookahead.Lookahead.TheVariants as opens
-use Rattle.ecma_dispatch.proofs.TokenLemmas.{borrowed-token, free-parts}
+use Rattle.ecma_reads.proofs.TokenLemmas.{borrowed-token, free-parts}
 use Rattle.ecma_plain.proofs.plain.plain_string.Goals as goal
 
 pub returns-in_err-found-clause-free : goal.returns-in_err-found-clause-free

@@ -1,7 +1,7 @@
 use Rattle.std.proofs.Common.{◌∙◌, Some, arith, sym, ap, length}
 use Rattle.std.specs.Prelude.{option_map}
 use Rattle.ecma_classes.specs.Classes.{classes_of}
-use Rattle.ecma_stream.specs.Ending.{read_out}
+use Rattle.ecma_state.specs.Ending.{read_out}
 use Rattle.ecma_state.specs.Session.{kept_tokens}
 use Rattle.ecma_program.specs.ClassLines.{pieces_from}
 use Rattle.ecma_program.proofs.Covering.{collected-there, may-be-covered}

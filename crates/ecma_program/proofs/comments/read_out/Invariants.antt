@@ -1,5 +1,5 @@
 -- So many reads gave a token each, until the end is answered.
-use Rattle.ecma_stream.specs.Ending.{most_tokens}
+use Rattle.ecma_state.specs.Ending.{most_tokens}
 use Rattle.ecma_state.specs.Session.{lexer_state}
 use Rattle.ecma_program.proofs.Gathering.{PassedSoFar}
 use Rattle.ecma_program.proofs.comments.read_out.Given as goal

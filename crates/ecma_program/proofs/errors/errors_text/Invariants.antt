@@ -1,5 +1,5 @@
 -- The lines so far are those of the errors of the tokens that so many reads gave, until the end is answered.
-use Rattle.ecma_stream.specs.Ending.{most_tokens}
+use Rattle.ecma_state.specs.Ending.{most_tokens}
 use Rattle.ecma_state.specs.Session.{lexer_state}
 use Rattle.ecma_program.specs.ErrorLines.{token_lines}
 use Rattle.ecma_program.proofs.Listing.{Listed}

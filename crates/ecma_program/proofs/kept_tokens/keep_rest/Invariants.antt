@@ -1,5 +1,5 @@
 -- What is kept of the tokens that so many reads gave stands behind what was kept before.
-use Rattle.ecma_stream.specs.Ending.{most_tokens}
+use Rattle.ecma_state.specs.Ending.{most_tokens}
 use Rattle.ecma_state.specs.Session.{lexer_state}
 use Rattle.ecma_program.proofs.Keeping.{KeptSoFar}
 use Rattle.ecma_program.proofs.kept_tokens.keep_rest.Given as goal

@@ -1,5 +1,5 @@
 -- The lines so far are those of the tokens that so many reads gave.
-use Rattle.ecma_stream.specs.Ending.{most_tokens}
+use Rattle.ecma_state.specs.Ending.{most_tokens}
 use Rattle.ecma_state.specs.Session.{lexer_state}
 use Rattle.ecma_program.proofs.Listing.{Listed, line_of}
 use Rattle.ecma_program.proofs.lines.tokens_text.Given as goal

@@ -1,7 +1,7 @@
 -- What the tokens so far give is kept.
 use Rattle.std.proofs.Common.{◌≡◌, []}
 use Rattle.ecma_state.specs.Session.{Session, kept_of, lexer_state}
-use Rattle.ecma_stream.specs.Ending.{most_tokens}
+use Rattle.ecma_state.specs.Ending.{most_tokens}
 use Rattle.ecma_slashes.specs.Rereads.{SlashRule}
 use Rattle.ecma_reader.specs.Readers.{IsReady, Maps, Shows, Tells}
 use Rattle.ecma_reader.proofs.tokens.keep_rest.Given as goal

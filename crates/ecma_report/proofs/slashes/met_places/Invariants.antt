@@ -1,6 +1,6 @@
 -- The reader may read on.
 use Rattle.ecma_state.specs.Session.{lexer_state}
-use Rattle.ecma_stream.specs.Ending.{most_tokens}
+use Rattle.ecma_state.specs.Ending.{most_tokens}
 use Rattle.ecma_reader.specs.Readers.{IsReady}
 use Rattle.ecma_report.proofs.slashes.met_places.Given as goal
 

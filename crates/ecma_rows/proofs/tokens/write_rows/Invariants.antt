@@ -1,7 +1,7 @@
 -- The rows of the tokens so far were written, and each left fewer that may come.
 use Rattle.std.proofs.Common.{◌+◌, ◌<◌, ◌^◌, []}
 use Rattle.ecma_state.specs.Session.{Session, lexer_state}
-use Rattle.ecma_stream.specs.Ending.{most_tokens}
+use Rattle.ecma_state.specs.Ending.{most_tokens}
 use Rattle.ecma_slashes.specs.Rereads.{SlashRule}
 use Rattle.ecma_reader.specs.Readers.{IsReady, Shows, Tells}
 use Rattle.ecma_rows.proofs.RowLemmas.{IsWritten}

@@ -1,7 +1,7 @@
 -- The steps that were added are those of so many tokens, and it is decided behind them.
 use Rattle.std.proofs.Common.{◌≡◌, None}
 use Rattle.ecma_state.specs.Session.{Session, lexer_state, state_of}
-use Rattle.ecma_stream.specs.Ending.{most_tokens}
+use Rattle.ecma_state.specs.Ending.{most_tokens}
 use Rattle.ecma_slashes.specs.Rereads.{Decides, SlashRule}
 use Rattle.ecma_slashes.proofs.DecidingLemmas.{DecidesSoFar}
 use Rattle.ecma_slashes.proofs.reads.add_steps_deciding.Given as goal

@@ -3,10 +3,10 @@ use Rattle.std.specs.Prelude.{option_map}
 use Rattle.std.proofs.lemmas.List.{map-append}
 use Rattle.ecma_token.specs.View.{spanned_view}
 use Rattle.ecma_state.specs.declared.step.Step.TheVariants.{Read}
-use Rattle.ecma_stream.specs.Ending.{behind_reads}
+use Rattle.ecma_state.specs.Ending.{behind_reads}
 use Rattle.ecma_state.specs.Run.{act_on, reading_of}
 use Rattle.ecma_state.specs.Session.{lexer_state, state_of}
-use Rattle.ecma_stream.specs.Slashes.{slash_answered}
+use Rattle.ecma_state.specs.Slashes.{slash_answered}
 use Rattle.ecma_program.proofs.RereadLemmas.{no-slash-behind, token-behind}
 use Rattle.ecma_program.proofs.rereads.ReadAgain.read_on.Goals as goal
 

@@ -1,7 +1,7 @@
 use Rattle.std.proofs.Common.{add-one, ap, ◌≡◌, ◌≤◌, false, length, Some, ◌∙◌, refl, sym, arith}
 use Rattle.std.specs.List.{slice_get}
 use Rattle.std.proofs.lemmas.Option.{slice_get_past}
-use Rattle.ecma_role_moves.specs.Frames.{is_of}
+use Rattle.ecma_role_table.specs.Frames.{is_of}
 use Rattle.ecma_role_moves.specs.Nest.{kind_in}
 use Rattle.ecma_role_moves.proofs.NestLemmas.{outside_at, outside_none}
 use Rattle.ecma_role_moves.proofs.nest.Nest.outside.Goals as goal

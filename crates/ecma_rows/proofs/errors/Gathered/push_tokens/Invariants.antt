@@ -1,7 +1,7 @@
 -- The errors of the tokens so far that are one were gathered.
 use Rattle.std.proofs.Common.{[]}
 use Rattle.ecma_state.specs.Session.{Session, lexer_state}
-use Rattle.ecma_stream.specs.Ending.{most_tokens}
+use Rattle.ecma_state.specs.Ending.{most_tokens}
 use Rattle.ecma_slashes.specs.Rereads.{SlashRule}
 use Rattle.ecma_reader.specs.Outputs.{errors_among}
 use Rattle.ecma_reader.specs.Readers.{IsReady, Shows, Tells}

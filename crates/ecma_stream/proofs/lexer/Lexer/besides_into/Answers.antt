@@ -1,8 +1,8 @@
 use Rattle.std.proofs.Common.{subst, sym}
 use Rattle.ecma_state.specs.Session.{LexerValue}
-use Rattle.ecma_stream.specs.Slashes.{IsAnswer}
+use Rattle.ecma_state.specs.Slashes.{IsAnswer}
 use Rattle.ecma_stream.specs.View.{lexer_view}
-use Rattle.ecma_stream.proofs.SlashLemmas.{still-answers}
+use Rattle.ecma_stream.proofs.LexerLemmas.{still-answers}
 use Rattle.ecma_stream.proofs.lexer.Lexer.besides_into.Goals as goal
 
 pub take_in-requires-clause-answer : goal.take_in-requires-clause-answer

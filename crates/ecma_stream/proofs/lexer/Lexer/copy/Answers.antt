@@ -1,5 +1,5 @@
 use Rattle.std.proofs.Common.{◌∙◌, ap, refl}
-use Rattle.ecma_stream.proofs.SlashLemmas.{same-lexer}
+use Rattle.ecma_stream.proofs.LexerLemmas.{same-lexer}
 use Rattle.ecma_stream.proofs.lexer.Lexer.copy.Goals as goal
 
 pub invariant_of-result : goal.invariant_of-result

@@ -1,5 +1,5 @@
 use Rattle.std.proofs.Common.{◌∙◌, ap, refl}
-use Rattle.ecma_stream.proofs.SlashLemmas.{kept-lexer}
+use Rattle.ecma_stream.proofs.LexerLemmas.{kept-lexer}
 use Rattle.ecma_stream.proofs.lexer.Lexer.cut.Goals as goal
 
 pub invariant_of-self : goal.invariant_of-self

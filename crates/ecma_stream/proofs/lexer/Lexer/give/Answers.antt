@@ -1,7 +1,7 @@
 use Rattle.std.proofs.Common.{Some, subst, sym}
 use Rattle.ecma_token.specs.View.{spanned_view}
 use Rattle.ecma_state.specs.declared.kept.Kept.{Kept}
-use Rattle.ecma_stream.specs.Slashes.{IsAnswer}
+use Rattle.ecma_state.specs.Slashes.{IsAnswer}
 use Rattle.ecma_stream.proofs.ArmLemmas.{given-answer}
 use Rattle.ecma_stream.proofs.lexer.Lexer.give.Goals as goal
 

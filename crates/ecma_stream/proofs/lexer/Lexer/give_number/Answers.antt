@@ -9,7 +9,7 @@ use Rattle.ecma_state.specs.declared.mode.Mode.{Mode}
 use Rattle.ecma_plain.specs.Plain.{IsPlain, plain_reading}
 use Rattle.ecma_stream.proofs.ArmLemmas.{arm-read, moved-lexer}
 use Rattle.ecma_plain.proofs.PlainLemmas.{plain-of-number}
-use Rattle.ecma_stream.proofs.SlashLemmas.{same-lexer}
+use Rattle.ecma_stream.proofs.LexerLemmas.{same-lexer}
 use Rattle.ecma_stream.proofs.lexer.Lexer.give_number.Goals as goal
 
 pub give-requires-clause-found : goal.give-requires-clause-found

@@ -9,7 +9,7 @@ use Rattle.ecma_plain.specs.Plain.{plain_reading}
 use Rattle.ecma_stream.specs.View.{lexer_view}
 use Rattle.ecma_stream.proofs.ArmLemmas.{arm-read, moved-lexer}
 use Rattle.ecma_plain.proofs.PlainLemmas.{plain-of-string}
-use Rattle.ecma_stream.proofs.SlashLemmas.{same-lexer}
+use Rattle.ecma_stream.proofs.LexerLemmas.{same-lexer}
 use Rattle.ecma_stream.proofs.lexer.Lexer.give_string.Goals as goal
 
 pub give-requires-clause-found : goal.give-requires-clause-found

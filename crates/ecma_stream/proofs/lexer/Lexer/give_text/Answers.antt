@@ -1,7 +1,7 @@
 use Rattle.std.proofs.Common.{Some, refl, subst, sym}
 use Rattle.ecma_token.specs.View.{spanned_view}
 use Rattle.ecma_state.specs.declared.kept.Kept.{Kept}
-use Rattle.ecma_stream.specs.Slashes.{IsAnswer}
+use Rattle.ecma_state.specs.Slashes.{IsAnswer}
 use Rattle.ecma_stream.proofs.ArmLemmas.{answer-found}
 use Rattle.ecma_stream.proofs.lexer.Lexer.give_text.Goals as goal
 

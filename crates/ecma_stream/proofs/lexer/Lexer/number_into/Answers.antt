@@ -7,7 +7,7 @@ use Rattle.ecma_state.specs.TokenAt.{lookahead, ts1085}
 use Rattle.ecma_stream.specs.View.{lexer_view}
 use Rattle.ecma_stream.proofs.ArmLemmas.{arm-read, moved-lexer}
 use Rattle.ecma_plain.proofs.PlainLemmas.{plain-of-number}
-use Rattle.ecma_stream.proofs.SlashLemmas.{same-lexer}
+use Rattle.ecma_stream.proofs.LexerLemmas.{same-lexer}
 use Rattle.ecma_stream.proofs.lexer.Lexer.number_into.Goals as goal
 
 pub give-requires-clause-found : goal.give-requires-clause-found

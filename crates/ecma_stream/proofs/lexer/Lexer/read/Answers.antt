@@ -2,7 +2,7 @@ use Rattle.std.proofs.Common.{Ok}
 use Rattle.std.specs.Prelude.{⊤}
 use Rattle.ecma_token.specs.View.{spanned_view}
 use Rattle.ecma_state.specs.Session.{lexer_state}
-use Rattle.ecma_stream.proofs.EndingLemmas.{end_again}
+use Rattle.ecma_reads.proofs.EndingLemmas.{end_again}
 use Rattle.ecma_stream.proofs.lexer.Lexer.read.Goals as goal
 
 pub returns-in-Ok-clause-again : goal.returns-in-Ok-clause-again

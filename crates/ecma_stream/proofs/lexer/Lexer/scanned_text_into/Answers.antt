@@ -9,7 +9,7 @@ use Rattle.ecma_stream.specs.Giving.{Gives, IsRefused}
 use Rattle.ecma_stream.specs.View.{lexer_view}
 use Rattle.ecma_stream.proofs.ArmLemmas.{at-text, first-at, has-before, moved-lexer, text-back}
 use Rattle.ecma_plain.proofs.PlainLemmas.{free-text, text-read}
-use Rattle.ecma_stream.proofs.SlashLemmas.{same-lexer}
+use Rattle.ecma_stream.proofs.LexerLemmas.{same-lexer}
 use Rattle.ecma_stream.proofs.lexer.Lexer.scanned_text_into.Goals as goal
 
 pub invariant_of-self : goal.invariant_of-self

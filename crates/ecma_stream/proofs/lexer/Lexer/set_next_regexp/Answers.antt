@@ -1,5 +1,5 @@
 use Rattle.std.proofs.Common.{refl}
-use Rattle.ecma_stream.proofs.SlashLemmas.{asked-lexer}
+use Rattle.ecma_stream.proofs.LexerLemmas.{asked-lexer}
 use Rattle.ecma_stream.proofs.lexer.Lexer.set_next_regexp.Goals as goal
 
 pub invariant_of-self : goal.invariant_of-self

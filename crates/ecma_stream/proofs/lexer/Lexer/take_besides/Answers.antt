@@ -3,7 +3,7 @@ use Rattle.ecma_state.proofs.ErrorLemmas.{begins-same}
 use Rattle.ecma_state.specs.Errors.{Begins}
 use Rattle.ecma_state.specs.Session.{LexerValue}
 use Rattle.ecma_stream.proofs.CheckpointLemmas.{has-more, on-err}
-use Rattle.ecma_stream.proofs.SlashLemmas.{same-lexer, still-lexer, taken-lexer}
+use Rattle.ecma_stream.proofs.LexerLemmas.{same-lexer, still-lexer, taken-lexer}
 use Rattle.ecma_stream.proofs.lexer.Lexer.take_besides.Goals as goal
 
 pub returns-in_err-attach-clause-more : goal.returns-in_err-attach-clause-more

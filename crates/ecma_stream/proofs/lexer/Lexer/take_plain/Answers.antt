@@ -1,5 +1,5 @@
 use Rattle.std.proofs.Common.{Some, refl}
-use Rattle.ecma_stream.proofs.SlashLemmas.{same-lexer, taken-lexer}
+use Rattle.ecma_stream.proofs.LexerLemmas.{same-lexer, taken-lexer}
 use Rattle.ecma_stream.proofs.lexer.Lexer.take_plain.Goals as goal
 
 pub invariant_of-self : goal.invariant_of-self

@@ -1,7 +1,7 @@
 use Rattle.std.proofs.Common.{◌∙◌, ap, sym}
 use Rattle.std.specs.Prelude.{option_map}
 use Rattle.ecma_token.specs.View.{spanned_view}
-use Rattle.ecma_stream.proofs.ItemLemmas.{item-less}
+use Rattle.ecma_reads.proofs.ItemLemmas.{item-less}
 use Rattle.ecma_stream.proofs.lexer.LexerIterator.next.Goals as goal
 
 pub returns-in-Ok-Some-clause-goes : goal.returns-in-Ok-Some-clause-goes

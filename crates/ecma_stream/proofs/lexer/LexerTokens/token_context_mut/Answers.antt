@@ -1,5 +1,5 @@
 use Rattle.std.proofs.Common.{◌∙◌, ap, refl}
-use Rattle.ecma_stream.proofs.SlashLemmas.{kept-lexer}
+use Rattle.ecma_stream.proofs.LexerLemmas.{kept-lexer}
 use Rattle.ecma_stream.proofs.lexer.LexerTokens.token_context_mut.Goals as goal
 
 pub invariant_of-self-lent : goal.invariant_of-self-lent

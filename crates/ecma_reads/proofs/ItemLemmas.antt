@@ -3,11 +3,11 @@ use Rattle.std.proofs.Common.{◌≡◌, ◌∙◌, ◌<◌, Bool, true, false, 
 use Rattle.std.specs.Iterator.{IsFinite, size}
 use Rattle.ecma_place.specs.declared.place.BytePos.{BytePos}
 use Rattle.ecma_token.specs.View.{SpannedView}
-use Rattle.ecma_stream.specs.Ending.{most_tokens}
-use Rattle.ecma_stream.specs.Items.{items_from, items_left}
+use Rattle.ecma_state.specs.Ending.{most_tokens}
+use Rattle.ecma_state.specs.Items.{items_from, items_left}
 use Rattle.ecma_state.specs.Run.{reading_of, state_behind}
 use Rattle.ecma_state.specs.Session.{LexerValue, lexer_state}
-use Rattle.ecma_stream.proofs.EndingLemmas.{tokens_run_out}
+use Rattle.ecma_reads.proofs.EndingLemmas.{tokens_run_out}
 
 pub item-less : (old new : LexerValue) (t : SpannedView) → old.refused ≡ false → (reading_of (lexer_state old)).found ≡ Some t → lexer_state new ≡ state_behind (lexer_state old) (reading_of (lexer_state old))
     → IsFinite (items_left old) → IsFinite (items_left new) × (size (items_left new) < size (items_left old))

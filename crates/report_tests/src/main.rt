@@ -1,4 +1,4 @@
-//! Tests of canonical texts.
+//! Tests of `ecma_report`.
 #![tactic(auto)]
 
 #[cfg(test)]

@@ -15,8 +15,8 @@ use Rattle.ecma_state.specs.Mode.{gap_mode}
 use Rattle.ecma_state.specs.Session.{AtEnd, LexerState, Past, Session, has_ended, kept_back, kept_in, seen_of, state_of}
 use Rattle.ecma_state.specs.State.{previous, seen_behind}
 use Rattle.ecma_state.specs.Run.{act_on, acted_on, given_in, is_free_from, is_free_read, mode_of, reading_from, reading_of, state_behind}
-use Rattle.ecma_stream.specs.Ending.{ReadsOut, TokensRunOut, behind_reads, comments_of, enough, errors_of, most_tokens, reads, tokens_of}
-use Rattle.ecma_stream.proofs.EndLemmas.{end-free, reading-end, reading-less, reading-on, room-le}
+use Rattle.ecma_state.specs.Ending.{ReadsOut, TokensRunOut, behind_reads, comments_of, enough, errors_of, most_tokens, reads, tokens_of}
+use Rattle.ecma_reads.proofs.EndLemmas.{end-free, reading-end, reading-less, reading-on, room-le}
 
 -- At the end
 

@@ -17,15 +17,15 @@ use Rattle.ecma_scan.specs.GapViews.{GapView}
 use Rattle.ecma_scan.specs.declared.gap_mode.GapMode.{GapMode}
 use Rattle.ecma_scan.proofs.PunctuatorLemmas.{passed-zero}
 use Rattle.ecma_scan.specs.Shebangs.{opens_shebang}
-use Rattle.ecma_stream.specs.Ending.{empty_room}
+use Rattle.ecma_state.specs.Ending.{empty_room}
 use Rattle.ecma_state.specs.Mode.{gap_mode, is_tpl_element}
 use Rattle.ecma_state.specs.Reading.{Reading, is_free, is_free_behind, is_free_code, reading, reading_behind, reading_code, reading_if, behind_gap, gap_in, no_gap, shebang_reading, shebang_token, stands_shebang, token_reading}
 use Rattle.ecma_state.specs.TokenAt.{is_empty, lookahead, placed, token_at, token_found}
 use Rattle.ecma_state.specs.declared.mode.Mode.{Mode}
 use Rattle.ecma_state.specs.declared.lookahead.Lookahead.{Lookahead}
 use Rattle.ecma_state.specs.declared.lookahead.Lookahead.TheVariants as opens
-use Rattle.ecma_dispatch.proofs.FrontLemmas.{shebang-front, token_at-front}
-use Rattle.ecma_stream.proofs.ProgressLemmas.{Nothing, Reads, Something, token-reads}
+use Rattle.ecma_reads.proofs.FrontLemmas.{shebang-front, token_at-front}
+use Rattle.ecma_reads.proofs.ProgressLemmas.{Nothing, Reads, Something, token-reads}
 
 -- of what a read finds, if it finds something: where it begins and ends, and its kind
 

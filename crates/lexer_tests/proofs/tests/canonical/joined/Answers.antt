@@ -4,7 +4,7 @@ use Rattle.std.specs.Str.{chars}
 use Rattle.ecma_canonical.specs.Joined.{StandsIn}
 use Rattle.ecma_clean.specs.Sharing.{begin}
 use Rattle.ecma_canonical.proofs.KeptPlaces.{replayed_tokens_stand}
-use Rattle.canonical_tests.proofs.tests.canonical.joined.Goals as goal
+use Rattle.lexer_tests.proofs.tests.canonical.joined.Goals as goal
 
 pub canonical_text-requires-clause-stand : goal.canonical_text-requires-clause-stand
 canonical_text-requires-clause-stand c =

@@ -16,7 +16,7 @@ use Rattle.ecma_state.specs.TokenAt.{asks_for_none, comments_in, token_at, token
 use Rattle.ecma_state.specs.declared.mode.Mode.{Mode}
 use Rattle.ecma_state.specs.declared.lookahead.Lookahead.{Lookahead}
 use Rattle.ecma_state.specs.declared.lookahead.Lookahead.TheVariants as opens
-use Rattle.ecma_dispatch.proofs.TokenLemmas.{and-parts, empty-none, free-parts, view}
+use Rattle.ecma_reads.proofs.TokenLemmas.{and-parts, empty-none, free-parts, view}
 
 reading_behind-some : (mode : Mode) (gap : GapView) (here : Cursor) (text : Text) (x : ℕ) → slice_get text 0 ≡ Some x
     → reading_behind mode gap here text ≡ reading_token mode gap here text

@@ -1,11 +1,18 @@
 -- Where slashes stand in a text, and what a lexer asks of an answer that it takes in.
-use Rattle.std.specs.Prelude.{◌≡◌, ◌≤◌, ⊤, Option, Some, None, if◌then◌else◌}
-use Rattle.ecma_place.specs.Cursor.{Cursor, place}
+use Rattle.std.specs.Prelude.{◌≡◌, ◌≤◌, ⊤, true, Option, Some, None, if◌then◌else◌}
+use Rattle.ecma_place.specs.Cursor.{Cursor, HasPlace, place, rest}
 use Rattle.ecma_place.specs.declared.place.BytePos.{BytePos}
+use Rattle.ecma_grammar.specs.Expressions.{opens_expression}
+use Rattle.ecma_state.specs.Run.{at_place}
 use Rattle.ecma_state.specs.Session.{LexerValue, LexerState}
 use Rattle.ecma_state.specs.State.{last_slash, opened_by, slash_in}
 use Rattle.ecma_state.specs.declared.kept.Kept.{Kept}
-pub use Rattle.ecma_checkpoint.specs.Checkpoints.{StandsSlash}
+
+-- A slash stands at a place of the text, and no template was opened behind it.
+pub record StandsSlash (input : Cursor) (opened p : BytePos) : Type 0 where
+  pub has_place : HasPlace input p.0
+  pub opens : opens_expression (rest (at_place p input)) ≡ true
+  pub opened_before : opened.0 ≤ p.0
 
 -- a token that was read does not begin behind the cursor's place
 abbrev pub OpensBehind : Option Kept → Cursor → Type 0

@@ -6,7 +6,7 @@ use Rattle.ecma_place.specs.Cursor.{rest}
 use Rattle.ecma_place.specs.declared.place.BytePos.{BytePos}
 use Rattle.ecma_token.specs.View.{spanned_view}
 use Rattle.ecma_token.specs.declared.token.TokenAndSpan.{TokenAndSpan}
-use Rattle.ecma_stream.specs.Ending.{most_tokens}
+use Rattle.ecma_state.specs.Ending.{most_tokens}
 use Rattle.ecma_state.specs.Run.{is_free_read, reading_of, state_behind}
 use Rattle.ecma_state.specs.Session.{LexerValue, LexerState, lexer_state}
 

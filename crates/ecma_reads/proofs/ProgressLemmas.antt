@@ -17,7 +17,7 @@ use Rattle.ecma_state.specs.Mode.{is_template, is_tpl_element}
 use Rattle.ecma_state.specs.TokenAt.{lookahead_from, placed, read_opened, token_at, token_found, token_of}
 use Rattle.ecma_state.specs.declared.mode.Mode.{Mode}
 use Rattle.ecma_state.specs.declared.lookahead.Lookahead.{Lookahead}
-use Rattle.ecma_dispatch.proofs.FrontLemmas.{token_at-some}
+use Rattle.ecma_reads.proofs.FrontLemmas.{token_at-some}
 
 -- what is read in a template, where text stands before or not
 

@@ -1,4 +1,0 @@
-pub mod FrontLemmas
-pub mod PlacedKinds
-pub mod ReadingLemmas
-pub mod TokenLemmas

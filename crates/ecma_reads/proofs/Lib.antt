@@ -1,0 +1,9 @@
+pub mod EndLemmas
+pub mod EndingLemmas
+pub mod FrontLemmas
+pub mod ItemLemmas
+pub mod PlacedKinds
+pub mod ProgressLemmas
+pub mod ReadingLemmas
+pub mod SlashLemmas
+pub mod TokenLemmas

@@ -1,5 +1,0 @@
-//! Tests of `ecma_faults`.
-#![tactic(auto)]
-
-#[cfg(test)]
-mod tests;

@@ -1,3 +1,0 @@
-//! Rows of errors in order of place.
-
-mod order;

@@ -1,5 +1,0 @@
-//! Tests of `ecma_reader`.
-#![tactic(auto)]
-
-#[cfg(test)]
-mod tests;

@@ -1,2 +1,0 @@
-//! Tests of readers.
-mod comments;

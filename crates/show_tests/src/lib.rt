@@ -1,5 +1,0 @@
-//! Tests of `ecma_show`.
-#![tactic(auto)]
-
-#[cfg(test)]
-mod tests;

@@ -1,3 +1,0 @@
-//! Rows of texts as a terminal shows them.
-
-mod texts;

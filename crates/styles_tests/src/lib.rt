@@ -1,5 +1,0 @@
-//! Tests of `ecma_styles`.
-#![tactic(auto)]
-
-#[cfg(test)]
-mod tests;

@@ -1,2 +1,0 @@
-//! Tests of classes.
-mod styles;
