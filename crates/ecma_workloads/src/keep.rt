@@ -4,7 +4,7 @@
 use crate::job::Job;
 use crate::reading::{keep_text, keep_text_by_flag};
 use crate::settings::{fits, options};
-use ecma_samples::Sample;
+use ecma_samples::{Pool, Sample};
 use std::alloc::AllocError;
 
 /// How a parser reads.
@@ -13,6 +13,26 @@ enum Way {
     Slot,
     ByFlag,
     ByFlagWithComments,
+}
+
+fn read_text(job: &mut Job, typescript: bool, way: Way, text: &str) -> Result<(), AllocError> {
+    let options = options(typescript, false);
+    if !fits(text) {
+        return Ok(());
+    }
+    match way {
+        Way::Slot => keep_text(job.alloc, false, options, text, &mut job.digest),
+        Way::ByFlag => keep_text_by_flag(job.alloc, false, options, text, &mut job.digest),
+        Way::ByFlagWithComments => {
+            keep_text_by_flag(job.alloc, true, options, text, &mut job.digest)
+        }
+    }
+}
+
+/// Reads the next text of a pool.
+fn read_next(job: &mut Job, pool: &mut Pool, typescript: bool, way: Way) -> Result<(), AllocError> {
+    let text = pool.text(job.alloc, job.bytes(1_000_000))?;
+    read_text(job, typescript, way, text.as_str())
 }
 
 fn read_texts(
@@ -24,19 +44,7 @@ fn read_texts(
 ) -> Result<(), AllocError> {
     let mut pool = job.pool(sample)?;
     for _ in 0..job.texts(count) {
-        let text = pool.text(job.alloc, job.bytes(1_000_000))?;
-        let text = text.as_str();
-        let options = options(typescript, false);
-        if !fits(text) {
-            continue;
-        }
-        match way {
-            Way::Slot => keep_text(job.alloc, false, options, text, &mut job.digest)?,
-            Way::ByFlag => keep_text_by_flag(job.alloc, false, options, text, &mut job.digest)?,
-            Way::ByFlagWithComments => {
-                keep_text_by_flag(job.alloc, true, options, text, &mut job.digest)?;
-            }
-        }
+        read_next(job, &mut pool, typescript, way)?;
     }
     Ok(())
 }

@@ -10,7 +10,7 @@ use crate::settings::{fits, options};
 use ecma_options::begin;
 use ecma_place::BytePos;
 use ecma_replay::{Replay, replay};
-use ecma_samples::{Random, Sample};
+use ecma_samples::{Pool, Random, Sample};
 use ecma_state::Step;
 use ecma_stream::Lexer;
 use std::alloc::{AllocError, Global};
@@ -21,31 +21,43 @@ const BETWEEN: u64 = 20;
 /// How many tokens it looks ahead at most.
 const AHEAD: usize = 12;
 
-/// Reads so many tokens ahead, and goes back.
-fn look_ahead(job: &mut Job, lexer: &mut Lexer, tokens: usize) -> Result<(), AllocError> {
-    let here = lexer.checkpoint()?;
+/// Reads so many tokens.
+fn keep_ahead(job: &mut Job, lexer: &mut Lexer, tokens: usize) -> Result<(), AllocError> {
     for _ in 0..tokens {
         if !keep_by_flag(lexer, &mut job.digest)? {
             break;
         }
     }
+    Ok(())
+}
+
+/// Reads so many tokens ahead, and goes back.
+fn look_ahead(job: &mut Job, lexer: &mut Lexer, tokens: usize) -> Result<(), AllocError> {
+    let here = lexer.checkpoint()?;
+    keep_ahead(job, lexer, tokens)?;
     lexer.rewind(&here)?;
     Ok(())
 }
 
-/// Reads a text, and looks ahead every so many tokens.
+/// Reads to the end, and looks ahead every so many tokens.
+fn parse_rest(job: &mut Job, random: &mut Random, lexer: &mut Lexer) -> Result<(), AllocError> {
+    for number in 0..u64::MAX {
+        if number % BETWEEN == 0 {
+            look_ahead(job, lexer, random.below(AHEAD))?;
+        }
+        if !keep_by_flag(lexer, &mut job.digest)? {
+            break;
+        }
+    }
+    Ok(())
+}
+
+/// Reads a text, and looks ahead.
 fn parse(job: &mut Job, random: &mut Random, comments: bool, text: &str) -> Result<(), AllocError>
     requires { length text.now < 2 ^ 32 }
 {
     let mut lexer = begin(job.alloc, comments, options(true, true), text)?;
-    for number in 0..u64::MAX {
-        if number % BETWEEN == 0 {
-            look_ahead(job, &mut lexer, random.below(AHEAD))?;
-        }
-        if !keep_by_flag(&mut lexer, &mut job.digest)? {
-            break;
-        }
-    }
+    parse_rest(job, random, &mut lexer)?;
     finish(lexer, &mut job.digest);
     Ok(())
 }
@@ -86,19 +98,42 @@ fn play(job: &mut Job, random: &mut Random, comments: bool, text: &str) -> Resul
     Ok(())
 }
 
-/// One text by checkpoints, and another by steps.
+/// What the texts of a part of the job are made from.
+#[derive(Drop)]
+struct Source {
+    pool: Pool,
+    random: Random,
+    comments: bool,
+}
+
+/// The next text by checkpoints.
+fn parse_next(job: &mut Job, source: &mut Source, bytes: usize) -> Result<(), AllocError> {
+    let text = source.pool.text(job.alloc, job.bytes(bytes))?;
+    if !fits(text.as_str()) {
+        return Ok(());
+    }
+    parse(job, &mut source.random, source.comments, text.as_str())
+}
+
+/// The next text by steps.
+fn play_next(job: &mut Job, source: &mut Source, bytes: usize) -> Result<(), AllocError> {
+    let text = source.pool.text(job.alloc, job.bytes(bytes))?;
+    if !fits(text.as_str()) {
+        return Ok(());
+    }
+    play(job, &mut source.random, source.comments, text.as_str())
+}
+
+/// One text by checkpoints, and another by steps, so many times.
 fn look_twice(job: &mut Job, comments: bool, count: usize, bytes: usize) -> Result<(), AllocError> {
-    let mut pool = job.pool(Sample::TypeScript)?;
-    let mut random = Random::new(job.seed);
+    let mut source = Source {
+        pool: job.pool(Sample::TypeScript)?,
+        random: Random::new(job.seed),
+        comments,
+    };
     for _ in 0..job.texts(count) {
-        let text = pool.text(job.alloc, job.bytes(bytes))?;
-        if fits(text.as_str()) {
-            parse(job, &mut random, comments, text.as_str())?;
-        }
-        let text = pool.text(job.alloc, job.bytes(bytes / 2))?;
-        if fits(text.as_str()) {
-            play(job, &mut random, comments, text.as_str())?;
-        }
+        parse_next(job, &mut source, bytes)?;
+        play_next(job, &mut source, bytes / 2)?;
     }
     Ok(())
 }

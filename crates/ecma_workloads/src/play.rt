@@ -12,7 +12,7 @@ use ecma_imports::imports_of_steps;
 use ecma_pieces::classes_of_steps;
 use ecma_place::BytePos;
 use ecma_replay::{Answer, Replay, replay};
-use ecma_samples::Sample;
+use ecma_samples::{Pool, Sample};
 use ecma_slashes::steps_by_flag;
 use ecma_state::Step;
 use std::alloc::AllocError;
@@ -94,21 +94,33 @@ fn step_through(job: &mut Job, asked: Asked, text: &str) -> Result<(), AllocErro
     play(job, asked, text, &steps)
 }
 
+/// Plays the steps of the next text of a pool.
+fn play_next(job: &mut Job, pool: &mut Pool, asked: Asked) -> Result<(), AllocError> {
+    let text = pool.text(job.alloc, job.bytes(1_000_000))?;
+    if !fits(text.as_str()) {
+        return Ok(());
+    }
+    step_through(job, asked, text.as_str())
+}
+
+/// Plays the steps of a text for each that is asked.
+fn play_all(job: &mut Job, pool: &mut Pool) -> Result<(), AllocError> {
+    for asked in [
+        Asked::Tokens,
+        Asked::Canonical,
+        Asked::Pieces,
+        Asked::Html,
+        Asked::Imports,
+    ] {
+        play_next(job, pool, asked)?;
+    }
+    Ok(())
+}
+
 pub fn run(job: &mut Job) -> Result<(), AllocError> {
     let mut pool = job.pool(Sample::Script)?;
     for _ in 0..job.texts(3) {
-        for asked in [
-            Asked::Tokens,
-            Asked::Canonical,
-            Asked::Pieces,
-            Asked::Html,
-            Asked::Imports,
-        ] {
-            let text = pool.text(job.alloc, job.bytes(1_000_000))?;
-            if fits(text.as_str()) {
-                step_through(job, asked, text.as_str())?;
-            }
-        }
+        play_all(job, &mut pool)?;
     }
     Ok(())
 }

@@ -1,6 +1,8 @@
 //! The programs on large files: lines of tokens, pieces, comments and errors, and JSON.
 //!
 //! Rows of `ecma_lex` and of `ecma tokens`, as lines and JSON, on bundles.
+ghost use Rattle.std.specs.Prelude.{◌<◌, ◌^◌, length};
+
 use crate::job::Job;
 use crate::settings::{fits, options};
 use ecma_options::Options;
@@ -10,11 +12,11 @@ use ecma_program::run as run_program;
 use ecma_replay::replay;
 use ecma_report::report::{More, Report, Row};
 use ecma_report::words::{Asked, Face};
-use ecma_samples::Sample;
+use ecma_samples::{Pool, Sample};
 use ecma_slashes::steps_by_flag;
 use ecma_state::Kept;
 use ecma_styles::Class;
-use std::alloc::AllocError;
+use std::alloc::{AllocError, Global};
 
 /// What a program writes of a text, asked for by a word.
 fn write_lines(job: &mut Job, word: &str, text: &str) -> Result<(), AllocError> {
@@ -46,6 +48,21 @@ fn push_rows(report: &mut Report, kept: &[Kept]) -> Result<(), AllocError> {
     Ok(())
 }
 
+/// Pushes a row for each token of a text.
+fn push_tokens(
+    alloc: Global,
+    options: Options,
+    report: &mut Report,
+    text: &str,
+) -> Result<(), AllocError>
+    requires { length text.now < 2 ^ 32 }
+{
+    let (start, settings) = (BytePos(0), options.settings(true));
+    let steps = steps_by_flag(alloc, &settings, options.context(), text, start)?;
+    let played = replay(alloc, &settings, text, start, &steps)?;
+    push_rows(report, &played.kept)
+}
+
 /// Reports the tokens of a text as the command does, in lines or as JSON.
 fn report_tokens(
     job: &mut Job,
@@ -67,30 +84,37 @@ fn report_tokens(
         values: false,
         page: false,
     };
-    let start = BytePos(0);
-    let settings = options.settings(true);
     let mut report = Report::new(job.alloc, asked, "bundle.js", text)?;
-    let steps = steps_by_flag(job.alloc, &settings, options.context(), text, start)?;
-    let played = replay(job.alloc, &settings, text, start, &steps)?;
-    push_rows(&mut report, &played.kept)?;
+    push_tokens(job.alloc, options, &mut report, text)?;
     job.digest.add_bytes(&report.out);
+    Ok(())
+}
+
+/// What a program writes of the next texts of a pool.
+fn write_texts(job: &mut Job, pool: &mut Pool, word: &str) -> Result<(), AllocError> {
+    for _ in 0..job.texts(5) {
+        let text = pool.text(job.alloc, job.bytes(1_000_000))?;
+        write_lines(job, word, text.as_str())?;
+    }
+    Ok(())
+}
+
+/// Reports the tokens of the next texts of a pool.
+fn report_texts(job: &mut Job, pool: &mut Pool, json: bool) -> Result<(), AllocError> {
+    for _ in 0..job.texts(2) {
+        let text = pool.text(job.alloc, job.bytes(500_000))?;
+        report_tokens(job, options(false, false), json, text.as_str())?;
+    }
     Ok(())
 }
 
 pub fn run(job: &mut Job) -> Result<(), AllocError> {
     let mut pool = job.pool(Sample::Script)?;
     for word in ["tokens", "classes", "comments", "errors"] {
-        for _ in 0..job.texts(5) {
-            let text = pool.text(job.alloc, job.bytes(1_000_000))?;
-            write_lines(job, word, text.as_str())?;
-        }
+        write_texts(job, &mut pool, word)?;
     }
-    let options = options(false, false);
     for json in [true, false] {
-        for _ in 0..job.texts(2) {
-            let text = pool.text(job.alloc, job.bytes(500_000))?;
-            report_tokens(job, options, json, text.as_str())?;
-        }
+        report_texts(job, &mut pool, json)?;
     }
     Ok(())
 }
