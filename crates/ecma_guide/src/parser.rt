@@ -5,7 +5,7 @@ use crate::START;
 use ecma_lexer::Lexer;
 use ecma_lexer::place::StringInput;
 use ecma_lexer::syntax::{EsVersion, Syntax};
-use ecma_lexer::token::{TokenAndSpan, TokenKind};
+use ecma_lexer::token::{Token, TokenAndSpan};
 use std::alloc::{AllocError, Global};
 
 /// A lexer of a text, under a parser.
@@ -31,7 +31,7 @@ fn read_operand<'a>(lexer: &mut Lexer<'a>) -> Result<Option<TokenAndSpan<'a>>, A
 /// Reads a token, and says whether it is `=>`.
 fn reads_arrow(lexer: &mut Lexer) -> Result<bool, AllocError> {
     match lexer.read()? {
-        Some(next) => Ok(next.token.kind() == TokenKind::Arrow),
+        Some(next) => Ok(matches!(next.token, Token::Arrow)),
         None => Ok(false),
     }
 }
@@ -59,7 +59,7 @@ pub(crate) fn begins_with_expression(alloc: Global, text: &str) -> Result<bool, 
 {
     let mut lexer = lexer_of(alloc, text);
     match read_operand(&mut lexer)? {
-        Some(first) => Ok(first.token.kind() == TokenKind::Regex),
+        Some(first) => Ok(matches!(first.token, Token::Regex(..))),
         None => Ok(false),
     }
 }

@@ -278,7 +278,11 @@ pub fn write_token(out: &mut String, token: &TokenAndSpan, flag: bool) -> Result
 /// Writes the next token; whether there was one.
 pub fn write_next(out: &mut String, lexer: &mut Lexer) -> Result<bool, AllocError> {
     match lexer.read()? {
-        Some(token) => write_token(out, &token, lexer.had_line_break_before_last()),
+        Some(token) => {
+            let written = write_token(out, &token, lexer.had_line_break_before_last());
+            drop(token);
+            written
+        }
         None => Ok(false),
     }
 }

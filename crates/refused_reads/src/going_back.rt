@@ -24,7 +24,10 @@ fn saved(rt: &impl Print, lexer: &Lexer) -> io::Result<Checkpoint> {
 }
 
 fn is_refused(lexer: &mut Lexer) -> bool {
-    lexer.read().is_err()
+    let answer = lexer.read();
+    let refused = answer.is_err();
+    drop(answer);
+    refused
 }
 
 /// Goes back from a refused read, which is refused again before.
@@ -56,7 +59,7 @@ fn next<'a>(
 }
 
 fn pass(rt: &impl Print, lexer: &mut Lexer, before: &Checkpoint) -> io::Result<()> {
-    next(rt, lexer, before)?;
+    drop(next(rt, lexer, before)?);
     Ok(())
 }
 

@@ -10,14 +10,16 @@ use std::io;
 /// More reads than any text takes.
 const READS: usize = 30;
 
+fn copied_again<'a>(rt: &impl Print, lexer: &Lexer<'a>) -> io::Result<Lexer<'a>> {
+    println!(rt; "refused copy")?;
+    Ok(lexer.copy()?)
+}
+
 /// An equal lexer.
 pub fn copied<'a>(rt: &impl Print, lexer: &Lexer<'a>) -> io::Result<Lexer<'a>> {
     match lexer.copy() {
         Ok(copy) => Ok(copy),
-        Err(_) => {
-            println!(rt; "refused copy")?;
-            Ok(lexer.copy()?)
-        }
+        Err(_) => copied_again(rt, lexer),
     }
 }
 
@@ -31,13 +33,21 @@ struct Behind {
     comments: usize,
 }
 
-/// How a call answers.
-fn answered(way: Way, lexer: &mut Lexer) -> &'static str {
-    match way.ask(lexer) {
+/// What is said of an answer.
+fn said_of(answer: &Result<Option<TokenAndSpan>, AllocError>) -> &'static str {
+    match answer {
         Ok(None) => "none",
         Ok(Some(_)) => "a token",
         Err(_) => "refused",
     }
+}
+
+/// How a call answers.
+fn answered(way: Way, lexer: &mut Lexer) -> &'static str {
+    let answer = way.ask(lexer);
+    let said = said_of(&answer);
+    drop(answer);
+    said
 }
 
 /// Whether comments are handed over, and how many.

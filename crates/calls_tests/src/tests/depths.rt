@@ -1,6 +1,6 @@
 //! How deep the contexts of a lexer are behind its tokens, and what it says of its settings.
 use super::texts::assert_text;
-use ecma_place::BytePos;
+use ecma_span::BytePos;
 use ecma_state::{Kept, TokenContext};
 use ecma_stream::{Lexer, Tokens};
 use ecma_syntax::{EsVersion, Syntax};
@@ -13,7 +13,11 @@ use std::test::Fail;
 /// What is kept of the next token.
 fn next(lexer: &mut Lexer) -> Result<Option<Kept>, AllocError> {
     match lexer.read()? {
-        Some(token) => Ok(Some(Kept::of(&token))),
+        Some(token) => {
+            let kept = Kept::of(&token);
+            drop(token);
+            Ok(Some(kept))
+        }
         None => Ok(None),
     }
 }

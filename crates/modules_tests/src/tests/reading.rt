@@ -14,7 +14,11 @@ pub const MODULE_TS: Settings = Settings { ts: true, ..MODULE };
 /// What is kept of the next token.
 fn next_kept(lexer: &mut Lexer) -> Result<Option<Kept>, AllocError> {
     match lexer.read()? {
-        Some(token) => Ok(Some(Kept::of(&token))),
+        Some(token) => {
+            let kept = Kept::of(&token);
+            drop(token);
+            Ok(Some(kept))
+        }
         None => Ok(None),
     }
 }

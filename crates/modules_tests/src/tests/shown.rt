@@ -1,6 +1,6 @@
 //! Rows as they are written in tables.
 use ecma_modules::{Export, Form, Import, Module, Phase};
-use ecma_place::Span;
+use ecma_span::Span;
 use std::alloc::{AllocError, Global};
 
 fn text_at(text: &str, span: Span) -> &str {

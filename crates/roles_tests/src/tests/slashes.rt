@@ -277,10 +277,14 @@ struct Seen {
 /// Reads the next token. This function alone drops one: the proof of each that does is long.
 fn next_seen(lexer: &mut Lexer) -> Result<Option<Seen>, AllocError> {
     match lexer.read()? {
-        Some(token) => Ok(Some(Seen {
-            part: Part::of(&token.token, token.had_line_break),
-            is_assign: matches!(&token.token, Token::AssignOp(_)),
-        })),
+        Some(token) => {
+            let seen = Seen {
+                part: Part::of(&token.token, token.had_line_break),
+                is_assign: matches!(&token.token, Token::AssignOp(_)),
+            };
+            drop(token);
+            Ok(Some(seen))
+        }
         None => Ok(None),
     }
 }

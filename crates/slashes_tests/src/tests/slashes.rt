@@ -46,7 +46,11 @@ fn next_by_flag(lexer: &mut Lexer) -> Result<Option<Kept>, AllocError> {
         return Ok(None);
     }
     match read_by_flag(lexer)? {
-        Some(token) => Ok(Some(Kept::of(&token))),
+        Some(token) => {
+            let kept = Kept::of(&token);
+            drop(token);
+            Ok(Some(kept))
+        }
         None => Ok(None),
     }
 }
@@ -143,7 +147,11 @@ fn next_placed(lexer: &mut Lexer, places: &[BytePos]) -> Result<Option<Kept>, Al
         return Ok(None);
     }
     match read_by(lexer, Slashes::At(places))? {
-        Some(token) => Ok(Some(Kept::of(&token))),
+        Some(token) => {
+            let kept = Kept::of(&token);
+            drop(token);
+            Ok(Some(kept))
+        }
         None => Ok(None),
     }
 }

@@ -117,7 +117,9 @@ fn it_says_what_is_expected(rt: HostRuntime) -> Result<(), Fail> {
 /// Where an item stands, which is let go here.
 fn span_of(item: Result<TokenAndSpan, AllocError>) -> Result<Span, AllocError> {
     let token = item?;
-    Ok(token.span)
+    let span = token.span;
+    drop(token);
+    Ok(span)
 }
 
 /// Writes what a tracked lexer gives as an iterator.

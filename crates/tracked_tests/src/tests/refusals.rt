@@ -42,7 +42,11 @@ fn went_back<'a>(tracked: &mut Tracked<'a>, here: &TrackedCheckpoint) -> Result<
 /// Reads a token, which is let go here, and says where it begins; behind the end the greatest place.
 fn read_place(tracked: &mut Tracked) -> Result<u32, AllocError> {
     match tracked.read()? {
-        Some(token) => Ok(token.span.lo.0),
+        Some(token) => {
+            let place = token.span.lo.0;
+            drop(token);
+            Ok(place)
+        }
         None => Ok(u32::MAX),
     }
 }

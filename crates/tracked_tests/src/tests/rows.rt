@@ -32,7 +32,11 @@ pub fn assert_text(rt: &impl Abort, found: &str, expected: &str) {
 /// Reads a token, which is let go here, and says where it stands.
 fn next_span(tracked: &mut Tracked) -> Result<Option<Span>, AllocError> {
     match tracked.read()? {
-        Some(token) => Ok(Some(token.span)),
+        Some(token) => {
+            let span = token.span;
+            drop(token);
+            Ok(Some(span))
+        }
         None => Ok(None),
     }
 }
