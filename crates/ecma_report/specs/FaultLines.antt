@@ -1,7 +1,7 @@
 -- Lines of faults, which people read on standard error.
 use Rattle.std.specs.Prelude.{◌≡◌, ℕ, List, [], ◌∷◌, ◌++◌, Bool, true, false, codes, flat_map, if◌then◌else◌, map}
 use Rattle.std.specs.Fmt.{decimal}
-use Rattle.ecma_place.specs.declared.place.Span.{Span}
+use Rattle.ecma_span.specs.declared.place.Span.{Span}
 use Rattle.ecma_token.specs.MessageView.{view_message}
 use Rattle.ecma_faults.specs.Faults.{FoundView, IsByPlace}
 use Rattle.ecma_faults.specs.declared.found.Origin.{Origin}

@@ -11,7 +11,6 @@ ghost use Rattle.ecma_print.specs.Rows.{head, more_view, own_text};
 ghost use Rattle.ecma_report.specs.Rows.{alone, line_text, look, name_asked, part_at, place_asked, row_parts, row_text, whole_begin, whole_end, whole_part, whole_text};
 
 use crate::words::{Among, Asked};
-use ecma_place::{BytePos, Span};
 use ecma_positions::Position;
 use ecma_print::lines::Lines;
 pub use ecma_print::row::{More, Row};
@@ -19,6 +18,7 @@ use ecma_print::written::{
     push_head, push_message, push_object, push_own_text, push_text_begin, push_text_end,
     push_text_part,
 };
+use ecma_span::{BytePos, Span};
 use ecma_stdio::{FAILED, push_escaped, push_number, send};
 use ecma_token::SyntaxError;
 use std::alloc::{AllocError, Global};

@@ -9,10 +9,10 @@ ghost use Rattle.ecma_report.specs.Slashes.{rule_at};
 
 use crate::report::Report;
 use crate::words::Named;
-use ecma_place::BytePos;
 use ecma_reader::Reader;
 use ecma_slashes::{Slashes, ascend};
-use ecma_token::{TokenAndSpan, TokenKind};
+use ecma_span::BytePos;
+use ecma_token::{Token, TokenAndSpan};
 use std::alloc::AllocError;
 
 /// The place at which a text starts.
@@ -59,10 +59,13 @@ pub fn open<'a>(
     )
 }
 
+fn is_slash(text: &str, place: BytePos) -> bool {
+    matches!(text.as_bytes().get(place.0 as usize), Some(b'/'))
+}
+
 /// Whether a token begins with a slash. One with which template text begins is part of that.
 fn begins_with_slash(report: &Report, token: &TokenAndSpan) -> bool {
-    report.text.as_bytes().get(token.span.lo.0 as usize) == Some(&b'/')
-        && token.token.kind() != TokenKind::Template
+    is_slash(report.text, token.span.lo) && !matches!(token.token, Token::Template { .. })
 }
 
 /// Reads to the end, and gives those of the places at which a token begins with a slash, in order.

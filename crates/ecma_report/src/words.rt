@@ -2,8 +2,8 @@
 
 use clap::{Arg, ArgAction, ArgMatches, Command, value_parser};
 use ecma_options::Options;
-use ecma_place::BytePos;
 use ecma_positions::Columns;
+use ecma_span::BytePos;
 use std::alloc::{AllocError, Global};
 
 /// What is reported of each text.
