@@ -7,6 +7,7 @@ import re
 
 IDENTIFIER = re.compile(r"[A-Za-z_][\w']*(?:-[\w']+)*")
 FUNCTION = re.compile(r"(\s*)(?:pub(?:\([a-z ]+\))? )?(?:const )?(?:unsafe )?(?:extern \"C\" )?fn (\w+)")
+PASSED_ON = re.compile(r"^[ \t]*(?:pub(?:\([a-z ]+\))? )?(?:(?:ghost )?use [^;]*|mod \w+);\n", re.MULTILINE)
 ITEM = re.compile(r"(?:pub(?:\([a-z ]+\))? )?(?:struct|enum|union|trait|const|static|type|impl)\b")
 KEYWORDS = {"abbrev", "unfoldable", "pub", "record", "data", "mod", "impl", "struct", "enum", "trait", "const", "where", "ghost"}
 
@@ -33,8 +34,9 @@ def first_name(line):
 
 
 def definitions_in(text):
-    """The declarations of a file of definitions: what stands between empty lines, less comments and `use` lines."""
-    lines = [it.rstrip() for it in text.split("\n") if not re.match(r"\s*--|(pub )?use ", it)]
+    """The declarations of a file of definitions: what stands between empty lines, less comments, imports and the names of
+    modules."""
+    lines = [it.rstrip() for it in text.split("\n") if not re.match(r"\s*--|(pub )?(use|mod) \w", it)]
     for part in re.split(r"\n{2,}", "\n".join(lines)):
         if part.strip():
             yield Shown(part.strip("\n").split("\n"))
@@ -48,9 +50,10 @@ def is_seen(told, words):
 
 
 def contracts_in(text):
-    """The declarations of a source file: each function with its contract and without its body, and each other item."""
+    """The declarations of a source file: each function with its contract and without its body, and each other item, less
+    imports and the names of modules."""
     rows, end, seen = [[]], None, True
-    for line in text.split("\n"):
+    for line in PASSED_ON.sub("", text).split("\n"):
         words = line.strip()
         if end is not None:
             end = None if line == end else end
@@ -60,7 +63,7 @@ def contracts_in(text):
             seen = is_seen(told, words)
         if told or ITEM.match(line):
             rows.append([])
-        if seen and words and not re.match(r"//|use |ghost use |#\[|mod |}", words):
+        if seen and words and not re.match(r"//|#\[|}", words):
             rows[-1].append(words)
         if re.match(r"\s*\{$", line) or (told and line.endswith(" {")):
             end = re.match(r"\s*", line)[0] + "}"
