@@ -1,7 +1,7 @@
 -- Which token each comment of a read belongs to, and on which side of it the comment stands: our own choice.
 use Rattle.std.specs.Prelude.{◌==◌, Bool, not, List, ◌++◌, map, filter, Option, Some, None, if◌then◌else◌}
-use Rattle.ecma_place.specs.declared.comment.Comment.{Comment}
-use Rattle.ecma_place.specs.declared.place.BytePos.{BytePos}
+use Rattle.ecma_span.specs.declared.comment.Comment.{Comment}
+use Rattle.ecma_span.specs.declared.place.BytePos.{BytePos}
 use Rattle.ecma_comments.specs.declared.attachment.Around.{Around}
 use Rattle.ecma_comments.specs.declared.comments_buffer.BufferedComment.{BufferedComment}
 use Rattle.ecma_comments.specs.declared.comments_buffer.BufferedCommentKind.{BufferedCommentKind}

@@ -1,7 +1,7 @@
 -- What a store is handed of the comments that have their token.
 use Rattle.std.specs.Prelude.{◌≡◌, ◌<◌, List, ◌++◌, map, length}
-use Rattle.ecma_place.specs.Comment.{Added, Side}
-use Rattle.ecma_place.specs.Comment as place
+use Rattle.ecma_span.specs.Comment.{Added, Side}
+use Rattle.ecma_span.specs.Comment as place
 use Rattle.ecma_comments.specs.Buffers.{CommentsValue}
 use Rattle.ecma_comments.specs.declared.comments_buffer.BufferedComment.{BufferedComment}
 use Rattle.ecma_comments.specs.declared.comments_buffer.BufferedCommentKind.{BufferedCommentKind}

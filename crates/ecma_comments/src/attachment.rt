@@ -4,7 +4,7 @@ ghost use Rattle.ecma_comments.specs.Attachment.{attachment, for_next, of_next, 
 ghost use Rattle.ecma_comments.specs.Buffers.{Begins};
 
 use crate::comments_buffer::{BufferedComment, BufferedCommentKind, CommentsBuffer};
-use ecma_place::{BytePos, Comment};
+use ecma_span::{BytePos, Comment};
 use std::alloc::AllocError;
 
 /// The places that the comments of a read go by.

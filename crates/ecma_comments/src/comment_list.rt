@@ -2,7 +2,7 @@
 ghost use Rattle.std.specs.Prelude.{◌≡◌, ◌++◌, ◌∷◌, [], OnOk, OnErr, IfErr};
 
 use crate::comments_buffer::{BufferedComment, BufferedCommentKind};
-use ecma_place::{BytePos, Comment, Comments};
+use ecma_span::{BytePos, Comment, Comments};
 use std::alloc::Global;
 use std::marker::Model;
 

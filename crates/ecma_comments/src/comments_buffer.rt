@@ -3,7 +3,7 @@ ghost use Rattle.std.specs.Prelude.{◌≡◌, ◌++◌, ◌∷◌, [], drop, le
 
 use crate::hand_over::give_from_last;
 use crate::shared_comments::{SharedComments, add_copies};
-use ecma_place::{BytePos, Comment, Comments};
+use ecma_span::{BytePos, Comment, Comments};
 use std::alloc::{AllocError, Global};
 use std::marker::Model;
 use std::mem;

@@ -3,7 +3,7 @@ ghost use Rattle.std.specs.Prelude.{◌≡◌, ◌<◌, ◌++◌, ◌∷◌, [],
 ghost use Rattle.ecma_comments.specs.HandOver.{added_of, HandsFirst};
 
 use crate::comments_buffer::{BufferedComment, BufferedCommentKind};
-use ecma_place::Comments;
+use ecma_span::Comments;
 use std::alloc::AllocError;
 
 /// Gives a comment to a store.

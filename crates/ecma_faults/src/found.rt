@@ -4,7 +4,7 @@ ghost use Rattle.ecma_token.specs.View.{error_view};
 ghost use Rattle.ecma_faults.specs.Faults as faults;
 ghost use Rattle.ecma_faults.specs.Faults.{IsByPlace};
 
-use ecma_place::Spanned;
+use ecma_span::Spanned;
 use ecma_token::Error;
 use std::alloc::{AllocError, Global};
 

@@ -1,7 +1,7 @@
 -- What a reader of HTML makes of what is written of a text. Whatever its pieces are, as long as they are the text when they
 -- are joined, whatever classes its tokens have, and wherever errors lie, it is the text, as HTML can show it.
 use Rattle.std.specs.Prelude.{◌≡◌, ℕ, List, Option}
-use Rattle.ecma_place.specs.declared.place.BytePos.{BytePos}
+use Rattle.ecma_span.specs.declared.place.BytePos.{BytePos}
 use Rattle.ecma_classes.specs.Classes.{joined}
 use Rattle.ecma_classes.specs.declared.piece.Piece.{Piece}
 use Rattle.ecma_styles.specs.Styles.{styled}

@@ -2,8 +2,8 @@
 use Rattle.std.specs.Prelude.{◌≡◌, ℕ, ◌++◌, ◌&&◌, Bool, List, Option, Some, map, nat_le, nat_lt, if◌then◌else◌}
 use Rattle.std.specs.List.{list_any}
 use Rattle.std.specs.List.Sorted.{IsNonDecreasingBy}
-use Rattle.ecma_place.specs.declared.place.BytePos.{BytePos}
-use Rattle.ecma_place.specs.declared.place.Span.{Span}
+use Rattle.ecma_span.specs.declared.place.BytePos.{BytePos}
+use Rattle.ecma_span.specs.declared.place.Span.{Span}
 use Rattle.ecma_classes.specs.declared.piece.Piece.{Piece}
 use Rattle.ecma_styles.specs.declared.«class».Class.{Class}
 use Rattle.ecma_styles.specs.declared.«class».Class.TheVariants.{Wrong}

@@ -1,6 +1,6 @@
 -- The markup of a text in parts: what begins it, its pieces, and what ends it.
 use Rattle.std.specs.Prelude.{ℕ, ◌≡◌, Bool, true, false, List, ◌++◌, Option}
-use Rattle.ecma_place.specs.declared.place.BytePos.{BytePos}
+use Rattle.ecma_span.specs.declared.place.BytePos.{BytePos}
 use Rattle.ecma_classes.specs.Classes.{Tile}
 use Rattle.ecma_classes.specs.declared.piece.Piece.{Piece}
 use Rattle.ecma_styles.specs.declared.«class».Class.{Class}

@@ -1,7 +1,7 @@
 -- What is made of a text.
 use Rattle.std.specs.Prelude.{ℕ, List, length}
 use Rattle.std.specs.Str.{chars}
-use Rattle.ecma_settings.specs.declared.context.Context.{Context}
+use Rattle.ecma_syntax.specs.declared.context.Context.{Context}
 use Rattle.ecma_slashes.specs.ByFlag.{text_steps}
 use Rattle.ecma_classes.specs.Classes.{begin, classes_of}
 use Rattle.ecma_state.specs.Run.{session}
@@ -10,7 +10,7 @@ use Rattle.ecma_comments.specs.declared.comments_buffer.BufferedComment.{Buffere
 use Rattle.ecma_state.specs.declared.kept.Kept.{Kept}
 use Rattle.ecma_state.specs.declared.settings.Settings.{Settings}
 use Rattle.ecma_state.specs.declared.step.Step.{Step}
-use Rattle.ecma_place.specs.declared.place.BytePos.{BytePos}
+use Rattle.ecma_span.specs.declared.place.BytePos.{BytePos}
 use Rattle.ecma_html.specs.Marked.{marked}
 use Rattle.ecma_html.specs.Markup.{html_of}
 use Rattle.ecma_styles.specs.Styles.{styled}

@@ -8,7 +8,7 @@ ghost use Rattle.ecma_styles.specs.Styles.{class_name, styled};
 ghost use Rattle.ecma_html.specs.Unmark.{IsClosed, shown, unmark};
 
 use ecma_classes::Piece;
-use ecma_place::{BytePos, Span};
+use ecma_span::{BytePos, Span};
 use ecma_styles::{Class, class_of_piece, taken_behind};
 use std::alloc::{AllocError, Global};
 

@@ -11,7 +11,7 @@ ghost use Rattle.ecma_html.specs.Parts.{Moves, left_html};
 use crate::markup::{marked_style, push_close_tag, push_open_tag, push_styled};
 use crate::page::{TAIL, push_front};
 use ecma_classes::Cover;
-use ecma_place::BytePos;
+use ecma_span::BytePos;
 use ecma_state::Kept;
 use ecma_state::comments_buffer::BufferedComment;
 use ecma_styles::{Class, class_of_piece, taken_behind, token_classes};

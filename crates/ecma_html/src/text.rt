@@ -9,10 +9,10 @@ ghost use Rattle.ecma_html.specs.Unmark.{IsClosed, shown, unmark};
 
 use crate::markup::html_marked;
 use ecma_classes::classes;
-use ecma_place::BytePos;
 use ecma_reader::tokenize;
 use ecma_replay::{Gathered, gather};
 use ecma_slashes::Slashes;
+use ecma_span::BytePos;
 use ecma_state::{Settings, Step};
 use ecma_styles::token_classes;
 use ecma_syntax::Context;

@@ -1,7 +1,7 @@
 -- What is written of the specifiers of a text: a line each. The form of the lines is our own choice.
 use Rattle.std.specs.Prelude.{ℕ, ◌≤◌, List, [], ◌∷◌, ◌++◌, codes, decimal, flat_map, slice_range}
 use Rattle.std.specs.Str.{chars}
-use Rattle.ecma_settings.specs.declared.context.Context.{Context}
+use Rattle.ecma_syntax.specs.declared.context.Context.{Context}
 use Rattle.ecma_slashes.specs.ByFlag.{text_steps}
 use Rattle.ecma_classes.specs.Classes.{begin}
 use Rattle.ecma_state.specs.Run.{session}

@@ -1,7 +1,7 @@
 -- The marks of errors.
 use Rattle.std.specs.Prelude.{ℕ, List, map}
 use Rattle.std.specs.String.{string_bytes}
-use Rattle.ecma_place.specs.declared.place.Span.{Span}
+use Rattle.ecma_span.specs.declared.place.Span.{Span}
 use Rattle.ecma_token.specs.View.{ErrorView}
 use Rattle.ecma_token.specs.MessageView.{view_message}
 use Rattle.ecma_faults.specs.Faults.{FoundView}

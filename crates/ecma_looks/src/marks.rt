@@ -5,10 +5,10 @@ ghost use Rattle.ecma_faults.specs.Faults.{view};
 ghost use Rattle.ecma_looks.specs.Marks as marks;
 
 use ecma_faults::Found;
-use ecma_place::Spanned;
 use ecma_positions::{Columns, Position};
 use ecma_print::lines::Lines;
 use ecma_show::Mark;
+use ecma_span::Spanned;
 use ecma_token::Error;
 use std::alloc::{AllocError, Global};
 

@@ -4,7 +4,7 @@ use Rattle.ecma_module_table.specs.declared.part.Part.{Part}
 use Rattle.ecma_module_table.specs.declared.part.Part.TheVariants as part
 use Rattle.ecma_module_table.specs.declared.part.Word.{Word}
 use Rattle.ecma_module_table.specs.declared.part.Word.TheVariants as word
-use Rattle.ecma_place.specs.declared.place.Span.{Span}
+use Rattle.ecma_span.specs.declared.place.Span.{Span}
 use Rattle.ecma_module_table.specs.declared.variables.VariableStage.{VariableStage}
 use Rattle.ecma_module_table.specs.declared.variables.VariableStage.TheVariants as stage
 use Rattle.ecma_module_table.specs.declared.variables.VariableChange.{VariableChange}

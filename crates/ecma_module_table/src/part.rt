@@ -2,7 +2,7 @@
 ghost use Rattle.std.specs.Prelude.{◌≡◌, ◌-◌};
 ghost use Rattle.ecma_module_table.specs.Parts as parts;
 
-use ecma_place::Span;
+use ecma_span::Span;
 use ecma_token::TokenKind;
 use ecma_word::{AssignOp, BinOpToken, IdentKind, Keyword, KnownIdent, WordKind};
 

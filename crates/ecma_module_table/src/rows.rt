@@ -1,5 +1,5 @@
 //! Rows of imports and exports.
-use ecma_place::{BytePos, Span};
+use ecma_span::{BytePos, Span};
 
 /// What is looked for in a text.
 #[derive(Clone, Copy, Debug, Default, PartialEq, Eq)]

@@ -3,7 +3,7 @@ ghost use Rattle.std.specs.Prelude.{◌≡◌};
 ghost use Rattle.ecma_module_table.specs.Variables as specs;
 
 use crate::part::{Part, Word, more};
-use ecma_place::{BytePos, Span};
+use ecma_span::{BytePos, Span};
 
 /// What the tokens before say of a declaration of variables.
 #[derive(Clone, Copy, Debug, PartialEq, Eq)]

@@ -1,8 +1,8 @@
 -- What is remembered lies within the tokens that were gone through, and so does what is told.
 use Rattle.std.proofs.Common.{◌≡◌, ◌≤◌, ◌++◌, ◌∷◌, ℕ, Bool, true, false, List, [], Option, Some, None, if◌then◌else◌, refl, arith}
 use Rattle.std.specs.Prelude.{⊤}
-use Rattle.ecma_place.specs.declared.place.BytePos.{BytePos}
-use Rattle.ecma_place.specs.declared.place.Span.{Span}
+use Rattle.ecma_span.specs.declared.place.BytePos.{BytePos}
+use Rattle.ecma_span.specs.declared.place.Span.{Span}
 use Rattle.ecma_state.specs.declared.kept.Kept.{Kept}
 use Rattle.ecma_modules.specs.declared.calls.At.{At}
 use Rattle.ecma_modules.specs.declared.calls.Call.{Call}

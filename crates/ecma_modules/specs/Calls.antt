@@ -1,7 +1,7 @@
 -- Calls of `import` whose parentheses are open (ECMA-262, 13.3.10)
 use Rattle.std.specs.Prelude.{ℕ, zero, suc, ◌&&◌, ◌∷◌, Bool, true, false, List, [], Option, Some, None, not, nat_lt, if◌then◌else◌}
-use Rattle.ecma_place.specs.declared.place.BytePos.{BytePos}
-use Rattle.ecma_place.specs.declared.place.Span.{Span}
+use Rattle.ecma_span.specs.declared.place.BytePos.{BytePos}
+use Rattle.ecma_span.specs.declared.place.Span.{Span}
 use Rattle.ecma_modules.specs.declared.calls.At.{At}
 use Rattle.ecma_modules.specs.declared.calls.Call.{Call}
 use Rattle.ecma_modules.specs.declared.calls.CallStage.{CallStage}

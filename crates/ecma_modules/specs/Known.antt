@@ -1,7 +1,7 @@
 -- What is known of a text behind some of its tokens
 use Rattle.std.specs.Prelude.{ℕ, ◌-◌, ◌≡◌, ◌==◌, ◌&&◌, ◌||◌, Bool, true, false, not, Option, Some, None, option_map, if◌then◌else◌}
-use Rattle.ecma_place.specs.declared.place.BytePos.{BytePos}
-use Rattle.ecma_place.specs.declared.place.Span.{Span}
+use Rattle.ecma_span.specs.declared.place.BytePos.{BytePos}
+use Rattle.ecma_span.specs.declared.place.Span.{Span}
 use Rattle.ecma_state.specs.declared.kept.Kept.{Kept}
 use Rattle.ecma_modules.specs.declared.calls.At.{At}
 use Rattle.ecma_modules.specs.declared.calls.Call.{Call}

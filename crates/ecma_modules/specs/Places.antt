@@ -1,6 +1,6 @@
 -- Where rows lie: within the tokens that were gone through, and their parts within their statements
 use Rattle.std.specs.Prelude.{ℕ, ◌≤◌, ◌≡◌, ◌++◌, ◌∷◌, List, [], Option, Some, None, ⊤}
-use Rattle.ecma_place.specs.declared.place.Span.{Span}
+use Rattle.ecma_span.specs.declared.place.Span.{Span}
 use Rattle.ecma_state.specs.declared.kept.Kept.{Kept}
 use Rattle.ecma_module_table.specs.declared.rows.Argument.{Argument}
 use Rattle.ecma_module_table.specs.declared.rows.Export.{Export}

@@ -4,7 +4,7 @@ ghost use Rattle.ecma_modules.specs.Calls as specs;
 
 use ecma_module_table::part::{Part, more};
 use ecma_module_table::rows::{Argument, Form, Import, ImportTold, Phase, Specifier};
-use ecma_place::{BytePos, Span};
+use ecma_span::{BytePos, Span};
 use std::alloc::{AllocError, Global};
 use std::marker::Model;
 

@@ -10,7 +10,7 @@ use ecma_module_table::rows::{Export, Form, Import, ImportTold, ModuleOptions, T
 use ecma_module_table::stage::{Change, Move, Seen, Stage};
 use ecma_module_table::table::{begun, row};
 use ecma_module_table::variables::{VariableSeen, Variables};
-use ecma_place::{BytePos, Span};
+use ecma_span::{BytePos, Span};
 use ecma_state::Kept;
 use ecma_token::TokenKind;
 

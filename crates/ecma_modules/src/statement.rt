@@ -4,7 +4,7 @@ ghost use Rattle.ecma_modules.specs.Statements as statements;
 
 use crate::calls::At;
 use ecma_module_table::rows::{Export, Form, Import, Phase, Specifier};
-use ecma_place::{BytePos, Span};
+use ecma_span::{BytePos, Span};
 
 /// What is known of the import or export that is read.
 #[derive(Clone, Copy, Debug, PartialEq, Eq)]

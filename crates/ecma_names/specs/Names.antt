@@ -1,7 +1,7 @@
 -- The words that programs write for the sides and kinds of comments, and for the pieces of a text
 use Rattle.std.specs.Prelude.{ℕ, List, codes}
-use Rattle.ecma_place.specs.declared.comment.CommentKind.{CommentKind}
-use Rattle.ecma_place.specs.declared.comment.CommentKind.TheVariants.{Line, Block}
+use Rattle.ecma_span.specs.declared.comment.CommentKind.{CommentKind}
+use Rattle.ecma_span.specs.declared.comment.CommentKind.TheVariants.{Line, Block}
 use Rattle.ecma_comments.specs.declared.comments_buffer.BufferedCommentKind.{BufferedCommentKind}
 use Rattle.ecma_comments.specs.declared.comments_buffer.BufferedCommentKind.TheVariants.{Leading, Trailing}
 use Rattle.ecma_classes.specs.declared.piece.Class.{Class}

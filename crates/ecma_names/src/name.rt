@@ -4,7 +4,7 @@ ghost use Rattle.ecma_names.specs.Names as names;
 
 use ecma_classes::Class;
 use ecma_comments::comments_buffer::BufferedCommentKind;
-use ecma_place::CommentKind;
+use ecma_span::CommentKind;
 
 /// The name of the side of its token on which a comment is. Our own.
 pub fn side_name(side: BufferedCommentKind) -> &'static str

@@ -2,7 +2,6 @@ pub mod CharacterLemmas
 pub mod ChunkLemmas
 pub mod ClassLemmas
 pub mod CursorLemmas
-pub mod LaneLemmas
 pub mod MoveLemmas
 pub mod RunLemmas
 pub mod TextLemmas

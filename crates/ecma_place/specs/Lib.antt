@@ -1,6 +1,6 @@
-pub mod Atom
 pub mod Character
-pub mod Comment
 pub mod Cursor
 pub mod Run
 pub mod Text
+pub use Rattle.ecma_span.specs.Atom
+pub use Rattle.ecma_span.specs.Comment

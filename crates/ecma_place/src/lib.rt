@@ -1,9 +1,7 @@
 //! Texts, places and characters: what every layer of the lexer is built on.
 //!
-//! Begin with [`StringInput::new`], a cursor in a text whose places fit 32 bits ([`StringInput::fits`]). A place is the
-//! place where the text starts plus a byte offset. [`Atom`] is a text that is a slice of the source or owned,
-//! [`CharExt`] has the character sets of ECMA-262, and [`Comments`] is the store that comments are handed to. Only a
-//! copy of an owned text allocates.
+//! Begin with [`StringInput::new`], a cursor in a text whose places fit 32 bits ([`StringInput::fits`]); [`CharExt`] has the
+//! character sets of ECMA-262. Nothing here allocates. `ecma_span` is passed on, with places, [`Atom`] and [`Comments`].
 //!
 //! Promised: each call of a cursor is a function of its text and place, proved to equal its definition in
 //! `specs/Cursor.antt`; no place wraps and no offset leaves a character's boundary.
@@ -13,16 +11,13 @@
 //! and 16 bytes at a time, under contracts that count one byte at a time.
 #![tactic(auto)]
 
-pub mod atom;
 pub mod character;
-pub mod comment;
 pub mod input;
-pub mod place;
 pub mod run;
 
-pub use atom::Atom;
 pub use character::CharExt;
-pub use comment::{Comment, CommentKind, Comments};
+pub use ecma_span::{
+    Atom, BytePos, Comment, CommentKind, Comments, Span, Spanned, atom, comment, place,
+};
 pub use input::StringInput;
-pub use place::{BytePos, Span, Spanned};
 pub use run::{ByteClass, Quote, part_lanes, plain_lanes, template_lanes, white_lanes};

@@ -1,6 +1,6 @@
 -- Columns by what they count.
 use Rattle.std.specs.Prelude.{ℕ, ◌+◌, List, drop, count_by, take}
-use Rattle.ecma_place.specs.declared.place.BytePos.{BytePos}
+use Rattle.ecma_span.specs.declared.place.BytePos.{BytePos}
 use Rattle.ecma_positions.specs.Positions.{is_line_feed, last_line, position_in}
 use Rattle.ecma_positions.specs.Units.{utf16_length}
 use Rattle.ecma_positions.specs.declared.columns.Columns.{Columns}

@@ -1,7 +1,7 @@
 -- Lines and columns of the places of a text, which starts at the place 0.
 use Rattle.std.specs.Prelude.{List, [], ◌∷◌, ℕ, Bool, ◌+◌, ◌-◌, if◌then◌else◌, not, length, nat_eq, take, count_by}
 use Rattle.std.specs.List.{suffix_len}
-use Rattle.ecma_place.specs.declared.place.BytePos.{BytePos}
+use Rattle.ecma_span.specs.declared.place.BytePos.{BytePos}
 use Rattle.ecma_positions.specs.declared.position.Position.{Position}
 
 abbrev pub is_line_feed : ℕ → Bool

@@ -2,7 +2,7 @@
 ghost use Rattle.std.specs.Prelude.{◌≡◌, ◌≤◌, ℕ, List, nat_le, length, take, IfOk};
 ghost use Rattle.ecma_positions.specs.Positions.{line_starts, position_in};
 
-use ecma_place::BytePos;
+use ecma_span::BytePos;
 use std::alloc::{AllocError, Global};
 
 /// A line and a column, both from 1. A column counts bytes.

@@ -3,8 +3,8 @@ use Rattle.std.specs.Prelude.{ℕ, List, map, if◌then◌else◌, [], ◌∷◌
 use Rattle.std.specs.Borrow.{Bor}
 use Rattle.json.specs.Print.{escape, quoted}
 use Rattle.serde_json.specs.Data.{Data, Members, unsigned, boolean, number, string, object, no_members, member}
-use Rattle.ecma_place.specs.declared.place.BytePos.{BytePos}
-use Rattle.ecma_place.specs.declared.place.Span.{Span}
+use Rattle.ecma_span.specs.declared.place.BytePos.{BytePos}
+use Rattle.ecma_span.specs.declared.place.Span.{Span}
 use Rattle.ecma_positions.specs.declared.position.Position.{Position}
 use Rattle.ecma_stdio.specs.Escaped.{escaped}
 use Rattle.ecma_print.specs.declared.row.Imported.{Imported}

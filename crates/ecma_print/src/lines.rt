@@ -5,8 +5,8 @@ ghost use Rattle.ecma_positions.specs.Positions.{position_in};
 ghost use Rattle.ecma_print.specs.Lines.{Counts};
 
 use crate::units::Units;
-use ecma_place::BytePos;
 use ecma_positions::{Columns, Position};
+use ecma_span::BytePos;
 use memchr::{memchr_iter, memrchr};
 
 /// Where the last place that was asked for lies. Rows mostly go forward, so that each byte is passed once, and no table of

@@ -1,6 +1,6 @@
 //! A row: what is reported of a part of a text.
 
-use ecma_place::{BytePos, Span};
+use ecma_span::{BytePos, Span};
 
 /// What is reported of an import besides what all rows have.
 #[derive(Clone, Copy, Debug, PartialEq, Eq)]

@@ -7,8 +7,8 @@ ghost use Rattle.ecma_print.specs.Values as value_specs;
 use crate::members::{push_flag_member, push_inside, push_number_member, push_text_member};
 use crate::row::{Imported, More, Row, Value};
 use crate::values::{push_digits, push_field, push_flags, push_form, push_value};
-use ecma_place::{BytePos, Span};
 use ecma_positions::Position;
+use ecma_span::{BytePos, Span};
 use ecma_stdio::{push_escaped, push_number};
 use std::alloc::AllocError;
 

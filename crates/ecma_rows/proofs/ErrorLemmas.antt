@@ -2,7 +2,7 @@
 use Rattle.std.proofs.Common.{◌≡◌, ◌∙◌, ℕ, ◌+◌, List, [], ◌∷◌, ◌++◌, append-nil, Option, Some, length, sym, subst, ap, arith}
 use Rattle.std.proofs.lemmas.List.{append_assoc, length-append, map-append}
 use Rattle.std.proofs.lemmas.Grind.{flat_map-append}
-use Rattle.ecma_place.specs.declared.place.Span.{Span}
+use Rattle.ecma_span.specs.declared.place.Span.{Span}
 use Rattle.ecma_token.specs.View.{ErrorView, SpannedView, refusal_of}
 use Rattle.ecma_state.specs.Session.{Session}
 use Rattle.ecma_rows.specs.ErrorRows.{IsGathered, IsSaid, Sourced, all_errors, error_row, message_of, messages, of_tokens, rows_from, source_number, sourced}

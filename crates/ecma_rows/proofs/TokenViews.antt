@@ -1,6 +1,6 @@
 -- A token is seen with whether its value is its spelling.
 use Rattle.std.proofs.Common.{◌≡◌, refl}
-use Rattle.ecma_place.specs.declared.place.Span.{Span}
+use Rattle.ecma_span.specs.declared.place.Span.{Span}
 use Rattle.ecma_token.specs.declared.token.Token.{Token, Word, Arrow, Hash, At, Dot, DotDotDot, Bang, LParen, RParen, LBracket, RBracket, LBrace, RBrace, Semi, Comma, BackQuote, Template', Colon, BinOp, AssignOp, DollarLBrace, QuestionMark, PlusPlus, MinusMinus, Tilde, Str, Regex, Num, BigInt, JSXName, JSXText, JSXTagStart, JSXTagEnd, Shebang, Error', Ok', Err'}
 use Rattle.ecma_token.specs.View.{token_view}
 use Rattle.ecma_rows.specs.Rows.{is_respelled, is_view_respelled}

@@ -1,7 +1,7 @@
 -- How a text is asked to be read, by numbers. The numbers are our own choice.
 use Rattle.std.specs.Prelude.{ℕ, ◌/◌, ◌%◌, ◌==◌, Bool, true, false, List, [], ◌∷◌, Option, Some, None, Result, Ok, Err, if◌then◌else◌, length, nat_lt}
 use Rattle.std.specs.Str.{is_utf8}
-use Rattle.ecma_place.specs.declared.place.BytePos.{BytePos}
+use Rattle.ecma_span.specs.declared.place.BytePos.{BytePos}
 use Rattle.ecma_options.specs.Begin as reading
 use Rattle.ecma_options.specs.declared.options.Options.{Options}
 use Rattle.ecma_state.specs.Session.{Session}

@@ -1,6 +1,6 @@
 -- Rows of errors, and their messages. Their form is our own choice.
 use Rattle.std.specs.Prelude.{ℕ, ◌+◌, ◌≡◌, ◌&&◌, List, [], ◌∷◌, ◌++◌, flat_map, map, length, nat_le}
-use Rattle.ecma_place.specs.declared.place.Span.{Span}
+use Rattle.ecma_span.specs.declared.place.Span.{Span}
 use Rattle.ecma_token.specs.MessageView.{view_message}
 use Rattle.ecma_token.specs.View.{ErrorView}
 use Rattle.ecma_state.specs.Session.{Session}

@@ -1,7 +1,7 @@
 -- Rows of imports and exports. Their form is our own choice.
 use Rattle.std.specs.Prelude.{ℕ, ◌+◌, ◌-◌, ◌*◌, ◌==◌, ◌&&◌, ◌||◌, ◌≡◌, Bool, false, List, [], ◌∷◌, Option, Some, None, Result, Ok, Err, if◌then◌else◌, length, map, nat_le, slice_range}
 use Rattle.std.specs.List.{list_any}
-use Rattle.ecma_place.specs.declared.place.Span.{Span}
+use Rattle.ecma_span.specs.declared.place.Span.{Span}
 use Rattle.ecma_state.specs.Session.{kept_of}
 use Rattle.ecma_state.specs.declared.kept.Kept.{Kept}
 use Rattle.ecma_module_table.specs.declared.rows.Argument.{Argument}

@@ -1,9 +1,9 @@
 -- Rows of tokens and comments. Their form is our own choice.
 use Rattle.std.specs.Prelude.{◌≡◌, ℕ, ◌+◌, ◌-◌, ◌==◌, Bool, true, false, not, List, map, length, if◌then◌else◌}
-use Rattle.ecma_place.specs.declared.place.Span.{Span}
-use Rattle.ecma_place.specs.declared.comment.CommentKind.{CommentKind}
-use Rattle.ecma_place.specs.declared.comment.CommentKind.TheVariants.{Line, Block}
-use Rattle.ecma_place.specs.declared.comment.Comment.{Comment}
+use Rattle.ecma_span.specs.declared.place.Span.{Span}
+use Rattle.ecma_span.specs.declared.comment.CommentKind.{CommentKind}
+use Rattle.ecma_span.specs.declared.comment.CommentKind.TheVariants.{Line, Block}
+use Rattle.ecma_span.specs.declared.comment.Comment.{Comment}
 use Rattle.ecma_syntax.specs.Word.{word_text}
 use Rattle.ecma_syntax.specs.declared.word.Word.{Word as Word'}
 use Rattle.ecma_token.specs.Kinds.{kind_of}

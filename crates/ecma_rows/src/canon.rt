@@ -13,8 +13,8 @@ use crate::outcome::{Answer, Status};
 use crate::request::{Asked, judge, places};
 use crate::room::write_all;
 use ecma_canonical::{Canon, canonical_of_gathered};
-use ecma_place::BytePos;
 use ecma_reader::{LexOutput, tokenize};
+use ecma_span::BytePos;
 use std::alloc::{AllocError, Global};
 
 /// The canonical text of a text, by what was read of it as it was asked for.

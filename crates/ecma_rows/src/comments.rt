@@ -8,7 +8,7 @@ ghost use Rattle.ecma_rows.specs.Told.{IsTold, Rows, told_by, written};
 use crate::outcome::Answer;
 use crate::request::{judge, places};
 use crate::room::put;
-use ecma_place::CommentKind;
+use ecma_span::CommentKind;
 use ecma_state::{BufferedComment, BufferedCommentKind};
 use std::alloc::{AllocError, Global};
 

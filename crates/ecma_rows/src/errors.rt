@@ -13,8 +13,8 @@ ghost use Rattle.ecma_rows.specs.Told.{Rows, told_by};
 use crate::outcome::Answer;
 use crate::request::{judge, places};
 use crate::room::write_all;
-use ecma_place::{Span, Spanned};
 use ecma_reader::{Outcome, Reader};
+use ecma_span::{Span, Spanned};
 use ecma_token::{Error, Token, TokenAndSpan};
 use std::alloc::{AllocError, Global};
 

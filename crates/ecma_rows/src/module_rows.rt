@@ -3,7 +3,7 @@ ghost use Rattle.std.specs.Prelude.{◌≡◌, ◌≤◌};
 ghost use Rattle.ecma_rows.specs.ModuleRows as rows;
 
 use ecma_module_table::rows::{Argument, Export, Form, Import, Phase, Specifier};
-use ecma_place::{BytePos, Span};
+use ecma_span::{BytePos, Span};
 
 /// An import. Places are bytes from the text's start: of what names the module, which is the string with its quotes, else the
 /// first argument of a call, else the statement; of the statement; of the left parenthesis of a call, else 0; of the braces

@@ -11,9 +11,9 @@ ghost use Rattle.ecma_rows.specs.Told.{are_met};
 use crate::bits::{is_by_flag, is_by_role, options_of_bits};
 use crate::outcome::Status;
 use ecma_options::Options;
-use ecma_place::BytePos;
 use ecma_reader::Reader;
 use ecma_slashes::{Slashes, ascend};
+use ecma_span::BytePos;
 use std::alloc::{AllocError, Global};
 
 /// The longest text whose places all have a number.

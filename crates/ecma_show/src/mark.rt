@@ -1,7 +1,7 @@
 //! What is said of a part of a text.
 ghost use Rattle.std.specs.Prelude.{◌<◌, ◌^◌};
 
-use ecma_place::Span;
+use ecma_span::Span;
 
 /// What is said of a part of a text.
 #[derive(Drop)]

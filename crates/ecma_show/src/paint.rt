@@ -4,7 +4,7 @@ ghost use Rattle.ecma_show.specs.Colours as colours;
 ghost use Rattle.ecma_show.specs.Painted as paint;
 
 use crate::colour::{Colour, UNSET};
-use ecma_place::Span;
+use ecma_span::Span;
 use std::alloc::AllocError;
 
 /// A part of a text, and its colour where it has one.

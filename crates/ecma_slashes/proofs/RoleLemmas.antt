@@ -6,7 +6,7 @@ use Rattle.std.proofs.lemmas.Grind.{reverse_onto}
 use Rattle.std.proofs.lemmas.List.{length-append, map-append}
 use Rattle.std.proofs.lemmas.List.Sums.{fold-append}
 use Rattle.ecma_place.specs.declared.place.BytePos.{BytePos}
-use Rattle.ecma_settings.specs.Questions.{typescript}
+use Rattle.ecma_syntax.specs.Questions.{typescript}
 use Rattle.ecma_syntax.specs.declared.context.Context.{Context}
 use Rattle.ecma_token.specs.View.{SpannedView}
 use Rattle.ecma_role_table.specs.declared.part.Part.{Part}

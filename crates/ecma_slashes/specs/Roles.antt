@@ -1,6 +1,6 @@
 -- What the tokens so far say of a slash that comes next: whether an operand is expected, which a regular expression may be.
 use Rattle.std.specs.Prelude.{Bool, true, false, List, [], ◌∷◌, Option, Some, None, map, reverse}
-use Rattle.ecma_settings.specs.Questions.{typescript}
+use Rattle.ecma_syntax.specs.Questions.{typescript}
 use Rattle.ecma_word.specs.declared.operator.AssignOp.TheVariants.{DivAssign}
 use Rattle.ecma_token.specs.Kinds.{kind_of}
 use Rattle.ecma_token.specs.View.{SpannedView}

@@ -1,7 +1,7 @@
 -- A checkpoint as bytes: our own choice.
 use Rattle.std.specs.Prelude.{ℕ, ◌≡◌, ◌+◌, ◌<◌, ◌^◌, ◌==◌, Bool, false, not, List, [], ◌∷◌, ◌++◌, Option, Some, None, flat_map, get_or, is_some, map, slice_index, if◌then◌else◌}
 use Rattle.std.specs.Int.{w32, w64, from_le_bytes, to_le_bytes}
-use Rattle.ecma_place.specs.declared.place.BytePos.{BytePos}
+use Rattle.ecma_span.specs.declared.place.BytePos.{BytePos}
 use Rattle.ecma_syntax.specs.declared.context.Context.{Context}
 use Rattle.ecma_contexts.specs.ContextPairs.{context_at, number_of}
 use Rattle.ecma_state.specs.declared.kept.Kept.{Kept}

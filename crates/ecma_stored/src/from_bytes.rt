@@ -11,7 +11,7 @@ use crate::to_bytes::encode;
 use ecma_checkpoint::{Checkpoint, Counts};
 use ecma_contexts::TokenContexts;
 use ecma_contexts::context_pair::context_at;
-use ecma_place::{BytePos, Span};
+use ecma_span::{BytePos, Span};
 use ecma_state::kept::{Kept, Seen};
 use ecma_state::state::State;
 use std::alloc::{AllocError, Global};

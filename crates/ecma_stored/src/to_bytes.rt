@@ -9,7 +9,7 @@ use ecma_checkpoint::Checkpoint;
 use ecma_contexts::TokenContexts;
 use ecma_contexts::context_pair::number_of;
 use ecma_kinds::kind_number;
-use ecma_place::BytePos;
+use ecma_span::BytePos;
 use ecma_state::kept::Kept;
 use std::alloc::{AllocError, Global};
 

@@ -1,10 +1,10 @@
+pub mod Defaults
+pub mod Questions
+pub mod Reserved
 pub use Rattle.ecma_word.specs.Keyword
 pub use Rattle.ecma_word.specs.KnownIdent
 pub use Rattle.ecma_word.specs.Laws
 pub use Rattle.ecma_word.specs.Operators
 pub use Rattle.ecma_word.specs.Table
 pub use Rattle.ecma_word.specs.Word
-pub use Rattle.ecma_settings.specs.Defaults
-pub use Rattle.ecma_settings.specs.Questions
-pub use Rattle.ecma_settings.specs.Reserved
-pub use Rattle.ecma_place.specs.Atom
+pub use Rattle.ecma_span.specs.Atom

@@ -1,7 +1,7 @@
 -- Tokens and errors as callers see them: what owns memory is seen as what it holds.
 use Rattle.std.specs.Prelude.{◌≡◌, Option, Some, None, ℕ, Bool, true, false, not, ◌&&◌, List, [], ◌∷◌, map, string_bytes}
-use Rattle.ecma_place.specs.Atom.{AtomView}
-use Rattle.ecma_place.specs.declared.place.Span.{Span}
+use Rattle.ecma_span.specs.Atom.{AtomView}
+use Rattle.ecma_span.specs.declared.place.Span.{Span}
 use Rattle.ecma_word.specs.Word.{word_owns_nothing}
 use Rattle.ecma_token.specs.declared.token.Token.{Token, Word, Template', Str, Regex, Num, BigInt, JSXName, JSXText, Shebang, Error', Ok', Err'}
 use Rattle.ecma_token.specs.declared.token.TokenAndSpan.{TokenAndSpan}

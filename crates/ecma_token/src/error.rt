@@ -4,7 +4,7 @@ ghost use Rattle.ecma_token.specs.View.{IsErrorAt, error_kind, error_span, error
 
 use crate::token::{Radix, Token};
 use ecma_fixed::FixedError;
-use ecma_place::{Atom, Span, Spanned};
+use ecma_span::{Atom, Span, Spanned};
 use std::alloc::{AllocError, Global};
 
 /// An error and where it is.

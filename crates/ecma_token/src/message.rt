@@ -11,7 +11,7 @@ ghost use Rattle.ecma_token.specs.View.{error_kind, kind_view};
 use crate::error::{Error, SyntaxError};
 use crate::quoted::Quoted;
 use crate::token::Radix;
-use ecma_place::Atom;
+use ecma_span::Atom;
 use std::alloc::{AllocError, Global};
 use std::borrow::CowStr;
 use std::fmt;

@@ -7,7 +7,7 @@ ghost use Rattle.ecma_token.specs.View.{has_texts, is_sign, owns_nothing, spanne
 
 use crate::error::{Error, copy_two};
 use crate::kind::TokenKind;
-use ecma_place::{Atom, Span, Spanned};
+use ecma_span::{Atom, Span, Spanned};
 use ecma_word::{AssignOp, BinOpToken, Word};
 use std::alloc::{AllocError, Global};
 use std::fmt;

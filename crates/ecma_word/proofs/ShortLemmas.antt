@@ -10,8 +10,8 @@ use Rattle.std.proofs.lemmas.List.{get_or-map, get_or-take, length-take-le}
 use Rattle.std.proofs.lemmas.Slice.Eq.{bytes_eq-Decides}
 use Rattle.std.proofs.lemmas.Simd.{length-zip2, mask_l-mod}
 use Rattle.std.proofs.lemmas.List.{length-map}
-use Rattle.ecma_place.specs.Atom.{borrowed_atom}
-use Rattle.ecma_place.proofs.LaneLemmas.{first_of_16}
+use Rattle.ecma_span.specs.Atom.{borrowed_atom}
+use Rattle.ecma_lanes.proofs.LaneLemmas.{first_of_16}
 use Rattle.ecma_word.specs.ShortWords.{hash, no_row, row_kind, row_word, row_for, holds, is_placed}
 use Rattle.ecma_word.specs.Table.{table_of_words, has_text}
 use Rattle.ecma_word.specs.Word.{word_of, word_text, word_kind}

@@ -7,7 +7,7 @@ use Rattle.std.specs.Cmp.Lexicographic.{pointwise}
 use Rattle.std.proofs.lemmas.Grind.{common_steps}
 use Rattle.std.proofs.lemmas.List.Folds.{find-append}
 use Rattle.std.proofs.lemmas.Slice.Eq.{bytes_eq-Decides}
-use Rattle.ecma_place.specs.Atom.{AtomView, borrowed_atom}
+use Rattle.ecma_span.specs.Atom.{AtomView, borrowed_atom}
 use Rattle.ecma_word.specs.KnownIdent.{known_text, is_known_text, all_known, known_of}
 use Rattle.ecma_word.specs.Keyword.{keyword_text, is_keyword_text, all_keywords, keyword_of}
 use Rattle.ecma_word.specs.Word.{is_text, word_of, word_of_kind, word_kind, word_text, known_of_kind}

@@ -1,7 +1,7 @@
 -- What holds of every word and of every operator.
 use Rattle.std.specs.Prelude.{◌≡◌, ℕ, List, find, map, unwrap_or}
 use Rattle.std.specs.List.{Contains}
-use Rattle.ecma_place.specs.Atom.{borrowed_atom}
+use Rattle.ecma_span.specs.Atom.{borrowed_atom}
 use Rattle.ecma_word.specs.Operators.{bin_op_text, binary_op_of, binary_op_text}
 use Rattle.ecma_word.specs.Table.{table_of_words, has_text}
 use Rattle.ecma_word.specs.Word.{word_of, word_text}

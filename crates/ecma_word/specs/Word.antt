@@ -4,7 +4,7 @@
 use Rattle.std.specs.Prelude.{ℕ, Bool, List, Option, None, Some, codes, nat_eq, if◌then◌else◌}
 use Rattle.std.specs.Option.{option_map_or}
 use Rattle.std.specs.Cmp.Lexicographic.{pointwise}
-use Rattle.ecma_place.specs.Atom.{AtomView, borrowed_atom}
+use Rattle.ecma_span.specs.Atom.{AtomView, borrowed_atom}
 use Rattle.ecma_word.specs.KnownIdent.{known_text, known_of}
 use Rattle.ecma_word.specs.Keyword.{keyword_text, keyword_of}
 use Rattle.ecma_word.specs.declared.known_ident.KnownIdent.{KnownIdent}

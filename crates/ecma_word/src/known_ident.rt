@@ -1,10 +1,10 @@
 //! Names that mean something to a parser in some places.
 ghost use Rattle.std.specs.Prelude.{◌≡◌, Some, None, MatchResult};
-ghost use Rattle.ecma_place.specs.Atom.{borrowed_atom};
+ghost use Rattle.ecma_span.specs.Atom.{borrowed_atom};
 ghost use Rattle.ecma_word.specs.KnownIdent.{known_text, known_of};
 
 use crate::short_words;
-use ecma_place::Atom;
+use ecma_span::Atom;
 use std::fmt;
 use std::str::FromStr;
 

@@ -7,7 +7,7 @@ ghost use Rattle.ecma_word.specs.declared.word.WordKind.TheVariants as a_kind;
 use crate::keyword::Keyword;
 use crate::known_ident::KnownIdent;
 use crate::short_words;
-use ecma_place::Atom;
+use ecma_span::Atom;
 use std::alloc::{AllocError, Global};
 use std::convert::AsStr;
 use std::fmt;

@@ -1,11 +1,11 @@
 -- Comments of reads that were read by hand, and where they belong.
 use Rattle.std.proofs.Common.{◌≡◌, ℕ, Bool, true, false, [], ◌∷◌, Option, Some, None, refl}
 use Rattle.std.specs.Prelude.{codes, encode_utf8_all}
-use Rattle.ecma_place.specs.Atom.{borrowed_atom}
-use Rattle.ecma_place.specs.declared.comment.Comment.{Comment}
-use Rattle.ecma_place.specs.declared.comment.CommentKind.{CommentKind}
-use Rattle.ecma_place.specs.declared.comment.CommentKind.TheVariants.{Line, Block}
-use Rattle.ecma_place.specs.declared.place.BytePos.{BytePos}
+use Rattle.ecma_span.specs.Atom.{borrowed_atom}
+use Rattle.ecma_span.specs.declared.comment.Comment.{Comment}
+use Rattle.ecma_span.specs.declared.comment.CommentKind.{CommentKind}
+use Rattle.ecma_span.specs.declared.comment.CommentKind.TheVariants.{Line, Block}
+use Rattle.ecma_span.specs.declared.place.BytePos.{BytePos}
 use Rattle.ecma_token.specs.declared.kind.TokenKind.{TokenKind}
 use Rattle.ecma_token.specs.declared.kind.TokenKind.TheVariants.{BinOp, RParen, Semi, Shebang}
 use Rattle.ecma_syntax.specs.declared.operator.BinOpToken.TheVariants.{Add}

@@ -9,7 +9,7 @@ mod messages;
 mod names;
 mod questions;
 
-use ecma_place::{Atom, BytePos, Span};
+use ecma_span::{Atom, BytePos, Span};
 use ecma_token::{SyntaxError, Token};
 use std::alloc::{AllocError, Global};
 use std::process::Abort;

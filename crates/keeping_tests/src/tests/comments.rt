@@ -1,5 +1,5 @@
 //! Buffers of comments.
-use ecma_place::{Atom, BytePos, Comment, CommentKind, Span};
+use ecma_span::{Atom, BytePos, Comment, CommentKind, Span};
 use ecma_state::attachment::Around;
 use ecma_state::{BufferedComment, BufferedCommentKind, CommentsBuffer};
 use listing::listing::{write_comment, write_comments, write_note};

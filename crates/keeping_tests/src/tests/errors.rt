@@ -1,5 +1,5 @@
 //! What becomes of errors that wait, and of those of the layer above.
-use ecma_place::{BytePos, Span};
+use ecma_span::{BytePos, Span};
 use ecma_stream::{Lexer, Tokens};
 use ecma_token::{Error, SyntaxError};
 use listing::listing::{

@@ -1,6 +1,6 @@
 //! Rows of lines and columns.
-use ecma_place::BytePos;
 use ecma_positions::{LineStarts, Position};
+use ecma_span::BytePos;
 use std::alloc::{AllocError, Global};
 use std::test::Fail;
 

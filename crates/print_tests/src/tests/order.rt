@@ -1,6 +1,6 @@
 //! Errors that are tokens, those that were recorded and those that wait, in order of place.
 use ecma_faults::{Found, in_order};
-use ecma_place::{BytePos, Span, Spanned};
+use ecma_span::{BytePos, Span, Spanned};
 use ecma_token::{Error, SyntaxError};
 use std::alloc::{AllocError, Global};
 use std::test::Fail;

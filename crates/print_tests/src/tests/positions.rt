@@ -1,7 +1,7 @@
 //! Places that are asked for one after the other, forwards and backwards, in bytes and in units of UTF-16.
-use ecma_place::BytePos;
 use ecma_positions::{Columns, Position, utf16_length};
 use ecma_print::lines::Lines;
+use ecma_span::BytePos;
 
 /// Two lines: a quote, U+1D4B3, a quote; then a tab, U+E9, U+20AC and a.
 const TEXT: &str = "'𝒳'\r\n\té€a";

@@ -1,6 +1,6 @@
 //! Texts, in parts that have a colour or none, with marks below their lines.
-use ecma_place::{BytePos, Span};
 use ecma_show::{Colour, Mark, Part, show};
+use ecma_span::{BytePos, Span};
 use std::alloc::{AllocError, Global};
 use std::test::Fail;
 

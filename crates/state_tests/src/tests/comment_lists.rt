@@ -2,7 +2,7 @@
 ghost use Rattle.std.specs.Prelude.{◌≡◌, [], ◌∷◌, ◌++◌, OnOk, OnErr, IfErr, map};
 ghost use Rattle.ecma_state.specs.HandOver.{added_of};
 
-use ecma_place::{Atom, BytePos, Comment, CommentKind, Comments, Span};
+use ecma_span::{Atom, BytePos, Comment, CommentKind, Comments, Span};
 use ecma_state::{BufferedComment, BufferedCommentKind, CommentsBuffer};
 use std::alloc::{AllocError, Global};
 use std::mem;

@@ -1,5 +1,5 @@
 //! Contexts, and how tokens change them.
-use ecma_place::{BytePos, Span};
+use ecma_span::{BytePos, Span};
 use ecma_state::{Kept, State, TokenContext, TokenContexts};
 use ecma_syntax::{AssignOp, BinOpToken, IdentKind, Keyword, KnownIdent, Syntax, WordKind};
 use ecma_token::TokenKind;

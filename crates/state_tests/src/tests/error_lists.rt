@@ -1,6 +1,6 @@
 //! Lists of errors, and what becomes of an error under the flags of the context.
 use ecma_grammar::Blame;
-use ecma_place::{BytePos, Span, Spanned};
+use ecma_span::{BytePos, Span, Spanned};
 use ecma_state::ErrorList;
 use ecma_state::errors::ErrorLists;
 use ecma_syntax::Context;

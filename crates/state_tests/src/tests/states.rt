@@ -1,5 +1,5 @@
 //! What is asked of the state between two reads.
-use ecma_place::{BytePos, Span};
+use ecma_span::{BytePos, Span};
 use ecma_state::{Kept, State};
 use ecma_syntax::{BinOpToken, IdentKind, Syntax, WordKind};
 use ecma_token::TokenKind;

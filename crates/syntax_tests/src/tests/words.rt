@@ -1,5 +1,5 @@
 //! The table of words both ways, conversions and printed texts.
-use ecma_place::Atom;
+use ecma_span::Atom;
 use ecma_syntax::{IdentKind, IdentLike, Keyword, KnownIdent, Word, WordKind, laws};
 use std::alloc::{AllocError, Global};
 use std::convert::AsStr;

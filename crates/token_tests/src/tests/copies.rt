@@ -1,7 +1,7 @@
 //! Copies of errors and tokens that hold each other.
 
 use super::span;
-use ecma_place::Spanned;
+use ecma_span::Spanned;
 use ecma_token::{Error, SyntaxError, Token, TokenAndSpan};
 use std::alloc::{AllocError, Global};
 use std::process::Abort;

@@ -1,7 +1,7 @@
 //! The debug text of a token of each variant.
 
 use super::{assert_debug_text, owned, span};
-use ecma_place::Atom;
+use ecma_span::Atom;
 use ecma_syntax::{AssignOp, BinOpToken, Word};
 use ecma_token::{Error, Radix, SyntaxError, Token, TokenKind};
 use std::alloc::{AllocError, Global};

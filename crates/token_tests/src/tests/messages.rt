@@ -1,7 +1,7 @@
 //! The bytes of the messages of the lexer's errors, and of those that hold something.
 
 use super::{assert_message, span};
-use ecma_place::Atom;
+use ecma_span::Atom;
 use ecma_token::{Error, Radix, SyntaxError, Token};
 use std::alloc::{AllocError, Global};
 use std::process::Abort;

@@ -1,6 +1,6 @@
 use Rattle.std.proofs.Common.{◌≡◌, ◌∙◌, List, [], ◌∷◌, ◌++◌, reverse}
 use Rattle.std.proofs.lemmas.List.{append_assoc, map-append, reverse-append}
-use Rattle.ecma_place.specs.Comment.{Added}
+use Rattle.ecma_span.specs.Comment.{Added}
 use Rattle.ecma_comments.specs.declared.comments_buffer.BufferedComment.{BufferedComment}
 use Rattle.ecma_comments.specs.HandOver.{added_of, HandsFirst}
 use Rattle.ecma_comments.proofs.hand_over.give_from_last.Goals as goal

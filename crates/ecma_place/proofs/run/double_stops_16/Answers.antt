@@ -3,7 +3,7 @@ use Rattle.std.proofs.lemmas.Simd.{zip2_splat}
 use Rattle.ecma_place.specs.Run.{is_outside}
 use Rattle.ecma_place.specs.declared.run.ByteClass.TheVariants.{Plain}
 use Rattle.ecma_place.specs.declared.run.Quote.TheVariants.{Double}
-use Rattle.ecma_place.proofs.LaneLemmas.{joined, masked}
+use Rattle.ecma_lanes.proofs.LaneLemmas.{joined, masked}
 use Rattle.ecma_place.proofs.run.double_stops_16.Goals as goal
 
 pub returns : goal.returns

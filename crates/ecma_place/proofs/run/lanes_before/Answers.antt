@@ -1,4 +1,4 @@
-use Rattle.ecma_place.proofs.LaneLemmas.{first_of_16}
+use Rattle.ecma_lanes.proofs.LaneLemmas.{first_of_16}
 use Rattle.ecma_place.proofs.run.lanes_before.Goals as goal
 
 pub returns : goal.returns

@@ -1,7 +1,7 @@
 use Rattle.std.proofs.Common.{refl, arith}
 use Rattle.std.proofs.lemmas.Simd.{zip2_splat}
 use Rattle.ecma_place.specs.Run.{ends_line}
-use Rattle.ecma_place.proofs.LaneLemmas.{joined, masked}
+use Rattle.ecma_lanes.proofs.LaneLemmas.{joined, masked}
 use Rattle.ecma_place.proofs.run.line_ends.Goals as goal
 
 pub returns : goal.returns

@@ -2,7 +2,7 @@ use Rattle.std.proofs.Common.{ℕ, leb, cond, bit_and, refl, arith}
 use Rattle.std.proofs.lemmas.Simd.{zip2_splat}
 use Rattle.ecma_place.specs.Run.{is_outside}
 use Rattle.ecma_place.specs.declared.run.ByteClass.TheVariants.{Part}
-use Rattle.ecma_place.proofs.LaneLemmas.{joined, masked, splat_is}
+use Rattle.ecma_lanes.proofs.LaneLemmas.{joined, masked, splat_is}
 use Rattle.ecma_place.proofs.run.part_stops_16.Goals as goal
 
 pub returns : goal.returns

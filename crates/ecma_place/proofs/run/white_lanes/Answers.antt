@@ -1,7 +1,7 @@
 use Rattle.std.proofs.Common.{◌≡◌, not, sym, ◌∙◌}
 use Rattle.std.specs.List.{prefix_len}
 use Rattle.ecma_place.specs.Run.{is_white_byte, ends_line}
-use Rattle.ecma_place.proofs.LaneLemmas.{same_run, not-not, first_within}
+use Rattle.ecma_lanes.proofs.LaneLemmas.{same_run, not-not, first_within}
 use Rattle.ecma_place.proofs.run.white_lanes.Goals as goal
 
 pub returns-clause-ends : goal.returns-clause-ends

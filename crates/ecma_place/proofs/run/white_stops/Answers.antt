@@ -1,7 +1,7 @@
 use Rattle.std.proofs.Common.{ℕ, leb, cond, bit_and, not, refl, arith}
 use Rattle.std.proofs.lemmas.Simd.{zip2_splat}
 use Rattle.ecma_place.specs.Run.{is_white_byte}
-use Rattle.ecma_place.proofs.LaneLemmas.{joined, masked, splat_is}
+use Rattle.ecma_lanes.proofs.LaneLemmas.{joined, masked, splat_is}
 use Rattle.ecma_place.proofs.run.white_stops.Goals as goal
 
 pub returns : goal.returns

@@ -1,5 +1,5 @@
 use Rattle.std.proofs.Common.{◌∙◌, ℕ, List, [], Ok, false, ap, subst, sym}
-use Rattle.ecma_place.specs.declared.place.BytePos.{BytePos}
+use Rattle.ecma_span.specs.declared.place.BytePos.{BytePos}
 use Rattle.ecma_modules.specs.Modules.{gathered}
 use Rattle.ecma_module_table.specs.declared.rows.ModuleOptions.{ModuleOptions}
 use Rattle.ecma_slashes.specs.Rereads.{steps_to_end_by}

@@ -26,7 +26,7 @@ pub struct Atom<'a> {
 
 impl<'a> Model for Atom<'a> {
     ghost use Rattle.std.specs.Cow.{cow_str_bytes};
-    ghost use Rattle.ecma_place.specs.Atom.{AtomView, is_borrowed_of};
+    ghost use Rattle.ecma_span.specs.Atom.{AtomView, is_borrowed_of};
 
     ghost Value = { AtomView };
 
@@ -73,7 +73,7 @@ impl<'a> Atom<'a> {
 }
 
 impl<'a> From<&'a str> for Atom<'a> {
-    ghost use Rattle.ecma_place.specs.Atom.{borrowed_atom};
+    ghost use Rattle.ecma_span.specs.Atom.{borrowed_atom};
 
     ghost from_gives = { λ s a. a ≡ borrowed_atom s.now };
 
@@ -88,7 +88,7 @@ impl<'a> From<&'a str> for Atom<'a> {
 
 impl<'a> From<String> for Atom<'a> {
     ghost use Rattle.std.specs.Prelude.{string_bytes};
-    ghost use Rattle.ecma_place.specs.Atom.{owned_atom};
+    ghost use Rattle.ecma_span.specs.Atom.{owned_atom};
 
     ghost from_gives = { λ s a. a ≡ owned_atom (string_bytes s) };
 

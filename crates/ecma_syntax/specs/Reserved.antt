@@ -3,7 +3,7 @@
 -- ECMA-262, 12.7.2, calls these ReservedWord, and 13.1.1 adds those of strict mode code, of generators, of async
 -- functions, of static blocks and of modules. The table is our own choice.
 use Rattle.std.specs.Prelude.{Bool, true, false, ◌||◌}
-use Rattle.ecma_settings.specs.declared.context.Context.{Context}
+use Rattle.ecma_syntax.specs.declared.context.Context.{Context}
 use Rattle.ecma_word.specs.declared.keyword.Keyword.{Keyword}
 use Rattle.ecma_word.specs.declared.keyword.Keyword.TheVariants.{Await, Let, Yield}
 use Rattle.ecma_word.specs.declared.known_ident.KnownIdent.{KnownIdent}

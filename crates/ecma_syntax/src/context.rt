@@ -1,6 +1,6 @@
 //! What the layer above says of the code that is being read.
 ghost use Rattle.std.specs.Prelude.{◌≡◌};
-ghost use Rattle.ecma_settings.specs.Reserved.{is_reserved, is_reserved_keyword, is_reserved_name};
+ghost use Rattle.ecma_syntax.specs.Reserved.{is_reserved, is_reserved_keyword, is_reserved_name};
 
 use ecma_word::keyword::Keyword;
 use ecma_word::known_ident::KnownIdent;

@@ -1,13 +1,13 @@
 -- The settings where none are given: ECMAScript with every option off, for the fifth edition, its numbers by the crate's rule;
 -- and the context in which no flag is set.
 use Rattle.std.specs.Prelude.{false}
-use Rattle.ecma_settings.specs.declared.context.Context.{Context}
-use Rattle.ecma_settings.specs.declared.settings.Syntax.{Syntax}
-use Rattle.ecma_settings.specs.declared.settings.Syntax.TheVariants.{Es}
-use Rattle.ecma_settings.specs.declared.settings.EsVersion.{EsVersion}
-use Rattle.ecma_settings.specs.declared.settings.EsVersion.TheVariants.{Es5}
-use Rattle.ecma_settings.specs.declared.settings.NumberRule.{NumberRule}
-use Rattle.ecma_settings.specs.declared.settings.NumberRule.TheVariants.{Crate}
+use Rattle.ecma_syntax.specs.declared.context.Context.{Context}
+use Rattle.ecma_syntax.specs.declared.settings.Syntax.{Syntax}
+use Rattle.ecma_syntax.specs.declared.settings.Syntax.TheVariants.{Es}
+use Rattle.ecma_syntax.specs.declared.settings.EsVersion.{EsVersion}
+use Rattle.ecma_syntax.specs.declared.settings.EsVersion.TheVariants.{Es5}
+use Rattle.ecma_syntax.specs.declared.settings.NumberRule.{NumberRule}
+use Rattle.ecma_syntax.specs.declared.settings.NumberRule.TheVariants.{Crate}
 
 abbrev pub syntax : Syntax
 syntax = Es (record {

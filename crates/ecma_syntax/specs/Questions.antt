@@ -1,7 +1,7 @@
 -- What a text in a language may hold: a row for each question, with its answers for ECMAScript and for TypeScript.
 use Rattle.std.specs.Prelude.{Bool, true, false, not}
-use Rattle.ecma_settings.specs.declared.settings.Syntax.{Syntax}
-use Rattle.ecma_settings.specs.declared.settings.Syntax.TheVariants.{Es, Typescript}
+use Rattle.ecma_syntax.specs.declared.settings.Syntax.{Syntax}
+use Rattle.ecma_syntax.specs.declared.settings.Syntax.TheVariants.{Es, Typescript}
 
 abbrev pub auto_accessors : Syntax → Bool
 auto_accessors (Es es) = es.auto_accessors

@@ -1,7 +1,7 @@
 //! Which language a text is in, and which version of ECMAScript its reader wants.
 ghost use Rattle.std.specs.Prelude.{◌≡◌};
-ghost use Rattle.ecma_settings.specs.Questions as question;
-ghost use Rattle.ecma_settings.specs.Defaults as default_of;
+ghost use Rattle.ecma_syntax.specs.Questions as question;
+ghost use Rattle.ecma_syntax.specs.Defaults as default_of;
 
 use serde::{Deserialize, Serialize};
 

@@ -1,3 +1,0 @@
-pub mod Defaults
-pub mod Questions
-pub mod Reserved
