@@ -1,4 +1,4 @@
-//! Tests of single calls of the lexer: what each returns and leaves.
+//! Tests of calls of the lexer: what each returns and leaves, and which comments and errors it keeps.
 #![tactic(auto)]
 
 #[cfg(test)]

@@ -1,4 +1,4 @@
-//! Tests of `ecma_tracked`.
+//! Tests of `ecma_tracked` and `ecma_roles`.
 #![tactic(auto)]
 
 #[cfg(test)]

@@ -1,6 +1,9 @@
-//! Rows of tracked lexers: what they read and expect, copies, and going back.
+//! Rows of tracked lexers: what they read and expect, copies, and going back; and of tracks: slashes, and brackets within
+//! brackets.
 mod back;
 mod copies;
+mod depth;
 mod reading;
 mod refusals;
 mod rows;
+mod slashes;

@@ -1,5 +1,0 @@
-//! Tests of kept comments and errors.
-#![tactic(auto)]
-
-#[cfg(test)]
-mod tests;

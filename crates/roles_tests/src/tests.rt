@@ -1,3 +1,0 @@
-//! Tests of tracks.
-mod depth;
-mod slashes;
