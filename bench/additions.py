@@ -72,15 +72,13 @@ def has_only_gained(old, new, parts):
 
 
 def said(row):
-    """What a declaration says that a crate is shown, wherever it stands: of a list of modules each by itself, and an enum's
-    variants in no order, which no contract names."""
-    first, *rest = lines = row[2].text.split("\n")
-    if all(re.match(r"(pub(\([a-z ]+\))? )?mod\b|#!", it) for it in lines):
-        return [it.removeprefix("pub ") for it in lines]
-    return ["\n".join([first, *sorted(rest)]) if re.match(r"(pub )?enum\b", first) else row[2].text]
+    """What a declaration says that a crate is shown, wherever it stands: an enum's variants in no order, which no contract
+    names."""
+    first, *rest = row[2].text.split("\n")
+    return "\n".join([first, *sorted(rest)]) if re.match(r"(pub )?enum\b", first) else row[2].text
 
 
 def is_shown_as_much(old, new):
     """Whether what a crate reaches, as `reached` has it of the old and of the new checkout, has only gained declarations."""
-    then, now = (Counter(it for row in reached(*one) for it in said(row)) for one in (old, new))
+    then, now = (Counter(map(said, reached(*one))) for one in (old, new))
     return not then - now
