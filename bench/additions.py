@@ -1,10 +1,10 @@
-"""Whether a crate, and what it is shown, have only gained declarations since another checkout. A body that was refused there is
-then refused here too: the definitions and contracts that it breaks still stand, and nothing that they name has changed."""
+"""Whether a crate has only gained declarations since another checkout, and what it is shown has only gained or only lost some. A
+body that was refused there is then refused here too: the definitions and contracts that it breaks still stand, and nothing that
+they name has changed. Where what is shown is less, what would prove the body here would have proved it there."""
 
 import difflib
 import os
 import re
-from collections import Counter
 
 from shown import files_below, reached, text_of
 
@@ -78,7 +78,8 @@ def said(row):
     return "\n".join([first, *sorted(rest)]) if re.match(r"(pub )?enum\b", first) else row[2].text
 
 
-def is_shown_as_much(old, new):
-    """Whether what a crate reaches, as `reached` has it of the old and of the new checkout, has only gained declarations."""
-    then, now = (Counter(map(said, reached(*one))) for one in (old, new))
-    return not then - now
+def is_shown_alike(old, new):
+    """Whether what a crate reaches, as `reached` has it of the old and of the new checkout, has only gained declarations, or
+    only lost some."""
+    then, now = (set(map(said, reached(*one))) for one in (old, new))
+    return then <= now or now <= then
