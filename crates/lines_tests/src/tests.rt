@@ -137,6 +137,11 @@ impl Write for Page {
     }
 }
 
+/// The bytes are the same. Here alone, as it brings printing into a proof.
+fn assert_bytes(rt: &impl Abort, found: &[u8], expected: &[u8]) {
+    assert_eq!(rt; found, expected);
+}
+
 /// Runs over memory, and asserts the status and what was written.
 fn assert_run(
     rt: &impl Abort,
@@ -148,8 +153,8 @@ fn assert_run(
 ) {
     let mut reader = input;
     let mut writer = Vec::new(alloc);
-    assert_eq!(rt; run(alloc, words, &mut reader, &mut writer), status);
-    assert_eq!(rt; writer.as_slice(), output);
+    assert!(rt; run(alloc, words, &mut reader, &mut writer) == status);
+    assert_bytes(rt, writer.as_slice(), output);
 }
 
 /// Words as a command line gives them.
@@ -645,9 +650,9 @@ fn fails_where_a_read_fails(rt: HostRuntime) {
         let script = [Call::Gives(b'a'), Call::Fails(kind), Call::Gives(b'b')];
         let mut reader = Scripted::new(&script);
         let mut writer = Page::new(PAGE, PAGE, WhenFull::Fails);
-        assert_eq!(rt; run(rt.alloc(), &[], &mut reader, &mut writer), 1);
-        assert_eq!(rt; writer.held(), b"".as_slice());
-        assert_eq!(rt; reader.made, 2);
+        assert!(rt; run(rt.alloc(), &[], &mut reader, &mut writer) == 1);
+        assert_bytes(&rt, writer.held(), b"");
+        assert!(rt; reader.made == 2);
     }
 }
 
@@ -665,11 +670,9 @@ fn reads_to_the_end(rt: HostRuntime) -> Result<(), Fail> {
     let mut script = [Call::Gives(b' '); 300];
     script[299] = Call::Gives(b'a');
     let mut writer = Page::new(PAGE, PAGE, WhenFull::Fails);
-    assert_eq!(rt;
-        run(rt.alloc(), &[], &mut Scripted::new(&script), &mut writer),
-        0
-    );
-    assert_eq!(rt; writer.held(), b"299 300 lf Ident a\n".as_slice());
+    let status = run(rt.alloc(), &[], &mut Scripted::new(&script), &mut writer);
+    assert!(rt; status == 0);
+    assert_bytes(&rt, writer.held(), b"299 300 lf Ident a\n");
     let mut long = vec![in rt.alloc(); b' '; 200_000]?;
     long.push(b'a')?;
     assert_run(
@@ -692,9 +695,9 @@ fn assert_taken(
 ) -> Result<(), Fail> {
     let arguments = arguments(&(Started { arguments: started }, alloc))?;
     let words = words(arguments.as_slice());
-    assert_eq!(rt; words.len(), taken.len());
+    assert!(rt; words.len() == taken.len());
     for (word, wanted) in words.iter().zip(taken) {
-        assert_eq!(rt; word.as_str(), *wanted);
+        assert_bytes(rt, word.as_bytes(), wanted.as_bytes());
     }
     Ok(())
 }
@@ -729,21 +732,17 @@ fn fails_where_a_write_fails(rt: HostRuntime) {
         let mut reader = *input;
         let mut writer = Page::new(*room, *most, *when_full);
         let status = run(rt.alloc(), &[], &mut reader, &mut writer);
-        assert_eq!(rt; (status, writer.held()), (1, *sent));
+        assert!(rt; status == 1);
+        assert_bytes(&rt, writer.held(), sent);
     }
 }
 
 #[test]
 fn writes_a_byte_at_a_time(rt: HostRuntime) {
     let mut writer = Page::new(PAGE, 1, WhenFull::Fails);
-    assert_eq!(rt;
-        run(rt.alloc(), &[], &mut b"a b".as_slice(), &mut writer),
-        0
-    );
-    assert_eq!(rt;
-        writer.held(),
-        b"0 1 lf Ident a\n2 3 - Ident b\n".as_slice()
-    );
+    let status = run(rt.alloc(), &[], &mut b"a b".as_slice(), &mut writer);
+    assert!(rt; status == 0);
+    assert_bytes(&rt, writer.held(), b"0 1 lf Ident a\n2 3 - Ident b\n");
 }
 
 /// No allocation here is the test's own, so each that is refused in turn is one of `run`.
@@ -752,13 +751,10 @@ fn answers_whole_or_out_of_memory(rt: HostRuntime) {
     let mut writer = Page::new(PAGE, PAGE, WhenFull::Fails);
     let status = run(rt.alloc(), &[], &mut b"a b".as_slice(), &mut writer);
     if status == 0 {
-        assert_eq!(rt;
-            writer.held(),
-            b"0 1 lf Ident a\n2 3 - Ident b\n".as_slice()
-        );
+        assert_bytes(&rt, writer.held(), b"0 1 lf Ident a\n2 3 - Ident b\n");
     } else {
-        assert_eq!(rt; status, 5);
-        assert_eq!(rt; writer.held(), b"out of memory\n".as_slice());
+        assert!(rt; status == 5);
+        assert_bytes(&rt, writer.held(), b"out of memory\n");
     }
 }
 
@@ -767,19 +763,17 @@ fn answers_whole_or_out_of_memory(rt: HostRuntime) {
 fn gathers_all_comments_or_is_refused(rt: HostRuntime) {
     let gathered = comments_text(rt.alloc(), Options::default(), &[], "a /*b*/; /*c*/ d");
     if let Ok(lines) = gathered {
-        assert_eq!(rt;
+        assert_bytes(
+            &rt,
             lines.as_slice(),
-            b"trailing 1 2 7 block b\ntrailing 8 9 14 block c\n".as_slice()
+            b"trailing 1 2 7 block b\ntrailing 8 9 14 block c\n",
         );
     }
 }
 
 #[test]
 fn explains_a_status(rt: HostRuntime) {
-    assert_eq!(&rt;
-        explanation(1),
-        b"ecma_lex: a read or a write failed\n".as_slice()
-    );
+    assert_bytes(&rt, explanation(1), b"ecma_lex: a read or a write failed\n");
     let words = explanation(2);
     assert!(&rt; words.starts_with(b"ecma_lex: the words are tokens,") && words.ends_with(b"\n"));
     assert!(&rt;

@@ -1,4 +1,5 @@
 //! Buffers of comments.
+use super::texts::assert_text;
 use ecma_span::{Atom, BytePos, Comment, CommentKind, Span};
 use ecma_state::attachment::Around;
 use ecma_state::{BufferedComment, BufferedCommentKind, CommentsBuffer};
@@ -63,9 +64,10 @@ fn comments_are_taken_in_order(rt: HostRuntime) -> Result<(), Fail> {
     let alloc = rt.alloc();
     let mut out = String::new(alloc);
     write_in_order(&mut out, &mut CommentsBuffer::new(alloc))?;
-    assert_eq!(rt;
+    assert_text(
+        &rt,
         out.as_str(),
-        "trailing 3 4..9 Block [t]; leading 20 10..15 Block [t]; again"
+        "trailing 3 4..9 Block [t]; leading 20 10..15 Block [t]; again",
     );
     Ok(())
 }
@@ -88,9 +90,10 @@ fn waiting_comments_are_taken_by_themselves(rt: HostRuntime) -> Result<(), Fail>
     let alloc = rt.alloc();
     let mut out = String::new(alloc);
     write_waiting_first(&mut out, &mut CommentsBuffer::new(alloc))?;
-    assert_eq!(rt;
+    assert_text(
+        &rt,
         out.as_str(),
-        "leading 0 1..5 Block [t]; leading 0 12..16 Block [t]; again; trailing 6 7..11 Block [t]"
+        "leading 0 1..5 Block [t]; leading 0 12..16 Block [t]; again; trailing 6 7..11 Block [t]",
     );
     Ok(())
 }
@@ -104,7 +107,7 @@ fn a_copied_comment_is_the_same(rt: HostRuntime) -> Result<(), Fail> {
     let alloc = rt.alloc();
     let mut out = String::new(alloc);
     write_copy(alloc, &mut out, &trailing(3, 4, 9))?;
-    assert_eq!(rt; out.as_str(), "trailing 3 4..9 Block [t]");
+    assert_text(&rt, out.as_str(), "trailing 3 4..9 Block [t]");
     Ok(())
 }
 
@@ -197,7 +200,7 @@ fn assert_attached(rt: &impl Abort, alloc: Global, read: &Read) -> Result<(), Fa
         next: next.map(BytePos),
     };
     let listing = attached_listing(alloc, around, found)?;
-    assert_eq!(rt; listing.as_str(), *expected);
+    assert_text(rt, listing.as_str(), expected);
     Ok(())
 }
 
@@ -253,11 +256,12 @@ fn comments_are_handed_over_once_and_in_order(rt: HostRuntime) -> Result<(), Fai
     let mut store = Store::new(alloc, 9);
     write_handed_twice(&mut out, &mut CommentsBuffer::new(alloc), &mut store)?;
     // What waits is not handed over.
-    assert_eq!(rt;
+    assert_text(
+        &rt,
         out.as_str(),
         "handed; trailing 3 4..9 Block [t]; leading 20 10..15 Block [t]; trailing 25 26..31 Block [t]; \
          handed; trailing 3 4..9 Block [t]; leading 20 10..15 Block [t]; trailing 25 26..31 Block [t]; \
-         left; leading 40 32..37 Block [t]"
+         left; leading 40 32..37 Block [t]",
     );
     Ok(())
 }
@@ -281,12 +285,13 @@ fn comments_from_a_refused_one_on_are_kept(rt: HostRuntime) -> Result<(), Fail> 
     let mut out = String::new(alloc);
     let mut store = Store::new(alloc, 1);
     write_refused_first(&mut out, &mut CommentsBuffer::new(alloc), &mut store)?;
-    assert_eq!(rt;
+    assert_text(
+        &rt,
         out.as_str(),
         "refused; trailing 3 4..9 Block [t]; \
          left; leading 20 10..15 Block [t]; trailing 25 26..31 Block [t]; leading 40 32..37 Block [t]; \
          handed; trailing 3 4..9 Block [t]; leading 20 10..15 Block [t]; trailing 25 26..31 Block [t]; \
-         left; leading 40 32..37 Block [t]"
+         left; leading 40 32..37 Block [t]",
     );
     Ok(())
 }

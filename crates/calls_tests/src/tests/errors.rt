@@ -1,4 +1,5 @@
 //! What becomes of errors that wait, and of those of the layer above.
+use super::texts::assert_text;
 use ecma_span::{BytePos, Span};
 use ecma_stream::{Lexer, Tokens};
 use ecma_token::{Error, SyntaxError};
@@ -27,9 +28,10 @@ fn what_waits_is_recorded_once_the_code_is_a_module(rt: HostRuntime) -> Result<(
     let alloc = rt.alloc();
     let mut out = String::new(alloc);
     write_late_module(alloc, &mut out, &mut opened(alloc, PLAIN, "a\n-->x\nb")?)?;
-    assert_eq!(rt;
+    assert_text(
+        &rt,
         out.as_str(),
-        "0..1 lf name [a]; 7..8 lf name [b]; module; end; recorded 2..5 Legacy comments cannot be used in module code"
+        "0..1 lf name [a]; 7..8 lf name [b]; module; end; recorded 2..5 Legacy comments cannot be used in module code",
     );
     Ok(())
 }
@@ -67,9 +69,10 @@ fn takes_in_errors(rt: HostRuntime) -> Result<(), Fail> {
     let alloc = rt.alloc();
     let mut out = String::new(alloc);
     write_added(alloc, &mut out, &mut opened(alloc, PLAIN, "")?)?;
-    assert_eq!(rt;
+    assert_text(
+        &rt,
         out.as_str(),
-        "recorded 1..2 Legacy octal escape is not permitted in strict mode; waiting 1..2 Merge conflict marker encountered."
+        "recorded 1..2 Legacy octal escape is not permitted in strict mode; waiting 1..2 Merge conflict marker encountered.",
     );
     Ok(())
 }

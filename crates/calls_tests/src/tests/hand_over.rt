@@ -1,4 +1,5 @@
 //! Comments that a lexer hands over to a store.
+use super::texts::assert_text;
 use ecma_stream::{Lexer, hand_comments};
 use listing::listing::{COLLECTING, opened, write_comments, write_next, write_note, write_tokens};
 use listing::store::Store;
@@ -66,11 +67,12 @@ fn comments_behind_a_refused_one_go_to_the_next_store(rt: HostRuntime) -> Result
     let mut out = String::new(alloc);
     let mut first = Store::new(alloc, 1);
     write_in_two_stores(&mut out, &mut lexer, &mut first, &mut Store::new(alloc, 9))?;
-    assert_eq!(rt;
+    assert_text(
+        &rt,
         out.as_str(),
         "0..1 lf name [f]; 1..2 - LParen; 2..3 - RParen; \
          refused 1; trailing 3 10..13 Line [b]; \
-         handed 1; trailing 3 4..9 Block [a]; handed 1; trailing 3 4..9 Block [a]"
+         handed 1; trailing 3 4..9 Block [a]; handed 1; trailing 3 4..9 Block [a]",
     );
     Ok(())
 }
@@ -81,9 +83,10 @@ fn comments_are_handed_over_behind_the_end_alone(rt: HostRuntime) -> Result<(), 
     let mut lexer = opened(alloc, COLLECTING, "/*a*/ b")?;
     let mut out = String::new(alloc);
     write_hand_overs(&mut out, &mut lexer, &mut Store::new(alloc, 9))?;
-    assert_eq!(rt;
+    assert_text(
+        &rt,
         out.as_str(),
-        "not yet 0; 6..7 lf name [b]; not yet 0; refused 0; handed 1"
+        "not yet 0; 6..7 lf name [b]; not yet 0; refused 0; handed 1",
     );
     Ok(())
 }

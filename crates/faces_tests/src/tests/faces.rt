@@ -691,9 +691,9 @@ const FAULT: usize = "a.js:1:1: Expected unicode escape\n".len();
 fn rows_leave_in_blocks(rt: HostRuntime) -> Result<(), Fail> {
     // 60,000 rows of 15 to 25 bytes.
     let (told, writes, faults) = told_to(rt.alloc(), Face::Tokens, usize::MAX)?;
-    assert_eq!(rt; told, Ok(()));
+    assert!(rt; told.is_ok());
     assert!(rt; 10 <= writes && writes <= 30, "{writes}");
-    assert_eq!(rt; faults, 2 * FAULT + 4);
+    assert!(rt; faults == 2 * FAULT + 4);
     Ok(())
 }
 
@@ -702,9 +702,9 @@ fn a_closed_pipe_ends_the_reading(rt: HostRuntime) -> Result<(), Fail> {
     // Errors are told at the end.
     for room in [0, 1, 65_535] {
         let (told, writes, faults) = told_to(rt.alloc(), Face::Tokens, room)?;
-        assert_eq!(rt; told, Err(Stop::Closed));
+        assert!(rt; matches!(told, Err(Stop::Closed)));
         assert!(rt; writes <= 2, "{writes}");
-        assert_eq!(rt; faults, 0);
+        assert!(rt; faults == 0);
     }
     Ok(())
 }
@@ -747,13 +747,8 @@ fn files_are_chosen(rt: HostRuntime) -> Result<(), Fail> {
         as_is: true,
     };
     for (name, is_directory, in_plain, in_hidden, in_as_is) in HELD {
-        assert_eq!(rt; is_chosen(plain, name, *is_directory), *in_plain, "{name}");
-        assert_eq!(rt;
-            is_chosen(hidden, name, *is_directory),
-            *in_hidden,
-            "{name}"
-        );
-        assert_eq!(rt; is_chosen(as_is, name, *is_directory), *in_as_is, "{name}");
+        let in_each = [plain, hidden, as_is].map(|chosen| is_chosen(chosen, name, *is_directory));
+        assert!(rt; in_each == [*in_plain, *in_hidden, *in_as_is], "{name}");
     }
     Ok(())
 }

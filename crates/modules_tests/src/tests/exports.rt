@@ -1,13 +1,10 @@
 //! What texts export. What is expected is what the page of es-module-lexer says of its fields, and ECMA-262, 16.2.3 and 14.3.3.
 use crate::tests::reading::module;
-use crate::tests::shown::exports;
+use crate::tests::shown::{Row, assert_row, exports};
 use listing::listing::{MODULE, Settings};
 use std::alloc::{AllocError, Global};
 use std::process::Abort;
 use std::test::Fail;
-
-/// A text, and the rows of its exports.
-pub type Row = (&'static str, &'static str);
 
 const CLAUSES: &[Row] = &[
     ("export { a as b, c }", "b=a, c=c"),
@@ -112,8 +109,7 @@ pub fn check_exports(
     rows: &[Row],
 ) -> Result<(), Fail> {
     for row in rows {
-        let out = shown(alloc, settings, *row)?;
-        assert_eq!(rt; out.as_str(), row.1, "in {}", row.0);
+        assert_row(rt, row, shown(alloc, settings, *row)?.as_str());
     }
     Ok(())
 }
@@ -171,9 +167,8 @@ fn flags_of(alloc: Global, text: &str) -> Result<(bool, bool), AllocError> {
 #[test]
 fn facades_and_module_syntax_are_told(rt: HostRuntime) -> Result<(), Fail> {
     for row in FLAGS {
-        let (is_facade, has_module_syntax) = flags_of(rt.alloc(), row.0)?;
-        assert_eq!(&rt; is_facade, row.1, "in {}", row.0);
-        assert_eq!(&rt; has_module_syntax, row.2, "in {}", row.0);
+        let found = flags_of(rt.alloc(), row.0)?;
+        assert!(&rt; found == (row.1, row.2), "in {}", row.0);
     }
     Ok(())
 }
@@ -200,9 +195,8 @@ fn owned(alloc: Global, text: &str) -> Result<(usize, usize), AllocError> {
 #[test]
 fn exports_of_imports_are_told(rt: HostRuntime) -> Result<(), Fail> {
     for row in OWNED {
-        let (first, count) = owned(rt.alloc(), row.0)?;
-        assert_eq!(&rt; first, row.1, "in {}", row.0);
-        assert_eq!(&rt; count, row.2, "in {}", row.0);
+        let found = owned(rt.alloc(), row.0)?;
+        assert!(&rt; found == (row.1, row.2), "in {}", row.0);
     }
     Ok(())
 }

@@ -1,14 +1,11 @@
 //! What texts import. What is expected is what the page of es-module-lexer says of its fields, and ECMA-262, 16.2.2, 13.3.10 and
 //! 13.3.12.
 use crate::tests::reading::{module, with_require};
-use crate::tests::shown::imports;
+use crate::tests::shown::{Row, assert_row, imports};
 use listing::listing::MODULE;
 use std::alloc::{AllocError, Global};
 use std::process::Abort;
 use std::test::Fail;
-
-/// A text, and the rows of its imports.
-type Row = (&'static str, &'static str);
 
 const DECLARATIONS: &[Row] = &[
     ("import \"a\"", "static \"a\" | import \"a\""),
@@ -201,8 +198,7 @@ fn shown(alloc: Global, row: Row) -> Result<String, AllocError> {
 
 fn check(rt: &impl Abort, alloc: Global, rows: &[Row]) -> Result<(), Fail> {
     for row in rows {
-        let out = shown(alloc, *row)?;
-        assert_eq!(rt; out.as_str(), row.1, "in {}", row.0);
+        assert_row(rt, row, shown(alloc, *row)?.as_str());
     }
     Ok(())
 }
@@ -240,8 +236,7 @@ fn shown_with_require(alloc: Global, row: Row) -> Result<String, AllocError> {
 #[test]
 fn requires_of_commonjs_are_told(rt: HostRuntime) -> Result<(), Fail> {
     for row in REQUIRES {
-        let out = shown_with_require(rt.alloc(), *row)?;
-        assert_eq!(&rt; out.as_str(), row.1, "in {}", row.0);
+        assert_row(&rt, row, shown_with_require(rt.alloc(), *row)?.as_str());
     }
     Ok(())
 }

@@ -2,6 +2,15 @@
 use ecma_modules::{Export, Form, Import, Module, Phase};
 use ecma_span::Span;
 use std::alloc::{AllocError, Global};
+use std::process::Abort;
+
+/// A text, and the rows that are told of it.
+pub type Row = (&'static str, &'static str);
+
+/// What is told of a text is what its row says. Here alone, as it brings printing into a proof.
+pub fn assert_row(rt: &impl Abort, row: &Row, found: &str) {
+    assert_eq!(rt; found, row.1, "in {}", row.0);
+}
 
 fn text_at(text: &str, span: Span) -> &str {
     text.get(span.lo.0 as usize..span.hi.0 as usize)

@@ -1,7 +1,7 @@
 //! What texts of TypeScript import and export. What is expected is what TypeScript's grammar says.
-use crate::tests::exports::{Row, check_exports};
+use crate::tests::exports::check_exports;
 use crate::tests::reading::{MODULE_TS, module};
-use crate::tests::shown::imports;
+use crate::tests::shown::{Row, assert_row, imports};
 use std::alloc::{AllocError, Global};
 use std::process::Abort;
 use std::test::Fail;
@@ -137,8 +137,7 @@ fn shown(alloc: Global, row: Row) -> Result<String, AllocError> {
 #[test]
 fn imports_of_typescript_are_told(rt: HostRuntime) -> Result<(), Fail> {
     for row in IMPORTS {
-        let out = shown(rt.alloc(), *row)?;
-        assert_eq!(&rt; out.as_str(), row.1, "in {}", row.0);
+        assert_row(&rt, row, shown(rt.alloc(), *row)?.as_str());
     }
     Ok(())
 }

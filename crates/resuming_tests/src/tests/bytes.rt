@@ -52,7 +52,7 @@ fn byte_of(alloc: Global, row: &Row) -> Result<Option<u8>, AllocError> {
 
 fn assert_byte(rt: &impl Abort, alloc: Global, row: &Row) -> Result<(), AllocError> {
     let found = byte_of(alloc, row)?;
-    assert_eq!(rt; found, Some(row.4));
+    assert!(rt; found == Some(row.4));
     Ok(())
 }
 
@@ -88,7 +88,7 @@ fn are_read_back(alloc: Global, bytes: &[u8]) -> Result<bool, AllocError> {
 }
 
 fn assert_length(rt: &impl Abort, bytes: &[u8], length: usize) {
-    assert_eq!(rt; bytes.len(), length);
+    assert!(rt; bytes.len() == length);
 }
 
 fn assert_same(rt: &impl Abort, alloc: Global, bytes: &[u8]) -> Result<(), AllocError> {
@@ -165,7 +165,7 @@ fn assert_changed(
     expected: bool,
 ) -> Result<(), AllocError> {
     let found = is_changed_checkpoint(alloc, index, byte)?;
-    assert_eq!(rt; found, expected);
+    assert!(rt; found == expected);
     Ok(())
 }
 
@@ -190,7 +190,7 @@ fn assert_first(
     expected: bool,
 ) -> Result<(), AllocError> {
     let found = is_first_checkpoint(alloc, count)?;
-    assert_eq!(rt; found, expected);
+    assert!(rt; found == expected);
     Ok(())
 }
 

@@ -148,7 +148,7 @@ fn assert_begins(
     begin: u32,
 ) -> Result<(), AllocError> {
     let found = begin_behind(alloc, reads)?;
-    assert_eq!(rt; found, begin);
+    assert!(rt; found == begin);
     Ok(())
 }
 

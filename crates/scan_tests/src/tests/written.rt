@@ -10,6 +10,11 @@ use std::alloc::AllocError;
 use std::process::Abort;
 use std::test::Fail;
 
+/// What was written of a text is what its row says. Here alone, as it brings printing into a proof.
+fn assert_line(rt: &impl Abort, text: &str, found: &str, expected: &str) {
+    assert_eq!(rt; found, expected, "{text:?}");
+}
+
 /// Asserts that this is what was written of the text.
 pub(super) fn check(
     rt: &impl Abort,
@@ -17,8 +22,7 @@ pub(super) fn check(
     written: Result<String, AllocError>,
     expected: &str,
 ) -> Result<(), Fail> {
-    let written = written?;
-    assert_eq!(rt; written.as_str(), expected, "{text}");
+    assert_line(rt, text, written?.as_str(), expected);
     Ok(())
 }
 

@@ -80,9 +80,9 @@ fn pop_three(contexts: &mut TokenContexts) -> [Option<TokenContext>; 3] {
 #[test]
 fn contexts_are_a_stack(rt: HostRuntime) -> Result<(), Fail> {
     let mut contexts = TokenContexts::new(rt.alloc());
-    assert_eq!(rt; seen(&contexts), (true, 0, None));
+    assert!(rt; seen(&contexts) == (true, 0, None));
     push_two(&mut contexts)?;
-    assert_eq!(rt; seen(&contexts), (false, 2, Some(TokenContext::Tpl)));
+    assert!(rt; seen(&contexts) == (false, 2, Some(TokenContext::Tpl)));
     Ok(())
 }
 
@@ -93,7 +93,7 @@ fn a_copy_of_contexts_stays(rt: HostRuntime) -> Result<(), Fail> {
     let copy = contexts.copy()?;
     let taken = [Some(TokenContext::Tpl), Some(TokenContext::BraceStmt), None];
     assert!(rt; pop_three(&mut contexts) == taken);
-    assert_eq!(rt; seen(&copy), (false, 2, Some(TokenContext::Tpl)));
+    assert!(rt; seen(&copy) == (false, 2, Some(TokenContext::Tpl)));
     Ok(())
 }
 
@@ -126,7 +126,7 @@ fn templates_stand_in_each_other(rt: HostRuntime) -> Result<(), Fail> {
     ];
     let mut state = start(rt.alloc());
     assert_rows(&rt, &mut state, ROWS)?;
-    assert_eq!(rt; state.contexts.current(), Some(TokenContext::BraceStmt));
+    assert!(rt; state.contexts.current() == Some(TokenContext::BraceStmt));
     Ok(())
 }
 
@@ -210,10 +210,10 @@ fn take_many(state: &mut State, kind: TokenKind, times: usize) -> Result<(), All
 fn contexts_may_be_many(rt: HostRuntime) -> Result<(), Fail> {
     let mut state = start(rt.alloc());
     take_many(&mut state, TokenKind::LParen, 129)?;
-    assert_eq!(rt; state.contexts.len(), 130);
-    assert_eq!(rt; state.contexts.copy()?.len(), 130);
+    assert!(rt; state.contexts.len() == 130);
+    assert!(rt; state.contexts.copy()?.len() == 130);
     take_many(&mut state, TokenKind::RParen, 129)?;
-    assert_eq!(rt; state.contexts.len(), 1);
-    assert_eq!(rt; state.contexts.current(), Some(TokenContext::BraceStmt));
+    assert!(rt; state.contexts.len() == 1);
+    assert!(rt; state.contexts.current() == Some(TokenContext::BraceStmt));
     Ok(())
 }

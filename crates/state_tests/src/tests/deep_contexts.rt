@@ -44,10 +44,10 @@ impl Beside {
             [current] => (None, Some(*current)),
             _ => (None, None),
         };
-        assert_eq!(rt; self.stack.len(), self.list.len());
-        assert_eq!(rt; self.stack.is_empty(), self.list.is_empty());
-        assert_eq!(rt; self.stack.current(), current);
-        assert_eq!(rt; self.stack.around_current(), around);
+        assert!(rt; self.stack.len() == self.list.len());
+        assert!(rt; self.stack.is_empty() == self.list.is_empty());
+        assert!(rt; self.stack.current() == current);
+        assert!(rt; self.stack.around_current() == around);
     }
 
     fn rise(&mut self, rt: &impl Abort, depth: usize, round: usize) -> Result<(), AllocError> {
@@ -61,7 +61,7 @@ impl Beside {
 
     fn sink(&mut self, rt: &impl Abort, depth: usize) {
         for _ in depth..self.list.len() {
-            assert_eq!(rt; self.stack.pop(), self.list.pop());
+            assert!(rt; self.stack.pop() == self.list.pop());
             self.assert_same(rt);
         }
     }

@@ -9,6 +9,11 @@ use std::alloc::{AllocError, Global};
 use std::process::Abort;
 use std::test::Fail;
 
+/// The texts are the same. Here alone, as it brings printing into a proof.
+fn assert_text(rt: &impl Abort, found: &str, expected: &str) {
+    assert_eq!(rt; found, expected);
+}
+
 fn module() -> Context {
     Context {
         module: true,
@@ -81,7 +86,7 @@ fn errors_stand_in_order(rt: HostRuntime) -> Result<(), Fail> {
     let alloc = rt.alloc();
     let mut out = String::new(alloc);
     write_order(alloc, &mut out, &mut ErrorList::new(alloc))?;
-    assert_eq!(rt; out.as_str(), "new, 0, empty; two 1 2, 2; truncated 1");
+    assert_text(&rt, out.as_str(), "new, 0, empty; two 1 2, 2; truncated 1");
     Ok(())
 }
 
@@ -105,7 +110,7 @@ fn a_list_takes_in_another(rt: HostRuntime) -> Result<(), Fail> {
     let mut out = String::new(alloc);
     let mut more = ErrorList::new(alloc);
     write_appended(alloc, &mut out, &mut ErrorList::new(alloc), &mut more)?;
-    assert_eq!(rt; out.as_str(), "list 1 3; more, 0, empty");
+    assert_text(&rt, out.as_str(), "list 1 3; more, 0, empty");
     Ok(())
 }
 
@@ -151,7 +156,7 @@ fn assert_taken(
 ) -> Result<(), Fail> {
     let mut out = String::new(alloc);
     write_taken(alloc, &mut out, &mut ErrorLists::new(alloc), context)?;
-    assert_eq!(rt; out.as_str(), expected);
+    assert_text(rt, out.as_str(), expected);
     Ok(())
 }
 
@@ -181,9 +186,10 @@ fn what_waits_is_recorded_in_module_code(rt: HostRuntime) -> Result<(), Fail> {
     let alloc = rt.alloc();
     let mut out = String::new(alloc);
     write_entered(alloc, &mut out, &mut ErrorLists::new(alloc))?;
-    assert_eq!(rt;
+    assert_text(
+        &rt,
         out.as_str(),
-        "recorded 1; waiting 2 3; recorded 1 2 3; waiting"
+        "recorded 1; waiting 2 3; recorded 1 2 3; waiting",
     );
     Ok(())
 }

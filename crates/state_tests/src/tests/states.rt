@@ -54,7 +54,7 @@ const ROWS: &[(TokenKind, Answers)] = &[
 #[test]
 fn answers_go_by_the_token_before(rt: HostRuntime) -> Result<(), Fail> {
     for (kind, expected) in ROWS {
-        assert_eq!(rt; answers_behind(rt.alloc(), *kind)?, *expected);
+        assert!(rt; answers_behind(rt.alloc(), *kind)? == *expected);
     }
     Ok(())
 }
@@ -62,8 +62,8 @@ fn answers_go_by_the_token_before(rt: HostRuntime) -> Result<(), Fail> {
 #[test]
 fn answers_go_by_the_start_before_any_token(rt: HostRuntime) -> Result<(), Fail> {
     let fresh = State::new(rt.alloc(), Syntax::default(), BytePos(7));
-    assert_eq!(rt; answers(&fresh), (true, true, false, false));
-    assert_eq!(rt; fresh.around(None).end, BytePos(7));
+    assert!(rt; answers(&fresh) == (true, true, false, false));
+    assert!(rt; fresh.around(None).end == BytePos(7));
     Ok(())
 }
 
@@ -84,10 +84,7 @@ fn a_copy_stays_behind(rt: HostRuntime) -> Result<(), Fail> {
     let mut state = behind_quote(rt.alloc())?;
     let copy = state.copy()?;
     state.take(token(TokenKind::BackQuote, 2), false)?;
-    assert_eq!(rt;
-        (state.can_skip_space(), copy.can_skip_space()),
-        (true, false)
-    );
-    assert_eq!(rt; places(&copy), (1, 0));
+    assert!(rt; (state.can_skip_space(), copy.can_skip_space()) == (true, false));
+    assert!(rt; places(&copy) == (1, 0));
     Ok(())
 }
