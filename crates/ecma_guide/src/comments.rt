@@ -4,21 +4,26 @@ ghost use Rattle.std.specs.Prelude.{◌<◌, ◌^◌, length};
 use crate::{START, settings};
 use ecma_lexer::place::StringInput;
 use ecma_lexer::syntax::Context;
-use ecma_lexer::{CommentList, Lexer, Slashes, hand_comments, tokenize};
+use ecma_lexer::{BufferedComment, CommentList, Lexer, Slashes, hand_comments, tokenize};
 use std::alloc::{AllocError, Global};
 use std::io;
 
-/// Writes the comments of a text, each with the place of its token.
+/// Writes comments, each with the place of its token.
+fn write_comments(rt: &HostRuntime, comments: &[BufferedComment]) -> io::Result<()> {
+    for found in comments {
+        println!(rt; "{} {}", found.pos.0, found.comment.text.as_str())?;
+    }
+    Ok(())
+}
+
+/// Writes the comments of a text.
 pub(crate) fn list_comments(rt: &HostRuntime, text: &str) -> io::Result<()>
     requires { length text.now < 2 ^ 32 }
 {
     let (alloc, settings) = (rt.alloc(), settings(true));
     let context = Context::default();
     let output = tokenize(alloc, &settings, context, text, START, Slashes::ByRole)?;
-    for found in &output.gathered.comments {
-        println!(rt; "{} {}", found.pos.0, found.comment.text.as_str())?;
-    }
-    Ok(())
+    write_comments(rt, &output.gathered.comments)
 }
 
 /// Reads a text as a parser does, and counts its comments.

@@ -5,7 +5,7 @@ use crate::{START, settings};
 use ecma_lexer::place::Spanned;
 use ecma_lexer::syntax::Context;
 use ecma_lexer::token::Error;
-use ecma_lexer::{LineStarts, Slashes, read_out};
+use ecma_lexer::{LineStarts, ReadOut, Slashes, read_out};
 use std::io;
 
 /// Writes an error with its line and column.
@@ -23,6 +23,12 @@ fn write_list(rt: &HostRuntime, lines: &LineStarts, errors: &[Error]) -> io::Res
     Ok(())
 }
 
+/// Writes the errors of error tokens, and those that were recorded.
+fn write_errors(rt: &HostRuntime, lines: &LineStarts, read: &ReadOut) -> io::Result<()> {
+    write_list(rt, lines, &read.refusals)?;
+    write_list(rt, lines, read.gathered.errors.as_slice())
+}
+
 /// Writes the errors of a text that is read as a module.
 pub(crate) fn list_errors(rt: &HostRuntime, text: &str) -> io::Result<()>
     requires { length text.now < 2 ^ 32 }
@@ -35,6 +41,5 @@ pub(crate) fn list_errors(rt: &HostRuntime, text: &str) -> io::Result<()>
     let (alloc, settings) = (rt.alloc(), settings(false));
     let lines = LineStarts::of(alloc, text.as_bytes())?;
     let read = read_out(alloc, &settings, context, text, START, Slashes::ByRole)?;
-    write_list(rt, &lines, &read.refusals)?;
-    write_list(rt, &lines, read.gathered.errors.as_slice())
+    write_errors(rt, &lines, &read)
 }

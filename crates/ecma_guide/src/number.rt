@@ -4,7 +4,7 @@ ghost use Rattle.ecma_lexer.specs.Cursor.{rest};
 ghost use Rattle.ecma_lexer.specs.Numbers.{opens_number};
 
 use ecma_lexer::place::StringInput;
-use ecma_lexer::scan::scan_number;
+use ecma_lexer::scan::{Found, scan_number};
 use ecma_lexer::syntax::NumberRule;
 use ecma_lexer::token::Token;
 use std::alloc::{AllocError, Global};
@@ -19,6 +19,14 @@ fn is_at_digit(input: &StringInput) -> bool
     }
 }
 
+/// The whole value of a number that was found.
+fn whole_of(found: &Found<Token>) -> Option<u128> {
+    match &found.value {
+        Ok(Token::Num { whole, .. }) => *whole,
+        _ => None,
+    }
+}
+
 /// The whole value of the number at the cursor.
 pub(crate) fn whole_value(
     alloc: Global,
@@ -28,8 +36,7 @@ pub(crate) fn whole_value(
         return Ok(None);
     }
     let found = scan_number(alloc, input, false, NumberRule::Standard)?;
-    match found.value {
-        Ok(Token::Num { whole, .. }) => Ok(whole),
-        _ => Ok(None),
-    }
+    let whole = whole_of(&found);
+    drop(found);
+    Ok(whole)
 }

@@ -17,49 +17,76 @@ fn lexer_of<'a>(alloc: Global, text: &'a str) -> Lexer<'a>
 }
 
 /// Reads where an operand is expected: a slash begins a regular expression there.
-fn read_operand<'a>(lexer: &mut Lexer<'a>) -> Result<Option<TokenAndSpan<'a>>, AllocError> {
-    let token = lexer.read()?;
-    let Some(slash) = lexer.last_slash() else {
-        return Ok(token);
-    };
-    lexer.set_next_regexp(Some(slash));
-    let expression = lexer.read();
+fn read_operand<'a>(
+    lexer: &mut Lexer<'a>,
+    slot: &mut Option<TokenAndSpan<'a>>,
+) -> Result<(), AllocError> {
+    lexer.read_into(slot)?;
+    let slash = lexer.last_slash();
+    if slash.is_none() {
+        return Ok(());
+    }
+    lexer.set_next_regexp(slash);
+    let again = lexer.read_into(slot);
     lexer.set_next_regexp(None);
-    expression
+    again
 }
 
-/// Reads a token, and says whether it is `=>`.
-fn reads_arrow(lexer: &mut Lexer) -> Result<bool, AllocError> {
-    match lexer.read()? {
-        Some(next) => Ok(matches!(next.token, Token::Arrow)),
-        None => Ok(false),
+/// Whether the token in the slot is `=>`.
+fn is_arrow(slot: &Option<TokenAndSpan>) -> bool {
+    match slot {
+        Some(found) => matches!(found.token, Token::Arrow),
+        None => false,
     }
 }
 
 /// Whether the next token is `=>`, which is not read.
-fn is_arrow_ahead(lexer: &mut Lexer) -> Result<bool, AllocError> {
+fn is_arrow_ahead<'a>(
+    lexer: &mut Lexer<'a>,
+    slot: &mut Option<TokenAndSpan<'a>>,
+) -> Result<bool, AllocError> {
     let here = lexer.checkpoint()?;
-    let is_arrow = reads_arrow(lexer)?;
+    lexer.read_into(slot)?;
     let _went_back = lexer.rewind(&here)?;
-    Ok(is_arrow)
+    Ok(is_arrow(slot))
+}
+
+/// Whether an arrow is behind the first token.
+fn is_second_arrow<'a>(
+    lexer: &mut Lexer<'a>,
+    slot: &mut Option<TokenAndSpan<'a>>,
+) -> Result<bool, AllocError> {
+    lexer.read_into(slot)?;
+    is_arrow_ahead(lexer, slot)
 }
 
 /// Whether an arrow is behind the first token of a text.
 pub(crate) fn begins_with_arrow(alloc: Global, text: &str) -> Result<bool, AllocError>
     requires { length text.now < 2 ^ 32 }
 {
-    let mut lexer = lexer_of(alloc, text);
-    drop(lexer.read()?);
-    is_arrow_ahead(&mut lexer)
+    is_second_arrow(&mut lexer_of(alloc, text), &mut None)
+}
+
+/// Whether the token in the slot is a regular expression.
+fn is_expression(slot: &Option<TokenAndSpan>) -> bool {
+    match slot {
+        Some(found) => matches!(found.token, Token::Regex(..)),
+        None => false,
+    }
+}
+
+/// Whether the first operand is a regular expression.
+fn reads_expression<'a>(
+    lexer: &mut Lexer<'a>,
+    slot: &mut Option<TokenAndSpan<'a>>,
+) -> Result<bool, AllocError> {
+    read_operand(lexer, slot)?;
+    Ok(is_expression(slot))
 }
 
 /// Whether a regular expression is the first operand of a text.
 pub(crate) fn begins_with_expression(alloc: Global, text: &str) -> Result<bool, AllocError>
     requires { length text.now < 2 ^ 32 }
 {
-    let mut lexer = lexer_of(alloc, text);
-    match read_operand(&mut lexer)? {
-        Some(first) => Ok(matches!(first.token, Token::Regex(..))),
-        None => Ok(false),
-    }
+    reads_expression(&mut lexer_of(alloc, text), &mut None)
 }

@@ -21,7 +21,9 @@ pub(crate) fn count_kept(alloc: Global, text: &str) -> Result<usize, AllocError>
         Step::Withdraw,
     ];
     let played = replay(alloc, &settings(false), text, START, &steps)?;
-    Ok(played.kept.len())
+    let kept = played.kept.len();
+    drop(played);
+    Ok(kept)
 }
 
 /// How many pieces of a text are in no token and no comment.

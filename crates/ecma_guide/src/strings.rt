@@ -16,13 +16,16 @@ fn write_string(rt: &HostRuntime, found: &TokenAndSpan) -> io::Result<()> {
     Ok(())
 }
 
-/// Writes the values of the strings that a reader has left.
-fn write_strings(rt: &HostRuntime, reader: &mut Reader) -> io::Result<()>
+/// Writes the values of the strings that a reader has left. Each token is read into the slot.
+fn write_strings<'a>(
+    rt: &HostRuntime,
+    reader: &mut Reader<'a>,
+    slot: &mut Option<TokenAndSpan<'a>>,
+) -> io::Result<()>
     requires { IsReady reader.old }
 {
-    let mut slot = None;
-    'tokens: while reader.read_into(&mut slot)? {
-        if let Some(found) = &slot {
+    'tokens: while reader.read_into(slot)? {
+        if let Some(found) = slot {
             write_string(rt, found)?;
         }
     }
@@ -36,5 +39,5 @@ pub(crate) fn list_strings(rt: &HostRuntime, text: &str) -> io::Result<()>
     let (alloc, context) = (rt.alloc(), Context::default());
     let settings = settings(false);
     let mut reader = Reader::new(alloc, &settings, context, text, START, Slashes::ByRole)?;
-    write_strings(rt, &mut reader)
+    write_strings(rt, &mut reader, &mut None)
 }
