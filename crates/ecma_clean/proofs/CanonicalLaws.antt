@@ -26,13 +26,13 @@ use Rattle.ecma_token.specs.Kinds.{kind_of}
 use Rattle.ecma_token.specs.View.{TokenView}
 use Rattle.ecma_token.specs.declared.kind.TokenKind.{TokenKind}
 use Rattle.ecma_token.specs.declared.kind.TokenKind.TheVariants.{Template}
-use Rattle.ecma_parts.specs.BareReads.{Bare}
-use Rattle.ecma_parts.specs.Bearing.{Bearing, bearing_of}
+use Rattle.ecma_clean_reads.specs.BareReads.{Bare}
+use Rattle.ecma_clean_reads.specs.Bearing.{Bearing, bearing_of}
 use Rattle.ecma_clean_reads.specs.Canonical.{Own, between, canonical_behind, canonical_of, is_template_text, own_in}
 use Rattle.ecma_state.specs.Clean.{each_step, is_plain_step}
-use Rattle.ecma_parts.specs.Instance.{Change, lexer_grammar, lexer_parts, role_of, steps_as}
+use Rattle.ecma_clean_reads.specs.Instance.{Change, lexer_grammar, lexer_parts, role_of, steps_as}
 use Rattle.ecma_clean.specs.Sharing.{CanonicalIsRead, CanonicalIsShared, CanonicalRunsAlike, IsReadCleanly, begin, canonical_text_of, owned, stages_of}
-use Rattle.ecma_parts.proofs.InstanceLaws.{lexer_parts_keep, start_is_plain}
+use Rattle.ecma_clean_reads.proofs.InstanceLaws.{lexer_parts_keep, start_is_plain}
 use Rattle.ecma_clean_reads.proofs.TokensRead.{own_of}
 use Rattle.ecma_clean.proofs.WalkedRuns.{begins-start, walked-start}
 use Rattle.ecma_clean.proofs.Walking.{IsWalked, clean, is_plain_anywhere, owned_back, stage_of, unclean}

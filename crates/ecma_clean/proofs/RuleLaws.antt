@@ -31,7 +31,7 @@ use Rattle.ecma_syntax.specs.declared.settings.NumberRule.{NumberRule}
 use Rattle.ecma_syntax.specs.declared.settings.NumberRule.TheVariants.{Crate, Standard}
 use Rattle.ecma_token.specs.Kinds.{kind_of}
 use Rattle.ecma_token.specs.View.{ErrorView, SpannedView, TokenView}
-use Rattle.ecma_parts.specs.BareReads.{any_recorded, is_recorded}
+use Rattle.ecma_clean_reads.specs.BareReads.{any_recorded, is_recorded}
 use Rattle.ecma_state.specs.Clean.{each_step, is_plain_step, takes_none}
 use Rattle.ecma_clean_reads.proofs.Disposed.{some-recorded}
 use Rattle.ecma_clean_reads.proofs.Spoiling.{good-step, is_good, is_unrefused, is_unspoilt, read-poised, spoilt-is-bad, unspoilt-left, unspoilt-right}

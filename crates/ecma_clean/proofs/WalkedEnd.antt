@@ -9,7 +9,7 @@ use Rattle.clean_runs.specs.Walk.{calm_walk, is_calm, walked_if, with_moment}
 use Rattle.ecma_place.specs.Cursor.{Cursor, rest}
 use Rattle.ecma_place.specs.declared.place.BytePos.{BytePos}
 use Rattle.ecma_scan.specs.Gaps.{has_line_break}
-use Rattle.ecma_reads.proofs.EndLemmas.{reading-end}
+use Rattle.ecma_clean_reads.proofs.EndLemmas.{reading-end}
 use Rattle.ecma_state.specs.Mode.{gap_mode}
 use Rattle.ecma_state.specs.Reading.{Reading, reading}
 use Rattle.ecma_state.specs.Run.{NoSlash, act, act_on, acted_on, mode_of, reread_from}
@@ -19,10 +19,10 @@ use Rattle.ecma_state.specs.TokenAt.{is_empty}
 use Rattle.ecma_state.specs.declared.step.Step.{Step}
 use Rattle.ecma_state.specs.declared.step.Step.TheVariants.{Read, SetCtx, SetExprAllowed, SetContexts, PopContext, Reread, Withdraw, Save, Back, TakeErrors}
 use Rattle.ecma_token.specs.View.{ErrorView, TokenView}
-use Rattle.ecma_parts.specs.Bearing.{Bearing, bearing_of}
+use Rattle.ecma_clean_reads.specs.Bearing.{Bearing, bearing_of}
 use Rattle.ecma_clean_reads.specs.Canonical.{Own}
 use Rattle.ecma_state.specs.Clean.{is_plain_step, takes_none, was_again}
-use Rattle.ecma_parts.specs.Instance.{InContext, changed, lexer_grammar, steps_as}
+use Rattle.ecma_clean_reads.specs.Instance.{InContext, changed, lexer_grammar, steps_as}
 use Rattle.ecma_clean_reads.specs.Stages.{Stage, read_in, stage_with}
 use Rattle.ecma_clean_reads.proofs.Spoiling.{is_good, is_unrefused}
 use Rattle.ecma_clean.proofs.Walking.{Acts, IsWalked, Sound, acts-plain, after-is, after_read, clean, is_plain_anywhere, owned_back, stage_of, still-sound, taken-sound, walked-context, walked-step}

@@ -10,7 +10,7 @@ use Rattle.ecma_place.specs.Cursor.{Cursor, HasPlace, place, rest}
 use Rattle.ecma_place.specs.Text.{Text, place_of}
 use Rattle.ecma_place.specs.declared.place.BytePos.{BytePos}
 use Rattle.ecma_scan.specs.Expressions.{opens_expression}
-use Rattle.ecma_reads.proofs.SlashLemmas.{at-there, place-there}
+use Rattle.ecma_clean_reads.proofs.SlashLemmas.{at-there, place-there}
 use Rattle.ecma_state.specs.Reading.{Reading, reading, reading_again}
 use Rattle.ecma_state.specs.Run.{NoSlash, act, act_on, at_place, mode_of, reread_from, start_of}
 use Rattle.ecma_state.specs.Session.{Session, has_ended, kept_back, kept_of, last_flag, seen_of, state_of}
@@ -22,11 +22,11 @@ use Rattle.ecma_state.specs.declared.step.Step.{Step}
 use Rattle.ecma_state.specs.declared.step.Step.TheVariants.{Read, SetCtx, SetExprAllowed, SetContexts, PopContext, Reread, Withdraw, Save, Back, TakeErrors}
 use Rattle.ecma_token.specs.Kinds.{kind_of}
 use Rattle.ecma_token.specs.View.{SpannedView, TokenView}
-use Rattle.ecma_parts.specs.BareReads.{Bare, bare_again}
-use Rattle.ecma_parts.specs.Bearing.{Bearing, bearing_of}
+use Rattle.ecma_clean_reads.specs.BareReads.{Bare, bare_again}
+use Rattle.ecma_clean_reads.specs.Bearing.{Bearing, bearing_of}
 use Rattle.ecma_clean_reads.specs.Canonical.{Own, own_in}
 use Rattle.ecma_state.specs.Clean.{is_plain_step, takes_none, was_again}
-use Rattle.ecma_parts.specs.Instance.{InContext, changed, lexer_grammar, steps_as}
+use Rattle.ecma_clean_reads.specs.Instance.{InContext, changed, lexer_grammar, steps_as}
 use Rattle.ecma_clean_reads.specs.Stages.{read_in, stage_with}
 use Rattle.ecma_clean_reads.proofs.ReadsAs.{ReadsAs, RereadsAs, again-reads, good_again, reading-reads, refused_again, spoilt_again}
 use Rattle.ecma_clean_reads.proofs.Spoiling.{is_unrefused, unplain-step}

@@ -10,7 +10,7 @@ use Rattle.ecma_place.specs.Text.{Text}
 use Rattle.ecma_place.specs.declared.place.BytePos.{BytePos}
 use Rattle.ecma_scan.specs.Expressions.{opens_expression}
 use Rattle.ecma_scan.specs.Found.{Fault}
-use Rattle.ecma_reads.proofs.SlashLemmas.{at-there, begins-reading}
+use Rattle.ecma_clean_reads.proofs.SlashLemmas.{at-there, begins-reading}
 use Rattle.ecma_state.specs.Reading.{Reading, reading}
 use Rattle.ecma_state.specs.Run.{act, act_on, acted_on, at_place, given_in, mode_of}
 use Rattle.ecma_state.specs.Session.{Past, Session, has_ended, kept_back, kept_of, last_flag, seen_of, state_of}
@@ -21,11 +21,11 @@ use Rattle.ecma_state.specs.declared.step.Step.{Step}
 use Rattle.ecma_state.specs.declared.step.Step.TheVariants.{Read}
 use Rattle.ecma_token.specs.Kinds.{kind_of}
 use Rattle.ecma_token.specs.View.{ErrorView, SpannedView, TokenView}
-use Rattle.ecma_parts.specs.BareReads.{Bare, any_recorded}
-use Rattle.ecma_parts.specs.Bearing.{bearing_of, behind_kind}
+use Rattle.ecma_clean_reads.specs.BareReads.{Bare, any_recorded}
+use Rattle.ecma_clean_reads.specs.Bearing.{bearing_of, behind_kind}
 use Rattle.ecma_clean_reads.specs.Canonical.{own_in}
 use Rattle.ecma_state.specs.Clean.{is_plain_step, was_again}
-use Rattle.ecma_parts.specs.Instance.{lexer_grammar, steps_as}
+use Rattle.ecma_clean_reads.specs.Instance.{lexer_grammar, steps_as}
 use Rattle.ecma_clean_reads.specs.Stages.{Stage, placeless, read_in, stage_with, token_from}
 use Rattle.ecma_clean_reads.proofs.Disposed.{none-recorded, waits-so}
 use Rattle.ecma_clean_reads.proofs.ReadsAs.{ReadsAs, at_end, good, refused, spoilt}

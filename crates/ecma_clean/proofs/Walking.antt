@@ -21,8 +21,8 @@ use Rattle.ecma_state.specs.declared.step.Step.TheVariants.{Read, SetCtx, SetExp
 use Rattle.ecma_syntax.specs.declared.context.Context.{Context}
 use Rattle.ecma_token.specs.Kinds.{kind_of}
 use Rattle.ecma_token.specs.View.{ErrorView, SpannedView, TokenView}
-use Rattle.ecma_parts.specs.BareReads.{Bare, any_recorded}
-use Rattle.ecma_parts.specs.Bearing.{Bearing}
+use Rattle.ecma_clean_reads.specs.BareReads.{Bare, any_recorded}
+use Rattle.ecma_clean_reads.specs.Bearing.{Bearing}
 use Rattle.ecma_clean_reads.specs.Canonical.{Own, own_in}
 use Rattle.ecma_state.specs.Clean.{is_plain_step, takes_none}
 use Rattle.ecma_clean_reads.specs.Stages.{Stage, read_in, stage_with, stages}

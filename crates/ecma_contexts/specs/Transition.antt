@@ -8,9 +8,9 @@ use Rattle.ecma_word.specs.declared.word.IdentKind.{IdentKind}
 use Rattle.ecma_word.specs.declared.word.IdentKind.TheVariants as name
 use Rattle.ecma_word.specs.declared.word.WordKind.TheVariants as word
 use Rattle.ecma_word.specs.declared.operator.BinOpToken.TheVariants.{Lt, Gt}
-use Rattle.ecma_token.specs.Questions.{before_expr, keyword_before_expr, is_other}
-use Rattle.ecma_token.specs.declared.kind.TokenKind.{TokenKind}
-use Rattle.ecma_token.specs.declared.kind.TokenKind.TheVariants.{Word, BinOp, Arrow, BackQuote, Colon, Dot, DollarLBrace, LBrace, LParen, MinusMinus, PlusPlus, RBrace, RParen, Semi}
+use Rattle.ecma_token_kind.specs.Questions.{before_expr, keyword_before_expr, is_other}
+use Rattle.ecma_token_kind.specs.declared.kind.TokenKind.{TokenKind}
+use Rattle.ecma_token_kind.specs.declared.kind.TokenKind.TheVariants.{Word, BinOp, Arrow, BackQuote, Colon, Dot, DollarLBrace, LBrace, LParen, MinusMinus, PlusPlus, RBrace, RParen, Semi}
 use Rattle.ecma_contexts.specs.Contexts.{Contexts}
 use Rattle.ecma_contexts.specs.declared.token_context.TokenContext.{TokenContext}
 use Rattle.ecma_contexts.specs.declared.token_context.TokenContext.TheVariants.{BraceStmt, BraceExpr, TplQuasi, ParenStmt, ParenExpr, Tpl, FnExpr, ClassExpr, JSXOpeningTag, JSXClosingTag}

@@ -6,7 +6,7 @@ ghost use Rattle.ecma_contexts.specs.Transition.{transition, turned};
 
 use crate::token_context::TokenContext;
 use crate::token_contexts::TokenContexts;
-use ecma_token::TokenKind;
+use ecma_token_kind::TokenKind;
 use ecma_word::{BinOpToken, IdentKind, Keyword, KnownIdent, WordKind};
 use std::alloc::AllocError;
 

@@ -23,8 +23,8 @@ use Rattle.ecma_canonical.proofs.JoinedLemmas.{between_bytes}
 use Rattle.ecma_canonical.proofs.KeptPlaces.{kept_tokens_stand}
 use Rattle.ecma_options.specs.Begin.{begin, context, settings, whole}
 use Rattle.ecma_options.specs.declared.options.Options.{Options}
-use Rattle.ecma_slashes.specs.Rereads.{SlashRule, text_steps_by}
-use Rattle.ecma_slashes.proofs.PlainRuns.{texts_are_read_plainly}
+use Rattle.ecma_reader.specs.Rereads.{SlashRule, text_steps_by}
+use Rattle.ecma_reader.proofs.PlainRuns.{texts_are_read_plainly}
 use Rattle.ecma_reader.specs.Readers.{Leaves, end_by, tokens_by}
 use Rattle.ecma_reader.specs.declared.reader.Outcome.{Outcome}
 use Rattle.ecma_reader.proofs.FoldLemmas.{mapped-back}

@@ -7,7 +7,7 @@ use Rattle.ecma_state.specs.Session.{kept_tokens}
 use Rattle.ecma_state.specs.declared.settings.Settings.{Settings}
 use Rattle.ecma_classes.specs.Classes.{classes_of}
 use Rattle.ecma_options.specs.Begin.{context, settings, whole}
-use Rattle.ecma_slashes.specs.Rereads.{SlashRule, text_steps_by}
+use Rattle.ecma_reader.specs.Rereads.{SlashRule, text_steps_by}
 use Rattle.ecma_reader.specs.Outputs.{IsReadOut, error_tokens}
 use Rattle.ecma_reader.specs.declared.error_tokens.ReadOut.{ReadOut}
 use Rattle.ecma_reader.proofs.TextLemmas.{text-run}

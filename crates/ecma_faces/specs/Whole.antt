@@ -11,7 +11,7 @@ use Rattle.ecma_canonical.specs.Canonical.{IsCanonicalText, IsTooLong}
 use Rattle.ecma_clean.specs.Clean.{is_clean}
 use Rattle.ecma_clean.specs.Sharing.{begin}
 use Rattle.ecma_options.specs.Begin.{context, settings, whole}
-use Rattle.ecma_slashes.specs.Rereads.{SlashRule, text_steps_by}
+use Rattle.ecma_reader.specs.Rereads.{SlashRule, text_steps_by}
 use Rattle.ecma_faults.specs.Faults.{FoundView, IsByPlace, all_of}
 use Rattle.ecma_html.specs.Page.{page_of}
 use Rattle.ecma_html.specs.Text.{html_marked_kept}

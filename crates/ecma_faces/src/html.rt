@@ -15,7 +15,7 @@ ghost use Rattle.ecma_report.specs.Rows.{Look, whole_part, whole_text};
 use ecma_faults::Found;
 use ecma_html::{Markup, push_begin, push_end};
 use ecma_place::{BytePos, Spanned};
-use ecma_replay::Gathered;
+use ecma_reader::Gathered;
 use ecma_report::report::{Report, Stop};
 use std::alloc::{AllocError, Global};
 use std::io::Write;

@@ -3,7 +3,7 @@ ghost use Rattle.std.specs.Prelude.{◌≡◌, ◌++◌, ◌<◌, ◌^◌, List,
 ghost use Rattle.ecma_module_table.specs.declared.rows.ModuleOptions.{ModuleOptions};
 ghost use Rattle.ecma_modules.specs.Modules.{exports_of, gathered, imports_of};
 ghost use Rattle.ecma_state.specs.Session.{Session, kept_of};
-ghost use Rattle.ecma_slashes.specs.Rereads.{SlashRule};
+ghost use Rattle.ecma_reader.specs.Rereads.{SlashRule};
 ghost use Rattle.ecma_token.specs.View.{error_view};
 ghost use Rattle.ecma_reader.specs.Outputs.{errors_among};
 ghost use Rattle.ecma_reader.specs.Readers.{HasRead, IsReady, Shows, tokens_by};

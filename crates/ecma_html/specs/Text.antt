@@ -2,7 +2,7 @@
 use Rattle.std.specs.Prelude.{ℕ, List, length}
 use Rattle.std.specs.Str.{chars}
 use Rattle.ecma_syntax.specs.declared.context.Context.{Context}
-use Rattle.ecma_slashes.specs.ByFlag.{text_steps}
+use Rattle.ecma_reader.specs.ByFlag.{text_steps}
 use Rattle.ecma_classes.specs.Classes.{begin, classes_of}
 use Rattle.ecma_state.specs.Run.{session}
 use Rattle.ecma_state.specs.Session.{Session, kept_tokens}

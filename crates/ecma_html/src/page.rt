@@ -10,7 +10,7 @@ ghost use Rattle.ecma_html.specs.Unmark.{shown, unmark};
 
 use crate::markup::push_escaped;
 use crate::text::html_with_errors;
-use ecma_replay::Gathered;
+use ecma_reader::Gathered;
 use ecma_span::BytePos;
 use std::alloc::{AllocError, Global};
 

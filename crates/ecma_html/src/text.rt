@@ -9,9 +9,7 @@ ghost use Rattle.ecma_html.specs.Unmark.{IsClosed, shown, unmark};
 
 use crate::markup::html_marked;
 use ecma_classes::classes;
-use ecma_reader::tokenize;
-use ecma_replay::{Gathered, gather};
-use ecma_slashes::Slashes;
+use ecma_reader::{Gathered, Slashes, gather, tokenize};
 use ecma_span::BytePos;
 use ecma_state::{Settings, Step};
 use ecma_styles::token_classes;

@@ -2,7 +2,7 @@
 use Rattle.std.specs.Prelude.{ℕ, ◌≤◌, List, [], ◌∷◌, ◌++◌, codes, decimal, flat_map, slice_range}
 use Rattle.std.specs.Str.{chars}
 use Rattle.ecma_syntax.specs.declared.context.Context.{Context}
-use Rattle.ecma_slashes.specs.ByFlag.{text_steps}
+use Rattle.ecma_reader.specs.ByFlag.{text_steps}
 use Rattle.ecma_classes.specs.Classes.{begin}
 use Rattle.ecma_state.specs.Run.{session}
 use Rattle.ecma_state.specs.Session.{kept_tokens}

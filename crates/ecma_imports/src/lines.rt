@@ -9,9 +9,7 @@ ghost use Rattle.ecma_imports.specs.Lines.{LiesWithin, imports_of, imports_of_st
 
 use crate::imported::{Form, Specifier, specifiers};
 use ecma_place::BytePos;
-use ecma_reader::tokenize;
-use ecma_replay::gather;
-use ecma_slashes::Slashes;
+use ecma_reader::{Slashes, gather, tokenize};
 use ecma_state::{Kept, Settings, Step};
 use ecma_stdio::push_pair;
 use ecma_syntax::Context;

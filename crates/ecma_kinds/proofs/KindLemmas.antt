@@ -7,8 +7,8 @@ use Rattle.ecma_word.specs.declared.operator.BinOpToken.TheVariants as binoptoke
 use Rattle.ecma_word.specs.declared.operator.AssignOp.TheVariants as assignop
 use Rattle.ecma_word.specs.declared.word.WordKind.TheVariants as wordkind
 use Rattle.ecma_word.specs.declared.word.IdentKind.TheVariants as identkind
-use Rattle.ecma_token.specs.declared.kind.TokenKind.{TokenKind}
-use Rattle.ecma_token.specs.declared.kind.TokenKind.TheVariants as tokenkind
+use Rattle.ecma_token_kind.specs.declared.kind.TokenKind.{TokenKind}
+use Rattle.ecma_token_kind.specs.declared.kind.TokenKind.TheVariants as tokenkind
 use Rattle.ecma_kinds.specs.KindNumbers.{kind_number, KindsAreToldApart}
 
 all_kinds : List TokenKind

@@ -2,7 +2,7 @@
 ghost use Rattle.std.specs.Prelude.{◌≡◌};
 ghost use Rattle.ecma_kinds.specs.KindNumbers as spec;
 
-use ecma_token::TokenKind;
+use ecma_token_kind::TokenKind;
 use ecma_word::{AssignOp, BinOpToken, IdentKind, Keyword, KnownIdent, WordKind};
 
 fn keyword_number(keyword: Keyword) -> u16

@@ -11,9 +11,9 @@ use Rattle.ecma_word.specs.declared.word.IdentKind.TheVariants as ident
 use Rattle.ecma_word.specs.declared.operator.BinOpToken.{BinOpToken}
 use Rattle.ecma_word.specs.declared.operator.BinOpToken.TheVariants as binary
 use Rattle.ecma_word.specs.declared.operator.AssignOp.TheVariants as assigning
-use Rattle.ecma_token.specs.declared.kind.TokenKind.{TokenKind}
-use Rattle.ecma_token.specs.declared.kind.TokenKind.TheVariants as kind
-use Rattle.ecma_token.specs.Questions.{before_expr}
+use Rattle.ecma_token_kind.specs.declared.kind.TokenKind.{TokenKind}
+use Rattle.ecma_token_kind.specs.declared.kind.TokenKind.TheVariants as kind
+use Rattle.ecma_token_kind.specs.Questions.{before_expr}
 use Rattle.ecma_module_table.specs.declared.part.Part.{Part}
 use Rattle.ecma_module_table.specs.declared.part.Part.TheVariants as part
 use Rattle.ecma_module_table.specs.declared.part.Word.{Word}

@@ -3,7 +3,7 @@ ghost use Rattle.std.specs.Prelude.{◌≡◌, ◌-◌};
 ghost use Rattle.ecma_module_table.specs.Parts as parts;
 
 use ecma_span::Span;
-use ecma_token::TokenKind;
+use ecma_token_kind::TokenKind;
 use ecma_word::{AssignOp, BinOpToken, IdentKind, Keyword, KnownIdent, WordKind};
 
 /// A word; words between which no row tells are one.

@@ -3,3 +3,4 @@ pub mod ItemLemmas
 pub mod ReaderLemmas
 pub mod TextLemmas
 pub mod TokenLemmas
+pub use Rattle.ecma_slashes.proofs.PlainRuns

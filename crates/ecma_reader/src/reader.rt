@@ -8,12 +8,10 @@ ghost use Rattle.ecma_slashes.specs.Rereads.{SlashRule, entered, is_in_order, ru
 ghost use Rattle.ecma_reader.specs.Readers.{HasRead, IsReady, Leaves, Reads, Shows, one_if, tokens_by};
 
 use ecma_place::{BytePos, StringInput};
-use ecma_slashes::{Decider, Slashes, read_deciding};
+use ecma_slashes::{Decider, Lexer, Slashes, Tokens, read_deciding};
 use ecma_state::Settings;
 use ecma_state::comments_buffer::BufferedComment;
 use ecma_state::error_list::ErrorList;
-use ecma_stream::lexer::Lexer;
-use ecma_stream::tokens::Tokens;
 use ecma_syntax::Context;
 use ecma_token::TokenAndSpan;
 use std::alloc::{AllocError, Global};

@@ -13,7 +13,7 @@ use Rattle.ecma_state.specs.Run.{Acted, Done, Errors', act, act_all, act_on, ans
 use Rattle.ecma_state.specs.Session.{LexerState, LexerValue, Past, Session, kept_back, kept_of, lexer_state, state_of}
 use Rattle.ecma_state.specs.declared.step.Step.{Step}
 use Rattle.ecma_state.specs.declared.step.Step.TheVariants.{Read, SetCtx, TakeErrors}
-use Rattle.ecma_reads.proofs.EndingLemmas.{state-behind}
+use Rattle.ecma_stream.proofs.EndingLemmas.{state-behind}
 use Rattle.ecma_stream.specs.View.{drained}
 use Rattle.ecma_token.specs.declared.token.TokenAndSpan.{TokenAndSpan}
 use Rattle.ecma_trees.specs.Trees.{way}

@@ -1,7 +1,7 @@
 -- Which slashes begin regular expressions.
 use Rattle.std.specs.Prelude.{Bool, true, false, List, [], ◌∷◌, if◌then◌else◌}
 use Rattle.ecma_span.specs.declared.place.BytePos.{BytePos}
-use Rattle.ecma_slashes.specs.Rereads.{SlashRule, ascend, at_places, by_flag, by_role}
+use Rattle.ecma_reader.specs.Rereads.{SlashRule, ascend, at_places, by_flag, by_role}
 use Rattle.ecma_report.specs.declared.words.Named.{Named}
 
 -- those that the lexer's own flag says, or those where the tokens before expect an operand

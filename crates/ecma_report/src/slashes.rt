@@ -1,7 +1,7 @@
 //! Which slashes begin regular expressions, and the places among them that are no slash's.
 ghost use Rattle.std.specs.Prelude.{◌≡◌, ◌<◌, ◌^◌, [], length, true, IfOk, OnOk};
 ghost use Rattle.ecma_options.specs.Begin.{begin};
-ghost use Rattle.ecma_slashes.specs.Rereads.{is_in_order, rule_of};
+ghost use Rattle.ecma_reader.specs.Rereads.{is_in_order, rule_of};
 ghost use Rattle.ecma_reader.specs.Readers.{IsReady, Shows};
 ghost use Rattle.ecma_report.specs.FaultLines.{OfUnmet};
 ghost use Rattle.ecma_report.specs.Reports.{IsStill};
@@ -9,8 +9,7 @@ ghost use Rattle.ecma_report.specs.Slashes.{rule_at};
 
 use crate::report::Report;
 use crate::words::Named;
-use ecma_reader::Reader;
-use ecma_slashes::{Slashes, ascend};
+use ecma_reader::{Reader, Slashes, ascend};
 use ecma_span::BytePos;
 use ecma_token::{Token, TokenAndSpan};
 use std::alloc::AllocError;

@@ -11,7 +11,7 @@ use Rattle.ecma_word.specs.declared.operator.BinOpToken.{BinOpToken}
 use Rattle.ecma_word.specs.declared.operator.BinOpToken.TheVariants as binary
 use Rattle.ecma_word.specs.declared.operator.AssignOp.{AssignOp}
 use Rattle.ecma_word.specs.declared.operator.AssignOp.TheVariants as assigning
-use Rattle.ecma_token.specs.declared.kind.TokenKind.TheVariants as kind
+use Rattle.ecma_token_kind.specs.declared.kind.TokenKind.TheVariants as kind
 use Rattle.ecma_role_table.specs.declared.part.PartKind.{PartKind}
 use Rattle.ecma_role_table.specs.declared.part.PartKind.TheVariants.{Name, Reserved, Sign}
 use Rattle.ecma_role_table.specs.declared.part.Reserved as words

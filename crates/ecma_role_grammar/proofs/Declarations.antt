@@ -9,8 +9,8 @@ use Rattle.ecma_word.specs.declared.known_ident.KnownIdent.TheVariants as known
 use Rattle.ecma_word.specs.declared.operator.AssignOp.TheVariants as assigning
 use Rattle.ecma_role_table.specs.declared.part.PartKind.TheVariants.{Name}
 use Rattle.ecma_role_table.specs.declared.part.Name as names
-use Rattle.ecma_token.specs.declared.kind.TokenKind.{TokenKind}
-use Rattle.ecma_token.specs.declared.kind.TokenKind.TheVariants as kind
+use Rattle.ecma_token_kind.specs.declared.kind.TokenKind.{TokenKind}
+use Rattle.ecma_token_kind.specs.declared.kind.TokenKind.TheVariants as kind
 use Rattle.ecma_role_table.specs.declared.frame.Around.{Around}
 use Rattle.ecma_role_table.specs.declared.frame.Frame.{Frame}
 use Rattle.ecma_role_table.specs.declared.frame.FrameKind.{FrameKind}

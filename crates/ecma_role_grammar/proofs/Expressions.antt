@@ -6,8 +6,8 @@ use Rattle.ecma_word.specs.declared.word.WordKind.TheVariants as word
 use Rattle.ecma_word.specs.declared.operator.BinOpToken.{BinOpToken}
 use Rattle.ecma_word.specs.declared.operator.BinOpToken.TheVariants as binary
 use Rattle.ecma_word.specs.declared.operator.AssignOp.{AssignOp}
-use Rattle.ecma_token.specs.declared.kind.TokenKind.{TokenKind}
-use Rattle.ecma_token.specs.declared.kind.TokenKind.TheVariants as kind
+use Rattle.ecma_token_kind.specs.declared.kind.TokenKind.{TokenKind}
+use Rattle.ecma_token_kind.specs.declared.kind.TokenKind.TheVariants as kind
 use Rattle.ecma_role_table.specs.declared.frame.Around.{Around}
 use Rattle.ecma_role_table.specs.declared.frame.Frame.{Frame}
 use Rattle.ecma_role_table.specs.declared.frame.FrameKind.{FrameKind}

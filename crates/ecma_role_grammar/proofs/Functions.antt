@@ -12,8 +12,8 @@ use Rattle.ecma_role_table.specs.declared.part.Sign.TheVariants as sign
 use Rattle.ecma_role_table.specs.declared.part.Name as names
 use Rattle.ecma_role_table.specs.declared.part.Name.TheVariants as name
 use Rattle.ecma_word.specs.declared.operator.BinOpToken.TheVariants as binary
-use Rattle.ecma_token.specs.declared.kind.TokenKind.{TokenKind}
-use Rattle.ecma_token.specs.declared.kind.TokenKind.TheVariants as kind
+use Rattle.ecma_token_kind.specs.declared.kind.TokenKind.{TokenKind}
+use Rattle.ecma_token_kind.specs.declared.kind.TokenKind.TheVariants as kind
 use Rattle.ecma_role_table.specs.declared.frame.Around.{Around}
 use Rattle.ecma_role_table.specs.declared.frame.Frame.{Frame}
 use Rattle.ecma_role_table.specs.declared.frame.FrameKind.TheVariants as frame

@@ -9,8 +9,8 @@ use Rattle.ecma_word.specs.declared.word.IdentKind.TheVariants as ident
 use Rattle.ecma_word.specs.declared.known_ident.KnownIdent.TheVariants as known
 use Rattle.ecma_role_table.specs.declared.part.PartKind.TheVariants.{Name, Reserved, Sign}
 use Rattle.ecma_role_table.specs.declared.part.PartKind.{PartKind}
-use Rattle.ecma_token.specs.declared.kind.TokenKind.{TokenKind}
-use Rattle.ecma_token.specs.declared.kind.TokenKind.TheVariants as kind
+use Rattle.ecma_token_kind.specs.declared.kind.TokenKind.{TokenKind}
+use Rattle.ecma_token_kind.specs.declared.kind.TokenKind.TheVariants as kind
 use Rattle.ecma_role_table.specs.declared.frame.Around.{Around}
 use Rattle.ecma_role_table.specs.declared.frame.FrameKind.TheVariants as frame
 use Rattle.ecma_role_table.specs.declared.state.State.TheVariants as state

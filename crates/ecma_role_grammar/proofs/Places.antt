@@ -18,8 +18,8 @@ use Rattle.ecma_role_moves.specs.Nest.{Nested, gains_async, dropped, kind_in, ne
 use Rattle.ecma_roles.specs.Slashes.{expects_operand}
 use Rattle.ecma_roles.specs.Track.{TrackView, stepped, track}
 use Rattle.ecma_role_moves.proofs.NestLemmas.{dropped_none}
-use Rattle.ecma_token.specs.declared.kind.TokenKind.{TokenKind}
-use Rattle.ecma_token.specs.declared.kind.TokenKind.TheVariants as kind
+use Rattle.ecma_token_kind.specs.declared.kind.TokenKind.{TokenKind}
+use Rattle.ecma_token_kind.specs.declared.kind.TokenKind.TheVariants as kind
 use Rattle.ecma_word.specs.declared.keyword.Keyword.TheVariants as keyword
 use Rattle.ecma_word.specs.declared.known_ident.KnownIdent.TheVariants as known
 use Rattle.ecma_word.specs.declared.word.WordKind.TheVariants as word

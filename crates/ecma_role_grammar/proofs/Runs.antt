@@ -1,7 +1,7 @@
 -- Runs of a track over tokens, with each slash in its role
 use Rattle.std.proofs.Common.{◌≡◌, ◌++◌, ◌∙◌, subst, sym, Bool, true, false, List, [], ◌∷◌, Some, None, refl, arith}
-use Rattle.ecma_token.specs.declared.kind.TokenKind.{TokenKind}
-use Rattle.ecma_token.specs.declared.kind.TokenKind.TheVariants as kind
+use Rattle.ecma_token_kind.specs.declared.kind.TokenKind.{TokenKind}
+use Rattle.ecma_token_kind.specs.declared.kind.TokenKind.TheVariants as kind
 use Rattle.ecma_word.specs.declared.operator.BinOpToken.TheVariants as binary
 use Rattle.ecma_word.specs.declared.operator.AssignOp.TheVariants as assigning
 use Rattle.ecma_roles.specs.Slashes.{expects_operand}

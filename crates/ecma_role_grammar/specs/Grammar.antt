@@ -14,8 +14,8 @@ use Rattle.ecma_word.specs.declared.operator.BinOpToken.{BinOpToken}
 use Rattle.ecma_word.specs.declared.operator.BinOpToken.TheVariants as binary
 use Rattle.ecma_word.specs.declared.operator.AssignOp.{AssignOp}
 use Rattle.ecma_word.specs.declared.operator.AssignOp.TheVariants as assigning
-use Rattle.ecma_token.specs.declared.kind.TokenKind.{TokenKind}
-use Rattle.ecma_token.specs.declared.kind.TokenKind.TheVariants as kind
+use Rattle.ecma_token_kind.specs.declared.kind.TokenKind.{TokenKind}
+use Rattle.ecma_token_kind.specs.declared.kind.TokenKind.TheVariants as kind
 use Rattle.ecma_role_grammar.specs.Tokens.{Token, token}
 
 -- the parameters of nonterminals (ECMA-262, 5.1.5): [In], [Yield] and [Await]

@@ -6,8 +6,8 @@ use Rattle.ecma_word.specs.declared.word.WordKind.TheVariants as word
 use Rattle.ecma_word.specs.declared.word.IdentKind.TheVariants as ident
 use Rattle.ecma_word.specs.declared.operator.BinOpToken.TheVariants as binary
 use Rattle.ecma_word.specs.declared.operator.AssignOp.TheVariants as assigning
-use Rattle.ecma_token.specs.declared.kind.TokenKind.{TokenKind}
-use Rattle.ecma_token.specs.declared.kind.TokenKind.TheVariants as kind
+use Rattle.ecma_token_kind.specs.declared.kind.TokenKind.{TokenKind}
+use Rattle.ecma_token_kind.specs.declared.kind.TokenKind.TheVariants as kind
 use Rattle.ecma_role_grammar.specs.Tokens.{Token, token}
 use Rattle.ecma_role_grammar.specs.Grammar.{as_word, async, from, of, reserved}
 

@@ -1,9 +1,8 @@
 //! What is seen of a token.
 ghost use Rattle.std.specs.Prelude.{◌≡◌};
-ghost use Rattle.ecma_token.specs.Kinds.{token_kind};
 ghost use Rattle.ecma_role_table.specs.Parts as parts;
 
-use ecma_token::{Token, TokenKind};
+use ecma_token_kind::TokenKind;
 use ecma_word::{AssignOp, BinOpToken, IdentKind, Keyword, KnownIdent, WordKind};
 
 /// A word that is no reserved word (ECMA-262, 12.7.2): `let`, `await` and `yield` too, which are reserved in places.
@@ -279,13 +278,6 @@ fn part_of_kind(kind: TokenKind) -> PartKind
 }
 
 impl Part {
-    /// What is seen of a token with or without a line terminator before it.
-    pub fn of(token: &Token<'_>, had_line_break: bool) -> Part
-        ensures { result ≡ parts.part_of (token_kind token.now) had_line_break }
-    {
-        Part::of_kind(token.kind(), had_line_break)
-    }
-
     /// What is seen of a token of this kind, with or without a line terminator before it.
     pub fn of_kind(kind: TokenKind, had_line_break: bool) -> Part
         ensures { result ≡ parts.part_of kind had_line_break }

@@ -1,7 +1,7 @@
 -- Whether bytes are a text, case by case.
 use Rattle.std.proofs.Common.{◌≡◌, ℕ, ◌<◌, ◌≤◌, List, Ok, Err, IsUtf8, arith, length}
 use Rattle.std.proofs.lemmas.Str.{is_utf8-from_IsUtf8, IsUtf8-from_is_utf8}
-use Rattle.ecma_slashes.specs.Rereads.{SlashRule}
+use Rattle.ecma_reader.specs.Rereads.{SlashRule}
 use Rattle.ecma_rows.specs.Asked.{judged_text}
 use Rattle.ecma_options.specs.declared.options.Options.{Options}
 use Rattle.ecma_rows.specs.declared.outcome.Status.TheVariants.{NotUtf8, TooLong}

@@ -3,7 +3,7 @@ use Rattle.std.proofs.Common.{◌≡◌, ◌∙◌, ℕ, ◌+◌, Bool, true, Li
 use Rattle.std.proofs.lemmas.List.{length-append, map-append}
 use Rattle.ecma_token.specs.View.{SpannedView}
 use Rattle.ecma_state.specs.Session.{Session}
-use Rattle.ecma_slashes.specs.Rereads.{SlashRule}
+use Rattle.ecma_reader.specs.Rereads.{SlashRule}
 use Rattle.ecma_reader.specs.Readers.{Reads, Tells, tokens_found}
 use Rattle.ecma_reader.specs.declared.reader.Reader.{Reader}
 use Rattle.ecma_reader.proofs.FoldLemmas.{told-next}

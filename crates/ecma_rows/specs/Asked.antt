@@ -5,7 +5,7 @@ use Rattle.ecma_span.specs.declared.place.BytePos.{BytePos}
 use Rattle.ecma_options.specs.Begin as reading
 use Rattle.ecma_options.specs.declared.options.Options.{Options}
 use Rattle.ecma_state.specs.Session.{Session}
-use Rattle.ecma_slashes.specs.Rereads.{SlashRule, at_places, by_flag, by_role, ascend, rule_of}
+use Rattle.ecma_reader.specs.Rereads.{SlashRule, at_places, by_flag, by_role, ascend, rule_of}
 use Rattle.ecma_rows.specs.declared.request.Asked.{Asked}
 use Rattle.ecma_rows.specs.declared.outcome.Status.{Status}
 use Rattle.ecma_rows.specs.declared.outcome.Status.TheVariants.{NotUtf8, Refused, TooLong}

@@ -2,7 +2,7 @@
 use Rattle.std.specs.Prelude.{ℕ, Bool, true, false, List, Result, Ok, Err, encode_utf8_all, if◌then◌else◌, length, nat_lt}
 use Rattle.std.specs.Str.{chars}
 use Rattle.ecma_state.specs.declared.step.Step.{Step}
-use Rattle.ecma_slashes.specs.Rereads.{text_steps_by}
+use Rattle.ecma_reader.specs.Rereads.{text_steps_by}
 use Rattle.ecma_clean.specs.Clean.{is_clean}
 use Rattle.ecma_clean.specs.Sharing.{canonical_text_of}
 use Rattle.ecma_options.specs.Begin.{context, settings, whole}

@@ -17,7 +17,7 @@ use Rattle.ecma_modules.specs.Modules as modules
 use Rattle.ecma_modules.specs.Modules.{exports_of, imports_of}
 use Rattle.ecma_modules.specs.declared.module.Module.{Module}
 use Rattle.ecma_reader.specs.Readers.{tokens_by}
-use Rattle.ecma_slashes.specs.Rereads.{steps_to_end_by}
+use Rattle.ecma_reader.specs.Rereads.{steps_to_end_by}
 use Rattle.ecma_rows.specs.Asked.{AskedView, begin, has}
 use Rattle.ecma_rows.specs.Told.{are_met, status_of, written}
 use Rattle.ecma_rows.specs.declared.imports.ModuleAnswer.{ModuleAnswer}

@@ -10,7 +10,7 @@ use Rattle.ecma_token.specs.Kinds.{kind_of}
 use Rattle.ecma_token.specs.View.{SpannedView, TokenView, plain_token, refused_template, error_token}
 use Rattle.ecma_token.specs.declared.token.Token.{Token, Word, Template', Str, Regex, Num, BigInt, JSXText, Ok', Err'}
 use Rattle.ecma_state.specs.Session.{Session}
-use Rattle.ecma_slashes.specs.Rereads.{SlashRule}
+use Rattle.ecma_reader.specs.Rereads.{SlashRule}
 use Rattle.ecma_reader.specs.Readers.{HasRead, end_by, tokens_kept}
 use Rattle.ecma_reader.specs.declared.reader.Reader.{Reader}
 use Rattle.ecma_comments.specs.declared.comments_buffer.BufferedComment.{BufferedComment}

@@ -2,7 +2,7 @@
 use Rattle.std.specs.Prelude.{ℕ, ◌≡◌, ◌==◌, Bool, true, false, List, [], ◌∷◌, Result, Ok, Err, length, nat_le}
 use Rattle.ecma_state.specs.Session.{Session}
 use Rattle.ecma_state.specs.declared.step.Step.{Step}
-use Rattle.ecma_slashes.specs.Rereads.{SlashRule, at_places, by_flag, by_role, numbered, rereads, steps_to_end_by}
+use Rattle.ecma_reader.specs.Rereads.{SlashRule, at_places, by_flag, by_role, numbered, rereads, steps_to_end_by}
 use Rattle.ecma_reader.specs.Readers.{end_by}
 use Rattle.ecma_rows.specs.Asked.{AskedView, begin}
 use Rattle.ecma_rows.specs.declared.outcome.Answer.{Answer}

@@ -2,7 +2,7 @@
 ghost use Rattle.std.specs.Prelude.{◌≡◌, ◌∷◌, ◌++◌, [], List, false, map, option_map, IfOk, OnOk, OnErr};
 ghost use Rattle.ecma_token.specs.View.{error_view, spanned_view};
 ghost use Rattle.ecma_state.specs.Session.{Session};
-ghost use Rattle.ecma_slashes.specs.Rereads.{SlashRule};
+ghost use Rattle.ecma_reader.specs.Rereads.{SlashRule};
 ghost use Rattle.ecma_reader.specs.Outputs.{error_tokens, errors_among};
 ghost use Rattle.ecma_reader.specs.Readers.{HasRead, IsReady, Leaves, Shows, tokens_by, tokens_found};
 ghost use Rattle.ecma_rows.specs.Asked.{judged, place_at};

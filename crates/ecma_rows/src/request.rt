@@ -2,7 +2,7 @@
 ghost use Rattle.std.specs.Prelude.{◌≡◌, ◌<◌, ◌^◌, List, None, Ok, Err, Some, [], true, length, map, IfOk, IfSome, MatchResult};
 ghost use Rattle.std.specs.Str.{IsUtf8};
 ghost use Rattle.ecma_state.specs.declared.step.Step.{Step};
-ghost use Rattle.ecma_slashes.specs.Rereads.{is_in_order, rereads, rule_of};
+ghost use Rattle.ecma_reader.specs.Rereads.{is_in_order, rereads, rule_of};
 ghost use Rattle.ecma_reader.specs.Readers.{IsReady, Shows};
 ghost use Rattle.ecma_rows.specs.Asked as requests;
 ghost use Rattle.ecma_rows.specs.Asked.{asked_view, judged, place_at};
@@ -11,8 +11,7 @@ ghost use Rattle.ecma_rows.specs.Told.{are_met};
 use crate::bits::{is_by_flag, is_by_role, options_of_bits};
 use crate::outcome::Status;
 use ecma_options::Options;
-use ecma_reader::Reader;
-use ecma_slashes::{Slashes, ascend};
+use ecma_reader::{Reader, Slashes, ascend};
 use ecma_span::BytePos;
 use std::alloc::{AllocError, Global};
 

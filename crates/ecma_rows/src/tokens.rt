@@ -2,7 +2,7 @@
 ghost use Rattle.std.specs.Prelude.{◌≡◌, ◌++◌, List, [], false, length, map, option_map, IfOk};
 ghost use Rattle.ecma_token.specs.View.{spanned_view};
 ghost use Rattle.ecma_state.specs.Session.{Session};
-ghost use Rattle.ecma_slashes.specs.Rereads.{SlashRule};
+ghost use Rattle.ecma_reader.specs.Rereads.{SlashRule};
 ghost use Rattle.ecma_reader.specs.Readers.{IsReady, Shows, tokens_found};
 ghost use Rattle.ecma_rows.specs.Asked.{judged, place_at};
 ghost use Rattle.ecma_rows.specs.Rows as rows;

@@ -16,9 +16,9 @@ use Rattle.ecma_state.specs.Run.{at_place, mode_of, reading_of, state_behind, st
 use Rattle.ecma_state.specs.Session.{LexerState, kept_in, kept_of}
 use Rattle.ecma_state.specs.State.{last_slash, previous, seen_behind, slash_in}
 use Rattle.ecma_state.specs.Ending.{most_tokens}
-use Rattle.ecma_reads.proofs.EndLemmas.{reading-on, room-le}
-use Rattle.ecma_reads.proofs.EndingLemmas.{plain-reading}
-use Rattle.ecma_reads.proofs.SlashLemmas.{begins-reading, place-there, slash-is}
+use Rattle.ecma_stream.proofs.EndLemmas.{reading-on, room-le}
+use Rattle.ecma_stream.proofs.EndingLemmas.{plain-reading}
+use Rattle.ecma_stream.proofs.SlashLemmas.{begins-reading, place-there, slash-is}
 
 -- characters further is bytes further, while some are left
 further : (text : Text) (i j : ℕ) → i < j → i < length text → byte_len (take i text) < byte_len (take j text)

@@ -12,8 +12,8 @@ use Rattle.ecma_state.specs.State.{last_slash}
 use Rattle.ecma_state.specs.declared.step.Step.{Step}
 use Rattle.ecma_state.specs.declared.step.Step.TheVariants.{Read}
 use Rattle.ecma_state.specs.Ending.{enough}
-use Rattle.ecma_reads.proofs.EndLemmas.{reading-on}
-use Rattle.ecma_reads.proofs.EndingLemmas.{plain-reading, state-behind}
+use Rattle.ecma_stream.proofs.EndLemmas.{reading-on}
+use Rattle.ecma_stream.proofs.EndingLemmas.{plain-reading, state-behind}
 use Rattle.ecma_slashes.specs.Rereads.{RereadsCountMet, SlashRule, all_by, all_met, ascend, ascend_behind, at_places, behind_by, entered, is_among, is_reread, last_read, meets_expression, met_by, met_in, met_to_end, names_answer, read_steps, rereads, steps_by, steps_to_end_by, text_met, text_steps_by, unless_ended}
 use Rattle.ecma_slashes.proofs.FewerLemmas.{asking, beyond-slash, slash-met}
 use Rattle.ecma_slashes.proofs.TokenLemmas.{behind-plain, met-slash}

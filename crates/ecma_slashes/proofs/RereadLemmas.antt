@@ -7,7 +7,7 @@ use Rattle.ecma_state.specs.State.{last_slash}
 use Rattle.ecma_state.specs.declared.step.Step.{Step}
 use Rattle.ecma_state.specs.declared.step.Step.TheVariants.{Read, Reread, Withdraw}
 use Rattle.ecma_state.specs.Slashes.{slash_answered}
-use Rattle.ecma_reads.proofs.EndingLemmas.{state-behind}
+use Rattle.ecma_stream.proofs.EndingLemmas.{state-behind}
 
 -- the steps by which it is read
 abbrev pub rereading : List Step

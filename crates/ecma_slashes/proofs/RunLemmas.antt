@@ -15,7 +15,7 @@ use Rattle.ecma_state.specs.declared.settings.Settings.{Settings}
 use Rattle.ecma_state.specs.declared.step.Step.{Step}
 use Rattle.ecma_state.specs.declared.step.Step.TheVariants.{SetCtx}
 use Rattle.ecma_state.specs.Ending.{enough, most_tokens}
-use Rattle.ecma_reads.proofs.EndLemmas.{room-le}
+use Rattle.ecma_stream.proofs.EndLemmas.{room-le}
 use Rattle.ecma_slashes.specs.Rereads.{RunsByRuleAreRuns, RunsByRuleEnd, SlashRule, StepsOn, TextsAreReadOut, all_by, behind_by, entered, found_by, meets_expression, read_steps, steps_by, steps_to_end_by, text_steps_by, unless_ended}
 use Rattle.ecma_slashes.proofs.TokenLemmas.{behind-ended, behind-fewer, behind-plain, ended_by}
 

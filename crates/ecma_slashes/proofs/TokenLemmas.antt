@@ -12,7 +12,7 @@ use Rattle.ecma_state.specs.State.{last_slash, seen_behind}
 use Rattle.ecma_state.specs.declared.step.Step.TheVariants.{Read}
 use Rattle.ecma_state.specs.Ending.{most_tokens}
 use Rattle.ecma_state.specs.Slashes.{slash_answered}
-use Rattle.ecma_reads.proofs.EndingLemmas.{end_found, state-behind, tokens_run_out}
+use Rattle.ecma_stream.proofs.EndingLemmas.{end_found, state-behind, tokens_run_out}
 use Rattle.ecma_rewinding.specs.Rewinding.{GoesOn}
 use Rattle.ecma_rewinding.proofs.RewindingLemmas.{further-on, kept-on, reading-on}
 use Rattle.ecma_slashes.specs.Known.{Known, expected_by}

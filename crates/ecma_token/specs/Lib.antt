@@ -1,9 +1,9 @@
-pub mod KindNames
 pub mod Kinds
 pub mod Messages
 pub mod MessageView
-pub mod Questions
 pub mod Quoted
 pub mod View
 pub use Rattle.ecma_span.specs.Atom
-pub use Rattle.ecma_word.specs.Word
+pub use Rattle.ecma_token_kind.specs.KindNames
+pub use Rattle.ecma_token_kind.specs.Questions
+pub use Rattle.ecma_token_kind.specs.Word

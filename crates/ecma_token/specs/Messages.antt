@@ -1,8 +1,8 @@
 -- The message of each error, and the debug text of each token.
 use Rattle.std.specs.Prelude.{ℕ, List, [], ◌++◌, ◌-◌, codes, length, take, drop, nat_le, if◌then◌else◌, Option, Some, None, unwrap_or, string_bytes, encode_utf8}
 use Rattle.std.specs.List.{join_by}
-use Rattle.ecma_word.specs.Word.{word_text}
-use Rattle.ecma_word.specs.Operators.{bin_op_text, assign_op_text}
+use Rattle.ecma_token_kind.specs.Word.{word_text}
+use Rattle.ecma_token_kind.specs.Operators.{bin_op_text, assign_op_text}
 use Rattle.ecma_fixed.specs.Fixed.{fixed_error_text}
 use Rattle.ecma_token.specs.Quoted.{quoted_char}
 use Rattle.ecma_token.specs.declared.token.Radix.{Radix}

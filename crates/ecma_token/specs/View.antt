@@ -2,7 +2,7 @@
 use Rattle.std.specs.Prelude.{◌≡◌, Option, Some, None, ℕ, Bool, true, false, not, ◌&&◌, List, [], ◌∷◌, map, string_bytes}
 use Rattle.ecma_span.specs.Atom.{AtomView}
 use Rattle.ecma_span.specs.declared.place.Span.{Span}
-use Rattle.ecma_word.specs.Word.{word_owns_nothing}
+use Rattle.ecma_token_kind.specs.Word.{word_owns_nothing}
 use Rattle.ecma_token.specs.declared.token.Token.{Token, Word, Template', Str, Regex, Num, BigInt, JSXName, JSXText, Shebang, Error', Ok', Err'}
 use Rattle.ecma_token.specs.declared.token.TokenAndSpan.{TokenAndSpan}
 use Rattle.ecma_token.specs.declared.error.SyntaxError.{SyntaxError, EscapeInReservedWord, InvalidIdentInStrict, DuplicateLabel, JSXExpectedClosingTag, PrivateNameModifier, ExportExpectFrom, ImportBindingIsString, TS1030, TS1089, TS1273, TS1274, TS1277, TsNonNullAssertionNotAllowed, TS1029, TS1243, BadCharacterEscapeSequence, UnaryInExp, Unexpected, UnexpectedTokenWithSuggestions, Expected', WithLabel'}

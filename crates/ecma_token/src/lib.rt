@@ -14,14 +14,12 @@
 #![tactic(auto)]
 
 pub mod error;
-pub mod kind;
-mod kind_name;
 mod message;
 mod names;
 mod quoted;
 pub mod token;
 
 pub use ecma_fixed::FixedError;
+pub use ecma_token_kind::{TokenKind, kind};
 pub use error::{Error, SyntaxError};
-pub use kind::TokenKind;
 pub use token::{Radix, Token, TokenAndSpan};

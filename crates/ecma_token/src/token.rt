@@ -6,9 +6,8 @@ ghost use Rattle.ecma_token.specs.Messages.{spelling, token_text};
 ghost use Rattle.ecma_token.specs.View.{has_texts, is_sign, owns_nothing, spanned_view, token_view};
 
 use crate::error::{Error, copy_two};
-use crate::kind::TokenKind;
 use ecma_span::{Atom, Span, Spanned};
-use ecma_word::{AssignOp, BinOpToken, Word};
+use ecma_token_kind::{AssignOp, BinOpToken, TokenKind, Word};
 use std::alloc::{AllocError, Global};
 use std::fmt;
 

@@ -4,8 +4,8 @@ use Rattle.ecma_word.specs.declared.keyword.Keyword.{Keyword}
 use Rattle.ecma_word.specs.declared.keyword.Keyword.TheVariants as keyword
 use Rattle.ecma_word.specs.declared.word.WordKind.TheVariants as word
 use Rattle.ecma_word.specs.declared.operator.BinOpToken.TheVariants.{Add, Sub}
-use Rattle.ecma_token.specs.declared.kind.TokenKind.{TokenKind}
-use Rattle.ecma_token.specs.declared.kind.TokenKind.TheVariants.{Word, BinOp, AssignOp, Arrow, BackQuote, Bang, BigInt, Colon, Comma, DollarLBrace, Dot, DotDotDot, JSXName, JSXTagEnd, JSXTagStart, JSXText, LBrace, LBracket, LParen, MinusMinus, Num, PlusPlus, QuestionMark, RBrace, RParen, Regex, Semi, Str, Template, Tilde}
+use Rattle.ecma_token_kind.specs.declared.kind.TokenKind.{TokenKind}
+use Rattle.ecma_token_kind.specs.declared.kind.TokenKind.TheVariants.{Word, BinOp, AssignOp, Arrow, BackQuote, Bang, BigInt, Colon, Comma, DollarLBrace, Dot, DotDotDot, JSXName, JSXTagEnd, JSXTagStart, JSXText, LBrace, LBracket, LParen, MinusMinus, Num, PlusPlus, QuestionMark, RBrace, RParen, Regex, Semi, Str, Template, Tilde}
 
 -- an expression may follow the keyword
 abbrev pub keyword_before_expr : Keyword → Bool

@@ -1,6 +1,6 @@
 //! Kinds of tokens, and what may come beside them.
 ghost use Rattle.std.specs.Prelude.{◌≡◌};
-ghost use Rattle.ecma_token.specs.Questions as ask;
+ghost use Rattle.ecma_token_kind.specs.Questions as ask;
 
 use ecma_word::{AssignOp, BinOpToken, Keyword, WordKind};
 

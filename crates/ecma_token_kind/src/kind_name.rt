@@ -1,6 +1,6 @@
 //! The names of kinds of tokens.
 ghost use Rattle.std.specs.Prelude.{◌≡◌};
-ghost use Rattle.ecma_token.specs.KindNames as names;
+ghost use Rattle.ecma_token_kind.specs.KindNames as names;
 
 use crate::kind::TokenKind;
 use ecma_word::WordKind;

@@ -1,8 +1,9 @@
 //! Lists of steps that numbers make, played as callers play them and by copies alone: both come to the same.
 use crate::tests::replays::{settings, write_answers, write_gathered};
-use ecma_lexer::{Gathered, Replay, Step, TokenContext, gather, replay};
 use ecma_place::{BytePos, StringInput};
+use ecma_replay::{Gathered, Replay, gather, replay};
 use ecma_samples::Random;
+use ecma_state::{Step, TokenContext};
 use ecma_syntax::Context;
 use listing::listing::contexts_of;
 use replay_model::replay_by_copies;

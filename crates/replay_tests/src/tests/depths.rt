@@ -1,6 +1,7 @@
 //! Many open templates, replayed.
-use ecma_lexer::{Kept, Replay, Settings, Step};
 use ecma_place::BytePos;
+use ecma_replay::Replay;
+use ecma_state::{Kept, Settings, Step};
 use ecma_syntax::{EsVersion, NumberRule, Syntax};
 use ecma_token::TokenKind;
 use listings::played::played;

@@ -1,6 +1,9 @@
 //! Pieces that cover a text: of its tokens, its comments and what is left.
-use ecma_lexer::{Class, Piece, Settings, Step, classes_of_steps};
+use super::replays::assert_found;
+use ecma_classes::{Class, Piece};
+use ecma_pieces::classes_of_steps;
 use ecma_place::{BytePos, StringInput};
+use ecma_state::{Settings, Step};
 use ecma_syntax::{EsVersion, NumberRule, Syntax};
 use listings::commands::{most_reads, push_reads};
 use std::alloc::{AllocError, Global};
@@ -74,8 +77,7 @@ fn told(alloc: Global, text: &str) -> Result<String, AllocError> {
 fn pieces_cover_a_text(rt: HostRuntime) -> Result<(), Fail> {
     let alloc = rt.alloc();
     for (text, expected) in ROWS {
-        let found = told(alloc, text)?;
-        assert_eq!(rt; found.as_str(), *expected, "{text:?}");
+        assert_found(&rt, text, told(alloc, text)?.as_str(), expected);
     }
     Ok(())
 }

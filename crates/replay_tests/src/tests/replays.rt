@@ -1,6 +1,7 @@
 //! Steps that are replayed: what each answers, and what they come to.
-use ecma_lexer::{Answer, Gathered, Kept, Replay, Settings, Step, gather};
 use ecma_place::{BytePos, StringInput};
+use ecma_replay::{Answer, Gathered, Replay, gather};
+use ecma_state::{Kept, Settings, Step};
 use ecma_syntax::{EsVersion, NumberRule, Syntax};
 use listing::listing::{write_comments, write_errors, write_note, write_token};
 use listings::commands::Command::{
@@ -230,10 +231,14 @@ fn told(alloc: Global, text: &str, commands: &[Command]) -> Result<String, Alloc
     Ok(out)
 }
 
+/// What was found in a text is what its row says. Here alone, as it brings printing into a proof.
+pub(super) fn assert_found(rt: &impl Abort, text: &str, found: &str, expected: &str) {
+    assert_eq!(rt; found, expected, "{text:?}");
+}
+
 fn assert_rows(rt: &impl Abort, alloc: Global, rows: &[Row]) -> Result<(), Fail> {
     for (text, commands, expected) in rows {
-        let found = told(alloc, text, commands)?;
-        assert_eq!(rt; found.as_str(), *expected, "{text:?}");
+        assert_found(rt, text, told(alloc, text, commands)?.as_str(), expected);
     }
     Ok(())
 }
@@ -242,7 +247,7 @@ fn assert_rows(rt: &impl Abort, alloc: Global, rows: &[Row]) -> Result<(), Fail>
 fn steps_are_gathered(rt: HostRuntime) -> Result<(), Fail> {
     for (text, commands, expected) in ROWS_OF_GATHERED {
         let found = told_without_answers(rt.alloc(), text, commands)?;
-        assert_eq!(rt; found.as_str(), *expected, "{text:?}");
+        assert_found(&rt, text, found.as_str(), expected);
     }
     Ok(())
 }

@@ -4,9 +4,10 @@ ghost use Rattle.ecma_slashes.specs.Rereads.{is_in_order, rule_of};
 
 use crate::tests::agreement::{START, TEXTS, told};
 use crate::tests::replays::settings;
-use ecma_lexer::{Slashes, ascend, count_rereads, gather, steps_by};
 use ecma_place::{BytePos, Spanned, StringInput};
 use ecma_reader::{Reader, read_out, tokenize};
+use ecma_replay::gather;
+use ecma_slashes::{Slashes, ascend, count_rereads, steps_by};
 use ecma_syntax::Context;
 use ecma_token::Error;
 use std::alloc::{AllocError, Global};

@@ -1,8 +1,9 @@
 //! Rows of slashes that are named by the numbers of their tokens.
-use ecma_lexer::{
-    Kept, Lexer, Settings, Slashes, count_rereads, gather, read_by, steps_by, tokenize,
-};
 use ecma_place::{BytePos, StringInput};
+use ecma_reader::tokenize;
+use ecma_replay::gather;
+use ecma_slashes::{Lexer, Slashes, count_rereads, read_by, steps_by};
+use ecma_state::{Kept, Settings};
 use ecma_syntax::{BinOpToken, Context, EsVersion, NumberRule, Syntax};
 use ecma_token::TokenKind;
 use std::alloc::{AllocError, Global};

@@ -1,6 +1,8 @@
 //! Rows of slashes that are read by the tokens before them. The places are those of acorn's and TypeScript's parsers.
-use ecma_lexer::{Kept, Settings, Slashes, count_rereads, steps_by, tokenize};
 use ecma_place::{BytePos, StringInput};
+use ecma_reader::tokenize;
+use ecma_slashes::{Slashes, count_rereads, steps_by};
+use ecma_state::{Kept, Settings};
 use ecma_syntax::{AssignOp, BinOpToken, Context, EsVersion, NumberRule, Syntax, TsSyntax};
 use ecma_token::TokenKind;
 use std::alloc::{AllocError, Global};

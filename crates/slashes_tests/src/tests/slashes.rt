@@ -1,9 +1,11 @@
 //! Rows of slashes that are read by the flag, and by their places.
-use ecma_lexer::{
-    Canon, Kept, Lexer, Settings, Slashes, ascend, canonical, count_rereads, read_by, read_by_flag,
-    replay, steps_by, steps_by_flag,
-};
+use ecma_canonical::{Canon, canonical};
 use ecma_place::{BytePos, Span, StringInput};
+use ecma_replay::replay;
+use ecma_slashes::{
+    Lexer, Slashes, ascend, count_rereads, read_by, read_by_flag, steps_by, steps_by_flag,
+};
+use ecma_state::{Kept, Settings};
 use ecma_syntax::{AssignOp, BinOpToken, Context, EsVersion, NumberRule, Syntax};
 use ecma_token::TokenKind;
 use std::alloc::{AllocError, Global};

@@ -1,6 +1,8 @@
 //! Rows of texts and the classes of their words. The classes are those that a reader of the text gives by hand.
-use ecma_lexer::{Kept, Settings, Slashes, tokenize};
 use ecma_place::{BytePos, StringInput};
+use ecma_reader::tokenize;
+use ecma_slashes::Slashes;
+use ecma_state::{Kept, Settings};
 use ecma_styles::token_classes;
 use ecma_syntax::{Context, EsVersion, NumberRule, Syntax, TsSyntax};
 use ecma_token::TokenKind;

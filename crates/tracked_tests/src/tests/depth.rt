@@ -3,6 +3,7 @@
 use ecma_roles::{Part, Track};
 use ecma_token::TokenKind;
 use std::alloc::{AllocError, Global};
+use std::process::Abort;
 use std::test::Fail;
 
 /// More frames than stand in the track itself.
@@ -33,29 +34,31 @@ fn closed(track: &mut Track, count: usize) -> Result<(bool, bool), AllocError> {
     Ok((behind_group, track.expects_operand(false)))
 }
 
+/// Behind so many right parentheses a slash divides, and behind the semicolon it begins a regular expression.
+fn assert_closed(rt: &impl Abort, track: &mut Track, count: usize) -> Result<(), AllocError> {
+    let found = closed(track, count)?;
+    assert!(rt; found == (false, true));
+    Ok(())
+}
+
+/// The same of a track and of its copy.
+fn assert_both(rt: &impl Abort, track: &mut Track, count: usize) -> Result<(), AllocError> {
+    let mut copy = track.copy()?;
+    assert_closed(rt, track, count)?;
+    assert_closed(rt, &mut copy, count)
+}
+
 #[test]
 fn a_million_brackets_open_and_close(rt: HostRuntime) -> Result<(), Fail> {
     let mut track = opened(rt.alloc(), VERY_DEEP)?;
     assert!(rt; track.expects_operand(false));
-    assert_eq!(rt; closed(&mut track, VERY_DEEP)?, (false, true));
-    Ok(())
+    Ok(assert_closed(&rt, &mut track, VERY_DEEP)?)
 }
 
 #[test]
 fn a_copy_goes_on_as_the_track_does(rt: HostRuntime) -> Result<(), Fail> {
     for depth in [0, 1, DEEP] {
-        let mut track = opened(rt.alloc(), depth)?;
-        let mut copy = track.copy()?;
-        assert_eq!(rt;
-            closed(&mut track, depth)?,
-            (false, true),
-            "at depth {depth}"
-        );
-        assert_eq!(rt;
-            closed(&mut copy, depth)?,
-            (false, true),
-            "of a copy at depth {depth}"
-        );
+        assert_both(&rt, &mut opened(rt.alloc(), depth)?, depth)?;
     }
     Ok(())
 }

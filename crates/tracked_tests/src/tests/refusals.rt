@@ -102,7 +102,7 @@ fn refusals_are_undone(rt: HostRuntime) -> Result<(), Fail> {
     for row in TEXTS {
         let (settings, text, expected) = *row;
         let sum = sum_of(rt.alloc(), settings, text)?;
-        assert_eq!(rt; sum, expected);
+        assert!(rt; sum == expected);
     }
     Ok(())
 }
@@ -149,6 +149,6 @@ fn count_expected(tracked: &mut Tracked) -> Result<u64, AllocError> {
 #[test]
 fn refused_questions_may_be_asked_again(rt: HostRuntime) -> Result<(), Fail> {
     let expected = count_expected(&mut begun(rt.alloc(), PLAIN, DEEP)?)?;
-    assert_eq!(rt; expected, 142);
+    assert!(rt; expected == 142);
     Ok(())
 }

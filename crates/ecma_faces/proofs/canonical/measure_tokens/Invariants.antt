@@ -4,7 +4,7 @@ use Rattle.std.specs.List.{list_all}
 use Rattle.ecma_token.specs.View.{error_view, refusal_of}
 use Rattle.ecma_state.specs.Session.{Session, lexer_state}
 use Rattle.ecma_state.specs.Ending.{most_tokens}
-use Rattle.ecma_slashes.specs.Rereads.{SlashRule}
+use Rattle.ecma_reader.specs.Rereads.{SlashRule}
 use Rattle.ecma_reader.specs.Readers.{FlatMaps, IsReady, Shows, Tells}
 use Rattle.ecma_faces.specs.Canonical.{has_no_error}
 use Rattle.ecma_faces.proofs.JoinedLemmas.{Measures}

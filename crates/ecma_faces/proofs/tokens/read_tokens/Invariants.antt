@@ -3,7 +3,7 @@ use Rattle.std.proofs.Common.{◌≡◌, ℕ, List, [], map}
 use Rattle.ecma_token.specs.View.{error_view, refusal_of}
 use Rattle.ecma_state.specs.Session.{Session, lexer_state}
 use Rattle.ecma_state.specs.Ending.{most_tokens}
-use Rattle.ecma_slashes.specs.Rereads.{SlashRule}
+use Rattle.ecma_reader.specs.Rereads.{SlashRule}
 use Rattle.ecma_reader.specs.Readers.{FlatMaps, IsReady, Shows, Tells}
 use Rattle.ecma_report.specs.Reports.{IsOf, Stays}
 use Rattle.ecma_report.specs.Rows.{Look}

@@ -3,7 +3,7 @@ use Rattle.std.specs.Str.{chars}
 use Rattle.ecma_token.specs.View.{error_view}
 use Rattle.ecma_state.specs.Session.{kept_tokens}
 use Rattle.ecma_options.specs.Begin as asks
-use Rattle.ecma_slashes.specs.Rereads.{rule_of}
+use Rattle.ecma_reader.specs.Rereads.{rule_of}
 use Rattle.ecma_classes.specs.Classes.{begin}
 use Rattle.ecma_faults.specs.Faults.{IsByPlace, all_of, view}
 use Rattle.ecma_looks.specs.Shown.{IsShown}

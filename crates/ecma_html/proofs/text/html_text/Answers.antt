@@ -2,7 +2,7 @@ use Rattle.std.proofs.Common.{refl}
 use Rattle.std.specs.Str.{chars}
 use Rattle.ecma_classes.specs.Classes.{begin}
 use Rattle.ecma_pieces.proofs.CoveredLemmas.{gathered_may_be_covered}
-use Rattle.ecma_slashes.specs.ByFlag.{text_steps}
+use Rattle.ecma_reader.specs.ByFlag.{text_steps}
 use Rattle.ecma_html.proofs.text.html_text.Goals as goal
 
 pub html_of_gathered-requires-clause-covered : goal.html_of_gathered-requires-clause-covered

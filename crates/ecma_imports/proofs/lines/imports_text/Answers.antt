@@ -2,7 +2,7 @@ use Rattle.std.proofs.Common.{refl}
 use Rattle.std.specs.Str.{chars}
 use Rattle.ecma_classes.specs.Classes.{begin}
 use Rattle.ecma_pieces.proofs.CoveredLemmas.{gathered_may_be_covered}
-use Rattle.ecma_slashes.specs.ByFlag.{text_steps}
+use Rattle.ecma_reader.specs.ByFlag.{text_steps}
 use Rattle.ecma_imports.proofs.lines.imports_text.Goals as goal
 
 pub imports_of_kept-requires : goal.imports_of_kept-requires

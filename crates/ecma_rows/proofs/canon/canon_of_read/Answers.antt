@@ -1,6 +1,6 @@
 use Rattle.std.proofs.Common.{false, refl}
 use Rattle.ecma_options.specs.Begin.{context, settings, whole}
-use Rattle.ecma_slashes.proofs.PlainRuns.{texts_are_read_plainly}
+use Rattle.ecma_reader.proofs.PlainRuns.{texts_are_read_plainly}
 use Rattle.ecma_rows.specs.Asked.{asked_view}
 use Rattle.ecma_rows.specs.Canon.{steps_of}
 use Rattle.ecma_rows.proofs.canon.canon_of_read.Goals as goal

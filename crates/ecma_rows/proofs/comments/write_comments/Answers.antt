@@ -1,7 +1,7 @@
 use Rattle.std.proofs.Common.{◌∙◌, Bool, List, ap, map, subst, sym, true}
 use Rattle.ecma_span.specs.declared.place.BytePos.{BytePos}
 use Rattle.ecma_comments.specs.declared.comments_buffer.BufferedComment.{BufferedComment}
-use Rattle.ecma_slashes.specs.Rereads.{steps_to_end_by}
+use Rattle.ecma_reader.specs.Rereads.{steps_to_end_by}
 use Rattle.ecma_reader.specs.Readers.{end_by}
 use Rattle.ecma_rows.specs.Asked.{asked_view, begin, judged}
 use Rattle.ecma_rows.specs.Rows.{comment_row, comment_rows}

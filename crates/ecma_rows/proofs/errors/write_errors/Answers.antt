@@ -1,6 +1,6 @@
 use Rattle.std.proofs.Common.{◌∙◌, Bool, List, [], false, ap, subst, sym}
 use Rattle.ecma_span.specs.declared.place.BytePos.{BytePos}
-use Rattle.ecma_slashes.specs.Rereads.{steps_to_end_by}
+use Rattle.ecma_reader.specs.Rereads.{steps_to_end_by}
 use Rattle.ecma_reader.specs.Readers.{end_by}
 use Rattle.ecma_rows.specs.Asked.{asked_view, begin, judged}
 use Rattle.ecma_rows.specs.ErrorRows.{IsGathered, Sourced, TellsErrors, all_errors}

@@ -4,7 +4,7 @@ use Rattle.ecma_module_table.specs.declared.rows.ModuleOptions.{ModuleOptions}
 use Rattle.ecma_modules.specs.Modules.{gathered}
 use Rattle.ecma_state.specs.Session.{Session, lexer_state}
 use Rattle.ecma_state.specs.Ending.{most_tokens}
-use Rattle.ecma_slashes.specs.Rereads.{SlashRule}
+use Rattle.ecma_reader.specs.Rereads.{SlashRule}
 use Rattle.ecma_reader.specs.Readers.{IsReady, Shows, Tells}
 use Rattle.ecma_modules.proofs.TokenLemmas.{Gathers}
 use Rattle.ecma_rows.proofs.imports.gather_tokens.Given as goal

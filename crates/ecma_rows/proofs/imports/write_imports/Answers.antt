@@ -2,7 +2,7 @@ use Rattle.std.proofs.Common.{◌∙◌, ℕ, List, [], Ok, false, ap, subst, sy
 use Rattle.ecma_span.specs.declared.place.BytePos.{BytePos}
 use Rattle.ecma_modules.specs.Modules.{gathered}
 use Rattle.ecma_module_table.specs.declared.rows.ModuleOptions.{ModuleOptions}
-use Rattle.ecma_slashes.specs.Rereads.{steps_to_end_by}
+use Rattle.ecma_reader.specs.Rereads.{steps_to_end_by}
 use Rattle.ecma_rows.specs.Asked.{asked_view, begin, judged}
 use Rattle.ecma_rows.specs.ModuleRows.{ModuleView, TellsModule, is_commonjs, kept_by, module_options, module_told, reading_bits}
 use Rattle.ecma_rows.proofs.ModuleLemmas.{module-gathered}

@@ -2,7 +2,7 @@
 use Rattle.std.proofs.Common.{◌+◌, ◌<◌, ◌^◌, []}
 use Rattle.ecma_state.specs.Session.{Session, lexer_state}
 use Rattle.ecma_state.specs.Ending.{most_tokens}
-use Rattle.ecma_slashes.specs.Rereads.{SlashRule}
+use Rattle.ecma_reader.specs.Rereads.{SlashRule}
 use Rattle.ecma_reader.specs.Readers.{IsReady, Shows, Tells}
 use Rattle.ecma_rows.proofs.RowLemmas.{IsWritten}
 use Rattle.ecma_rows.proofs.tokens.write_rows.Given as goal
