@@ -1,8 +1,8 @@
 //! The examples of docs/GUIDE.md, which shows these functions line by line.
 //!
-//! `strings.rt` and `errors.rt` read token by token, `parser.rt` as a parser does, `comments.rt` collects comments, `cache.rt`
-//! makes a key of a text's tokens, `steps.rt` plays lists of steps, `faces.rt` writes HTML and imports, and `number.rt` calls one
-//! reader. The program runs each over a text from standard input.
+//! `strings.rt` and `errors.rt` read token by token, `parser.rt` as a parser does, `tracked.rt` looks ahead without one,
+//! `comments.rt` collects comments, `cache.rt` makes a key of a text's tokens, `steps.rt` plays lists of steps, `faces.rt` writes
+//! HTML and imports, and `number.rt` calls one reader. The program runs each over a text from standard input.
 #![tactic(auto)]
 
 ghost use Rattle.std.specs.Prelude.{◌<◌, ◌^◌, length};
@@ -15,6 +15,7 @@ mod number;
 mod parser;
 mod steps;
 mod strings;
+mod tracked;
 
 use ecma_lexer::Settings;
 use ecma_lexer::place::{BytePos, StringInput};
@@ -61,8 +62,9 @@ fn read_parts(rt: &HostRuntime) -> io::Result<()> {
     errors::list_errors(rt, "let a = 08;\n'")?;
     let arrow = parser::begins_with_arrow(alloc, "x => x")?;
     let expression = parser::begins_with_expression(alloc, "/=/.test(x)")?;
+    let second = tracked::has_arrow_second(alloc, "/=/ => x")?;
     let kept = steps::count_kept(alloc, "a /b/ c")?;
-    println!(rt; "{arrow} {expression} {kept}")?;
+    println!(rt; "{arrow} {expression} {second} {kept}")?;
     let value = number::whole_value(alloc, &mut StringInput::new("0x1F + 1", START))?;
     println!(rt; "{}", value.unwrap_or(0))
 }

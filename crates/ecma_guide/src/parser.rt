@@ -33,7 +33,7 @@ fn read_operand<'a>(
 }
 
 /// Whether the token in the slot is `=>`.
-fn is_arrow(slot: &Option<TokenAndSpan>) -> bool {
+pub(crate) fn is_arrow(slot: &Option<TokenAndSpan>) -> bool {
     match slot {
         Some(found) => matches!(found.token, Token::Arrow),
         None => false,

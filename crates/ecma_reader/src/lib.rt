@@ -5,7 +5,8 @@
 //!
 //! `reader.rt` reads a text to its end by a rule of slashes, token by token and with no list of steps, and leaves
 //! errors, comments, whether the end was reached, and how many slashes were read again. `tokens.rt` keeps the tokens;
-//! `error_tokens.rt` also returns the errors of the tokens that are one.
+//! `error_tokens.rt` also returns the errors of the tokens that are one. What a caller names of `ecma_slashes` and
+//! `ecma_replay` is passed on.
 //!
 //! `specs/Readers.antt` says which session a reader shows: that behind the first tokens (`Shows`), and at the end that
 //! behind all (`HasRead`). `proofs/FoldLemmas.antt` is the law of loops: a loop that adds what each token yields has at

@@ -1,0 +1,5 @@
+//! Tests of `ecma_report`.
+#![tactic(auto)]
+
+#[cfg(test)]
+mod tests;

@@ -1,0 +1,5 @@
+//! Tests of `ecma_rows`.
+#![tactic(auto)]
+
+#[cfg(test)]
+mod tests;
