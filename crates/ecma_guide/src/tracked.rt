@@ -8,7 +8,7 @@ use ecma_lexer::syntax::Context;
 use ecma_lexer::token::TokenAndSpan;
 use std::alloc::{AllocError, Global};
 
-/// Whether `=>` is behind the next token. Neither is read.
+/// Whether the token after the next one is `=>`. The lexer goes back to where it was.
 fn is_arrow_behind_next<'a>(
     tracked: &mut Tracked<'a>,
     slot: &mut Option<TokenAndSpan<'a>>,

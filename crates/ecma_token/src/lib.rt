@@ -1,8 +1,7 @@
 //! Tokens, their kinds, and errors.
 //!
-//! The lexer returns [`Token`], [`TokenAndSpan`] and [`Error`]. Match on a token, or ask its [`TokenKind`];
-//! `Error::kind` and `SyntaxError::msg` are what is wrong, in words. The `Display` of a kind is its name
-//! ([`TokenKind::name`]). Promised: questions, messages and debug texts are
+//! The lexer returns [`Token`], [`TokenAndSpan`] and [`Error`]. Match on a token, or ask its [`TokenKind`], which is that of
+//! `ecma_token_kind`; `Error::kind` and `SyntaxError::msg` are what is wrong, in words. Promised: messages and debug texts are
 //! the tables of `specs/`; a copy looks like its source, and allocates only for what is owned.
 //!
 //! The parser's errors with fixed messages are in `ecma_fixed`; `names.rt` has a constant of `SyntaxError` for each.
