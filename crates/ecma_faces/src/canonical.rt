@@ -23,6 +23,7 @@ use ecma_report::faults::keep_error;
 use ecma_report::report::{Report, Stop};
 use ecma_report::slashes::open;
 use ecma_report::words::Named;
+use ecma_slot::Slot;
 use ecma_state::Kept;
 use ecma_token::{Error, TokenAndSpan, TokenKind};
 use std::alloc::AllocError;
@@ -115,12 +116,12 @@ fn measure_tokens<'a>(
     let mut bytes = Some(0);
     let mut clean = true;
     let mut before = None;
-    let mut slot = None;
-    'tokens: while reader.read_into(&mut slot)? {
-        bytes = with_slot(report, bytes, before, &slot);
-        clean = stays_clean(clean, &slot);
-        before = kind_read(before, &slot);
-        keep_error(errors, &mut slot)?;
+    let mut slot = Slot::new();
+    'tokens: while reader.read_into(&mut slot.token)? {
+        bytes = with_slot(report, bytes, before, &slot.token);
+        clean = stays_clean(clean, &slot.token);
+        before = kind_read(before, &slot.token);
+        keep_error(errors, &mut slot.token)?;
     }
     Ok(Measured { bytes, clean })
 }
@@ -157,10 +158,10 @@ fn write_tokens_joined<W: Write>(
     ensures stays { OnOk result (Stays report.old report.new) }
 {
     let mut before = None;
-    let mut slot = None;
-    'tokens: while reader.read_into(&mut slot)? {
-        push_joined(report, before, &slot)?;
-        before = kind_read(before, &slot);
+    let mut slot = Slot::new();
+    'tokens: while reader.read_into(&mut slot.token)? {
+        push_joined(report, before, &slot.token)?;
+        before = kind_read(before, &slot.token);
         report.pass_on(out)?;
     }
     Ok(())

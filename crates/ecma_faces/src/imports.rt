@@ -26,6 +26,7 @@ use ecma_report::faults::keep_error;
 use ecma_report::report::{More, Report, Row, Stop};
 use ecma_report::slashes::open;
 use ecma_report::words::{Asked, Named};
+use ecma_slot::Slot;
 use ecma_token::Error;
 use std::alloc::AllocError;
 use std::io::Write;
@@ -150,10 +151,10 @@ fn gather_tokens<'a>(
     ensures read { (rule : SlashRule) (begin : Session) → Shows rule begin [] reader.old → errors.old.items ≡ []
         → OnOk result (HasRead rule begin reader.new) }
 {
-    let mut slot = None;
-    'tokens: while reader.read_into(&mut slot)? {
-        gathering.take_read(&slot)?;
-        keep_error(errors, &mut slot)?;
+    let mut slot = Slot::new();
+    'tokens: while reader.read_into(&mut slot.token)? {
+        gathering.take_read(&slot.token)?;
+        keep_error(errors, &mut slot.token)?;
     }
     Ok(())
 }

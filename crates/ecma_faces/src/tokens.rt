@@ -22,6 +22,7 @@ use ecma_report::faults::keep_error;
 use ecma_report::report::{More, Report, Row, Stop};
 use ecma_report::slashes::open;
 use ecma_report::words::Named;
+use ecma_slot::Slot;
 use ecma_state::Kept;
 use ecma_styles::Class;
 use ecma_token::{Error, TokenAndSpan, TokenKind};
@@ -96,10 +97,10 @@ fn read_tokens<'a, W: Write>(
     ensures stays { OnOk result (Stays report.old report.new) }
 {
     let mut previous = None;
-    let mut slot = None;
-    'tokens: while reader.read_into(&mut slot)? {
-        previous = push_slot(report, previous, &slot)?;
-        keep_error(errors, &mut slot)?;
+    let mut slot = Slot::new();
+    'tokens: while reader.read_into(&mut slot.token)? {
+        previous = push_slot(report, previous, &slot.token)?;
+        keep_error(errors, &mut slot.token)?;
         report.pass_on(out)?;
     }
     Ok(())

@@ -5,7 +5,7 @@ ghost use Rattle.ecma_reader.specs.Readers.{IsReady};
 use crate::{START, settings};
 use ecma_lexer::syntax::Context;
 use ecma_lexer::token::{Token, TokenAndSpan};
-use ecma_lexer::{Reader, Slashes};
+use ecma_lexer::{Reader, Slashes, Slot};
 use std::io;
 
 /// Writes the value of a token that is a string.
@@ -16,16 +16,13 @@ fn write_string(rt: &HostRuntime, found: &TokenAndSpan) -> io::Result<()> {
     Ok(())
 }
 
-/// Writes the values of the strings that a reader has left. Each token is read into the slot.
-fn write_strings<'a>(
-    rt: &HostRuntime,
-    reader: &mut Reader<'a>,
-    slot: &mut Option<TokenAndSpan<'a>>,
-) -> io::Result<()>
+/// Writes the values of the strings that a reader has left.
+fn write_strings(rt: &HostRuntime, reader: &mut Reader) -> io::Result<()>
     requires { IsReady reader.old }
 {
-    'tokens: while reader.read_into(slot)? {
-        if let Some(found) = slot {
+    let mut slot = Slot::new();
+    'tokens: while reader.read_into(&mut slot.token)? {
+        if let Some(found) = &slot.token {
             write_string(rt, found)?;
         }
     }
@@ -39,5 +36,5 @@ pub(crate) fn list_strings(rt: &HostRuntime, text: &str) -> io::Result<()>
     let (alloc, context) = (rt.alloc(), Context::default());
     let settings = settings(false);
     let mut reader = Reader::new(alloc, &settings, context, text, START, Slashes::ByRole)?;
-    write_strings(rt, &mut reader, &mut None)
+    write_strings(rt, &mut reader)
 }

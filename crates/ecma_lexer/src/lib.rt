@@ -31,7 +31,8 @@ pub use ecma_state::{
 };
 pub use ecma_stored as stored;
 pub use ecma_stream::{
-    Checkpoint, CommentList, Counts, Lexer, Tokens, comment_list, hand_comments, lexer, tokens,
+    Checkpoint, CommentList, Counts, Lexer, Slot, Tokens, comment_list, hand_comments, lexer,
+    tokens,
 };
 pub use ecma_syntax as syntax;
 pub use ecma_token as token;

@@ -6,7 +6,7 @@ use ecma_stream::{Checkpoint, Lexer};
 use ecma_token::TokenAndSpan;
 use std::alloc::AllocError;
 
-/// Lets go of what was kept. A call of its own, as is each of the four: what one writes is then no cost of another.
+/// Drops what was kept. A call of its own, as is each of the four: what one writes is then no cost of another.
 #[inline(never)]
 fn keep_nothing(kept: &mut Option<Checkpoint>) {
     *kept = None;

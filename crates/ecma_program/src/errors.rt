@@ -13,7 +13,7 @@ use ecma_faults::Origin;
 use ecma_options::Options;
 use ecma_place::{Span, Spanned};
 use ecma_stdio::{Fault, push_escaped, push_pair};
-use ecma_stream::{Lexer, Tokens};
+use ecma_stream::{Lexer, Slot, Tokens};
 use ecma_token::{Error, Token, TokenAndSpan};
 use std::alloc::{AllocError, Global};
 
@@ -62,13 +62,19 @@ fn push_refusal(alloc: Global, out: &mut Vec<u8>, token: &Token) -> Result<(), A
     }
 }
 
-/// Reads the next token, adds the line of its error where it is one, and says whether there was a token.
-fn push_next(alloc: Global, out: &mut Vec<u8>, lexer: &mut Lexer) -> Result<bool, AllocError>
+/// Reads the next token into the slot, adds the line of its error where it is one, and says whether there was a token.
+fn push_next<'a>(
+    alloc: Global,
+    out: &mut Vec<u8>,
+    lexer: &mut Lexer<'a>,
+    slot: &mut Option<TokenAndSpan<'a>>,
+) -> Result<bool, AllocError>
     ensures more { IfOk result (λ more. more ≡ is_some (reading_of (lexer_state lexer.old)).found) }
     ensures lines { OnOk result (out.new.items ≡ out.old.items ++ rows.found_lines (reading_of (lexer_state lexer.old)).found) }
     ensures after { OnOk result (lexer_state lexer.new ≡ state_behind (lexer_state lexer.old) (reading_of (lexer_state lexer.old))) }
 {
-    match lexer.read()? {
+    lexer.read_into(slot)?;
+    match slot {
         Some(token) => {
             push_refusal(alloc, out, &token.token)?;
             Ok(true)
@@ -119,7 +125,8 @@ pub fn errors_text(
     let ReadAgain { mut lexer, tokens } = open(alloc, false, options, rereads, text)?;
     let mut out = Vec::new(alloc);
     push_refusals(alloc, &mut out, &tokens)?;
-    'tokens: while push_next(alloc, &mut out, &mut lexer)? {}
+    let mut slot = Slot::new();
+    'tokens: while push_next(alloc, &mut out, &mut lexer, &mut slot.token)? {}
     push_lists(alloc, &mut out, &mut lexer)?;
     Ok(out)
 }

@@ -9,7 +9,7 @@ ghost use Rattle.ecma_program.specs.Rereads.{Stands};
 use crate::lines::next_kept;
 use crate::rereads::ReadAgain;
 use ecma_state::Kept;
-use ecma_stream::Lexer;
+use ecma_stream::{Lexer, Slot};
 use ecma_token::TokenAndSpan;
 use std::alloc::{AllocError, Global};
 
@@ -31,7 +31,8 @@ fn keep_rest(kept: &mut Vec<Kept>, lexer: &mut Lexer) -> Result<(), AllocError>
     ensures comments { (s : Session) → state_of s ≡ lexer_state lexer.old → OnOk result ((lexer_state lexer.new).comments ≡ comments_of s) }
     ensures ended { (s : Session) → state_of s ≡ lexer_state lexer.old → OnOk result (has_comments (lexer_state lexer.new) ≡ true) }
 {
-    'tokens: while let Some(token) = next_kept(lexer)? {
+    let mut slot = Slot::new();
+    'tokens: while let Some(token) = next_kept(lexer, &mut slot.token)? {
         kept.push(token)?;
     }
     Ok(())

@@ -1,5 +1,5 @@
 //! What is written of the tokens of a text: a line each.
-ghost use Rattle.std.specs.Prelude.{◌≡◌, ◌++◌, ◌+◌, ◌^◌, ◌<◌, ◌≤◌, Some, codes, length, map, option_map, IfOk, MatchResult, OnOk};
+ghost use Rattle.std.specs.Prelude.{◌≡◌, ◌++◌, ◌+◌, ◌^◌, ◌<◌, ◌≤◌, Some, codes, length, map, option_map, IfOk, MatchResult, OnErr, OnOk};
 ghost use Rattle.ecma_state.specs.Run.{reading_of, state_behind};
 ghost use Rattle.ecma_state.specs.Session.{kept_of, lexer_state};
 ghost use Rattle.ecma_token.specs.View.{spanned_view};
@@ -10,7 +10,7 @@ use crate::rereads::{ReadAgain, open};
 use ecma_options::Options;
 use ecma_state::Kept;
 use ecma_stdio::{Fault, push_escaped, push_pair};
-use ecma_stream::Lexer;
+use ecma_stream::{Lexer, Slot};
 use ecma_token::{TokenAndSpan, TokenKind};
 use std::alloc::{AllocError, Global};
 
@@ -51,13 +51,19 @@ fn push_line(out: &mut Vec<u8>, bytes: &[u8], token: Kept) -> Result<(), AllocEr
     Ok(())
 }
 
-/// What is kept of the next token, or nothing at the end.
-pub fn next_kept(lexer: &mut Lexer) -> Result<Option<Kept>, AllocError>
+/// What is kept of the next token, which is read into the slot, or nothing at the end.
+pub fn next_kept<'a>(
+    lexer: &mut Lexer<'a>,
+    slot: &mut Option<TokenAndSpan<'a>>,
+) -> Result<Option<Kept>, AllocError>
     ensures kept { IfOk result (λ kept. kept ≡ option_map kept_of (reading_of (lexer_state lexer.old)).found) }
+    ensures slot { OnOk result (option_map spanned_view slot.new ≡ (reading_of (lexer_state lexer.old)).found) }
+    ensures stays { OnErr result (slot.new ≡ slot.old) }
     ensures after { OnOk result (lexer_state lexer.new ≡ state_behind (lexer_state lexer.old) (reading_of (lexer_state lexer.old))) }
 {
-    match lexer.read()? {
-        Some(token) => Ok(Some(Kept::of(&token))),
+    lexer.read_into(slot)?;
+    match slot {
+        Some(token) => Ok(Some(Kept::of(token))),
         None => Ok(None),
     }
 }
@@ -92,7 +98,9 @@ pub fn tokens_text(
     let ReadAgain { mut lexer, tokens } = open(alloc, false, options, rereads, text)?;
     let mut out = Vec::new(alloc);
     push_lines(&mut out, text.as_bytes(), &tokens)?;
-    'tokens: while let Some(token) = next_kept(&mut lexer)? {
+    // One slot for all, so that none is made and dropped for each token.
+    let mut slot = Slot::new();
+    'tokens: while let Some(token) = next_kept(&mut lexer, &mut slot.token)? {
         push_line(&mut out, text.as_bytes(), token)?;
     }
     Ok(out)

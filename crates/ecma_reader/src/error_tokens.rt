@@ -13,6 +13,7 @@ use crate::tokens::{LexOutput, gathered, keep};
 use ecma_place::BytePos;
 use ecma_replay::Gathered;
 use ecma_slashes::Slashes;
+use ecma_slot::Slot;
 use ecma_state::{Kept, Settings};
 use ecma_syntax::Context;
 use ecma_token::{Error, Token, TokenAndSpan};
@@ -79,9 +80,9 @@ impl<'a> Sink<'a> {
         ensures read { (rule : SlashRule) (begin : Session) → Shows rule begin [] reader.old → self.old.kept.items ≡ [] → self.old.errors.items ≡ []
             → OnOk result (HasRead rule begin reader.new) }
     {
-        let mut slot = None;
-        'tokens: while reader.read_into(&mut slot)? {
-            self.take_in(&mut slot)?;
+        let mut slot = Slot::new();
+        'tokens: while reader.read_into(&mut slot.token)? {
+            self.take_in(&mut slot.token)?;
         }
         Ok(())
     }

@@ -9,6 +9,7 @@ ghost use Rattle.ecma_reader.specs.Readers.{HasRead, IsReady, Leaves, Reads, Sho
 
 use ecma_place::{BytePos, StringInput};
 use ecma_slashes::{Decider, Lexer, Slashes, Tokens, read_deciding};
+use ecma_slot::Slot;
 use ecma_state::Settings;
 use ecma_state::comments_buffer::BufferedComment;
 use ecma_state::error_list::ErrorList;
@@ -18,7 +19,6 @@ use std::alloc::{AllocError, Global};
 
 /// Reads a text to its end with no parser above: each slash that [`Slashes`] names is read again as a regular expression,
 /// whose token takes the place of the slash. Our own.
-#[derive(Drop)]
 pub struct Reader<'a> {
     lexer: Lexer<'a>,
     decider: Decider<'a>,
@@ -26,6 +26,18 @@ pub struct Reader<'a> {
     rereads: usize,
     /// Whether an allocation failed.
     refused: bool,
+}
+
+/// By hand, so that a function that drops a reader proves one call.
+impl<'a> Drop for Reader<'a> {
+    fn drop(self) {
+        let Reader {
+            lexer: _,
+            decider: _,
+            rereads: _,
+            refused: _,
+        } = self;
+    }
 }
 
 /// What a reader leaves besides the tokens.
@@ -164,8 +176,8 @@ impl<'a> Reader<'a> {
         ensures read { (rule : SlashRule) (begin : Session) → Shows rule begin [] self.old → OnOk result (HasRead rule begin self.new) }
     {
         let mut count = 0;
-        let mut slot = None;
-        'tokens: while self.read_into(&mut slot)? {
+        let mut slot = Slot::new();
+        'tokens: while self.read_into(&mut slot.token)? {
             count += 1;
         }
         Ok(count)

@@ -15,6 +15,7 @@ use crate::reader::Reader;
 use ecma_place::BytePos;
 use ecma_replay::Gathered;
 use ecma_slashes::Slashes;
+use ecma_slot::Slot;
 use ecma_state::{Kept, Settings};
 use ecma_syntax::Context;
 use ecma_token::TokenAndSpan;
@@ -47,10 +48,10 @@ fn keep_rest(kept: &mut Vec<Kept>, reader: &mut Reader) -> Result<(), AllocError
     ensures read { (rule : SlashRule) (begin : Session) → Shows rule begin [] reader.old → kept.old.items ≡ []
         → OnOk result (HasRead rule begin reader.new) }
 {
-    // One slot for all, so that none is made and let go of for each token.
-    let mut slot = None;
-    'tokens: while reader.read_into(&mut slot)? {
-        keep(kept, &slot)?;
+    // One slot for all, so that none is made and dropped for each token.
+    let mut slot = Slot::new();
+    'tokens: while reader.read_into(&mut slot.token)? {
+        keep(kept, &slot.token)?;
     }
     Ok(())
 }

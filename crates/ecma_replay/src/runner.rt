@@ -12,6 +12,7 @@ use crate::course::Course;
 use crate::gathered::Gathered;
 use crate::replayed::Replay;
 use ecma_place::{BytePos, StringInput};
+use ecma_slot::Slot;
 use ecma_state::settings::Settings;
 use ecma_state::step::Step;
 use std::alloc::{AllocError, Global};
@@ -114,9 +115,9 @@ pub fn gather<'a>(
     ensures { IfOk result (λ r. Gathers (start_of settings.now record { start = start.0; text = chars source.now; at = 0 }) steps.now r) }
 {
     let mut course = Course::new(alloc, settings, StringInput::new(source, start));
-    let mut slot = None;
+    let mut slot = Slot::new();
     'steps: for step in steps {
-        course.pass(step, &mut slot)?;
+        course.pass(step, &mut slot.token)?;
     }
     course.finish()
 }

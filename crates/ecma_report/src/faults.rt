@@ -17,6 +17,7 @@ use crate::slashes::{open, tell_unmet};
 use crate::words::{Face, Named};
 use ecma_faults::{Found, Origin, in_order};
 use ecma_reader::{Reader, take_error};
+use ecma_slot::Slot;
 use ecma_span::Spanned;
 use ecma_token::{Error, TokenAndSpan};
 use std::alloc::AllocError;
@@ -120,9 +121,9 @@ pub fn pass_tokens<'a>(
     ensures read { (rule : SlashRule) (begin : Session) → Shows rule begin [] reader.old → errors.old.items ≡ []
         → OnOk result (HasRead rule begin reader.new) }
 {
-    let mut slot = None;
-    'tokens: while reader.read_into(&mut slot)? {
-        keep_error(errors, &mut slot)?;
+    let mut slot = Slot::new();
+    'tokens: while reader.read_into(&mut slot.token)? {
+        keep_error(errors, &mut slot.token)?;
     }
     Ok(())
 }

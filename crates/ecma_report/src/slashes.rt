@@ -10,6 +10,7 @@ ghost use Rattle.ecma_report.specs.Slashes.{rule_at};
 use crate::report::Report;
 use crate::words::Named;
 use ecma_reader::{Reader, Slashes, ascend};
+use ecma_slot::Slot;
 use ecma_span::BytePos;
 use ecma_token::{Token, TokenAndSpan};
 use std::alloc::AllocError;
@@ -76,9 +77,9 @@ fn met_places(
     requires { IsReady reader.old }
 {
     let mut met = Vec::new(report.alloc);
-    let mut slot = None;
-    'tokens: while reader.read_into(&mut slot)? {
-        if let Some(token) = &slot
+    let mut slot = Slot::new();
+    'tokens: while reader.read_into(&mut slot.token)? {
+        if let Some(token) = &slot.token
             && begins_with_slash(report, token)
             && places.binary_search(&token.span.lo).is_ok()
         {

@@ -14,6 +14,7 @@ use crate::outcome::Answer;
 use crate::request::{judge, places};
 use crate::room::write_all;
 use ecma_reader::{Outcome, Reader};
+use ecma_slot::Slot;
 use ecma_span::{Span, Spanned};
 use ecma_token::{Error, Token, TokenAndSpan};
 use std::alloc::{AllocError, Global};
@@ -122,9 +123,9 @@ impl Gathered {
             → OnOk result (IsGathered (of_tokens (errors_among (tokens_by rule begin))) self.new) }
         ensures read { (rule : SlashRule) (begin : Session) → Shows rule begin [] reader.old → IsGathered [] self.old → OnOk result (HasRead rule begin reader.new) }
     {
-        let mut slot = None;
-        'tokens: while reader.read_into(&mut slot)? {
-            self.push_token(alloc, &slot)?;
+        let mut slot = Slot::new();
+        'tokens: while reader.read_into(&mut slot.token)? {
+            self.push_token(alloc, &slot.token)?;
         }
         Ok(())
     }

@@ -18,6 +18,7 @@ use crate::room::put;
 use ecma_module_table::rows::{Export, Import, ModuleOptions};
 use ecma_modules::{Gathering, Module};
 use ecma_reader::Reader;
+use ecma_slot::Slot;
 use std::alloc::{AllocError, Global};
 
 /// What a call came to, how many rows of imports and of exports there are, also where there is no room for all of them,
@@ -55,9 +56,9 @@ fn gather_tokens(reader: &mut Reader, gathering: &mut Gathering) -> Result<(), A
     ensures read { (rule : SlashRule) (begin : Session) (options : ModuleOptions) → Shows rule begin [] reader.old → gathering.old ≡ gathered options []
         → OnOk result (HasRead rule begin reader.new) }
 {
-    let mut slot = None;
-    'tokens: while reader.read_into(&mut slot)? {
-        gathering.take_read(&slot)?;
+    let mut slot = Slot::new();
+    'tokens: while reader.read_into(&mut slot.token)? {
+        gathering.take_read(&slot.token)?;
     }
     Ok(())
 }

@@ -14,6 +14,7 @@ use crate::request::{judge, places};
 use crate::room::put;
 use ecma_kinds::kind_number;
 use ecma_reader::Reader;
+use ecma_slot::Slot;
 use ecma_span::Span;
 use ecma_syntax::Word;
 use ecma_token::{Token, TokenAndSpan};
@@ -94,10 +95,10 @@ fn write_rows(reader: &mut Reader, out: &mut [TokenRow]) -> Result<usize, AllocE
         → IfOk result (λ count. HasWritten rule begin out.old out.new count reader.new) }
 {
     let mut count = 0;
-    // One slot for all, so that none is made and let go of for each token.
-    let mut slot = None;
-    'tokens: while reader.read_into(&mut slot)? {
-        put_token(out, count, &slot);
+    // One slot for all, so that none is made and dropped for each token.
+    let mut slot = Slot::new();
+    'tokens: while reader.read_into(&mut slot.token)? {
+        put_token(out, count, &slot.token);
         count += 1;
     }
     Ok(count)

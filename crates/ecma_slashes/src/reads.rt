@@ -13,6 +13,7 @@ ghost use Rattle.ecma_slashes.specs.Rereads.{Decides, HasRoom, MayName, NamesAs,
 use crate::decider::{Decider, Namer};
 use crate::slashes::Slashes;
 use ecma_place::{BytePos, StringInput};
+use ecma_slot::Slot;
 use ecma_state::settings::Settings;
 use ecma_state::step::Step;
 use ecma_stream::lexer::Lexer;
@@ -218,9 +219,9 @@ pub(crate) fn add_steps_deciding(
     ensures steps { (rule : SlashRule) (s : Session) → state_of s ≡ lexer_state lexer.old → Decides rule s decider.old → OnOk result (steps.new.items ≡ steps.old.items ++ steps_to_end_by rule s) }
     ensures after { (rule : SlashRule) (s : Session) → state_of s ≡ lexer_state lexer.old → Decides rule s decider.old → OnOk result (lexer_state lexer.new ≡ state_of (act_all s (steps_to_end_by rule s))) }
 {
-    // One slot for all, so that none is made and let go of a token.
-    let mut slot = None;
-    'tokens: while add_steps(steps, lexer, &mut slot, decider)? {}
+    // One slot for all, so that none is made and dropped for each token.
+    let mut slot = Slot::new();
+    'tokens: while add_steps(steps, lexer, &mut slot.token, decider)? {}
     Ok(())
 }
 

@@ -6,6 +6,29 @@ use ecma_syntax::{IdentLike, Word};
 use ecma_token::{Token, TokenAndSpan};
 use std::mem;
 
+/// A slot of one's own, which tokens are read into one after the other: `read_into(&mut slot.token)`.
+///
+/// Where a function that owns an `Option<TokenAndSpan>` ends, the prover takes the token apart, variant by variant and on each
+/// path; a `Slot` is dropped by a call. So loops that stop at errors own one.
+pub struct Slot<'a> {
+    pub token: Option<TokenAndSpan<'a>>,
+}
+
+impl<'a> Slot<'a> {
+    /// A slot with no token in it.
+    pub fn new() -> Slot<'a>
+        ensures { result.token ≡ None }
+    {
+        Slot { token: None }
+    }
+}
+
+impl<'a> Drop for Slot<'a> {
+    fn drop(self) {
+        let Slot { token: _ } = self;
+    }
+}
+
 /// Whether the token in the slot may own memory. Most own none: names, keywords, punctuators, and texts that mean what is
 /// written.
 #[inline(always)]
@@ -34,7 +57,7 @@ fn may_own(slot: &Option<TokenAndSpan>) -> bool
     }
 }
 
-/// Lets go of what is in the slot.
+/// Drops what is in the slot.
 #[inline(never)]
 fn clear(slot: &mut Option<TokenAndSpan>)
     ensures { slot.new ≡ None }
@@ -42,7 +65,7 @@ fn clear(slot: &mut Option<TokenAndSpan>)
     *slot = None;
 }
 
-/// Forgets a token that owns nothing, so that nothing is lost, and none of its parts is asked what to let go of.
+/// Forgets a token that owns nothing, so that nothing is lost, and none of its parts is asked what to drop.
 #[inline(always)]
 fn forget(left: Option<TokenAndSpan>)
     requires { IfSome left (λ token. token_owns_nothing token.token ≡ true) }

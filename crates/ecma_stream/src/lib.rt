@@ -16,6 +16,7 @@ pub mod tokens;
 
 pub use ecma_checkpoint::{Checkpoint, Counts};
 pub use ecma_comments::{CommentList, comment_list};
+pub use ecma_slot::Slot;
 pub use hand_over::hand_comments;
 pub use lexer::Lexer;
 pub use tokens::Tokens;

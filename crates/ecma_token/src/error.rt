@@ -9,10 +9,28 @@ use std::alloc::{AllocError, Global};
 
 /// An error and where it is.
 #[cycle(token)]
-#[derive(Debug, PartialEq, Drop)]
+#[derive(Debug, PartialEq)]
 pub struct Error<'a> {
     pub(crate) inner: Box<SyntaxError<'a>>,
     span: Span,
+}
+
+/// By hand, so that a function that drops tokens proves one call: of a derived `drop` each such function proves the whole cycle
+/// of tokens and errors anew. Inlined, it costs a read what a derived one does.
+impl<'a> Drop for Error<'a> {
+    #[inline(always)]
+    #[cycle(drop_error)]
+    fn drop(self) {
+        let Error { inner, span: _ } = self;
+        drop_inner(inner);
+    }
+}
+
+/// Apart, so that code that drops tokens is short.
+#[inline(never)]
+#[cycle(drop_error)]
+fn drop_inner(inner: Box<SyntaxError>) {
+    drop(inner);
 }
 
 /// What is wrong. The variants up to `TS1185` are those that the lexer raises.

@@ -4,6 +4,7 @@ ghost use Rattle.std.specs.Prelude.{◌<◌, ◌^◌, length};
 use crate::digest::Digest;
 use ecma_options::{Options, begin};
 use ecma_slashes::read_by_flag;
+use ecma_slot::Slot;
 use ecma_stream::Lexer;
 use ecma_token::TokenAndSpan;
 use std::alloc::{AllocError, Global};
@@ -22,10 +23,10 @@ fn add_slot(slot: &Option<TokenAndSpan>, digest: &mut Digest) -> bool {
 
 /// Reads to the end, each token into a slot that is kept.
 pub fn keep_rest(lexer: &mut Lexer, digest: &mut Digest) -> Result<(), AllocError> {
-    let mut slot = None;
+    let mut slot = Slot::new();
     for _ in 0..u64::MAX {
-        lexer.read_into(&mut slot)?;
-        if !add_slot(&slot, digest) {
+        lexer.read_into(&mut slot.token)?;
+        if !add_slot(&slot.token, digest) {
             break;
         }
     }

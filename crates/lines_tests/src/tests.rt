@@ -1,4 +1,7 @@
 //! Rows of the program, and readers and writers that fail in the middle.
+
+mod measures;
+
 use ecma_options::Options;
 use ecma_program::comments::comments_text;
 use ecma_program::{explanation, run};

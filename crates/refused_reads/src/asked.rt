@@ -1,6 +1,6 @@
 //! The ways in which the next token is asked for.
 use ecma_slashes::read_by_flag;
-use ecma_stream::Lexer;
+use ecma_stream::{Lexer, Slot};
 use ecma_token::TokenAndSpan;
 use std::alloc::AllocError;
 
@@ -14,9 +14,9 @@ pub enum Way {
 }
 
 fn read_by_slot<'a>(lexer: &mut Lexer<'a>) -> Result<Option<TokenAndSpan<'a>>, AllocError> {
-    let mut slot = None;
-    lexer.read_into(&mut slot)?;
-    Ok(slot)
+    let mut slot = Slot::new();
+    lexer.read_into(&mut slot.token)?;
+    Ok(slot.token.take())
 }
 
 impl Way {

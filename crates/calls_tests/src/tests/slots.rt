@@ -1,5 +1,6 @@
 //! Tokens that are read into a slot.
 use super::texts::assert_text;
+use ecma_slot::Slot;
 use ecma_stream::Lexer;
 use ecma_token::TokenAndSpan;
 use listing::listing::{PLAIN, opened, write_note, write_token};
@@ -47,10 +48,10 @@ fn write_slot(out: &mut String, slot: &Option<TokenAndSpan>) -> Result<(), Alloc
 }
 
 fn write_slots(out: &mut String, lexer: &mut Lexer, reads: usize) -> Result<(), AllocError> {
-    let mut slot = None;
+    let mut slot = Slot::new();
     for _ in 0..reads {
-        lexer.read_into(&mut slot)?;
-        write_slot(out, &slot)?;
+        lexer.read_into(&mut slot.token)?;
+        write_slot(out, &slot.token)?;
     }
     Ok(())
 }

@@ -80,7 +80,7 @@ impl<'a> Lexer<'a> {
     }
 
     /// Goes back to a checkpoint: of the errors and the comments the first are kept, as many as there were. It does not
-    /// allocate, and takes as long as it takes to let go of the others.
+    /// allocate, and takes as long as it takes to drop the others.
     ///
     /// Where no errors and no comments were taken since, all that was read behind the checkpoint is undone, also an
     /// allocation failure. Those that were taken do not come back, and such as came behind them may stay in their places. It returns

@@ -1,5 +1,5 @@
 //! Rows of the program that measures.
-use crate::tests::given;
+use super::given;
 use ecma_measure::run;
 use std::alloc::Global;
 use std::io;

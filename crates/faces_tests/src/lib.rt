@@ -1,0 +1,5 @@
+//! Tests of `ecma`, HTML and imports.
+#![tactic(auto)]
+
+#[cfg(test)]
+mod tests;
