@@ -147,8 +147,21 @@ fn write_token(line: &mut String, token: &Token, read: &str) -> Result<(), Alloc
     write_held(line, token, read)
 }
 
-/// A token that was found, or why the text is refused. The token is let go here, once for all readers: that costs a proof
-/// wherever it happens.
+/// What is written behind what was found: its faults, whether a line terminator is in it, and where the cursor stands.
+fn write_rest(
+    line: &mut String,
+    faults: &[(Blame, Error)],
+    line_break: bool,
+    input: &StringInput,
+    end: BytePos,
+) -> Result<(), AllocError> {
+    write_faults(line, faults)?;
+    write_line_break(line, line_break)?;
+    write_cursor(line, input, end)
+}
+
+/// A token that was found, or why the text is refused. The token is dropped here, once for all readers, as each function that
+/// drops one proves how.
 pub(super) fn write_found_token(
     line: &mut String,
     found: Found<Token>,
@@ -167,12 +180,16 @@ fn write_found(
         Ok(token) => write_token(line, token, text_in(input, found.extent))?,
         Err(error) => write_error(line, error)?,
     }
-    write_faults(line, &found.faults)?;
-    write_line_break(line, found.line_break)?;
-    write_cursor(line, input, found.extent.hi)
+    write_rest(
+        line,
+        &found.faults,
+        found.line_break,
+        input,
+        found.extent.hi,
+    )
 }
 
-/// A token that was found, or that none stands there. The token is let go here.
+/// A token that was found, or that none stands there. The token is dropped here.
 pub(super) fn write_sought_token(
     line: &mut String,
     found: Found<Option<Token>>,
@@ -192,9 +209,13 @@ fn write_sought(
         Ok(None) => line.push_str(" nothing")?,
         Err(error) => write_error(line, error)?,
     }
-    write_faults(line, &found.faults)?;
-    write_line_break(line, found.line_break)?;
-    write_cursor(line, input, found.extent.hi)
+    write_rest(
+        line,
+        &found.faults,
+        found.line_break,
+        input,
+        found.extent.hi,
+    )
 }
 
 fn write_word(line: &mut String, word: &Word) -> Result<(), AllocError> {
@@ -216,9 +237,13 @@ pub(super) fn write_found_word(
         Ok(word) => write_word(line, word)?,
         Err(error) => write_error(line, error)?,
     }
-    write_faults(line, &found.faults)?;
-    write_line_break(line, found.line_break)?;
-    write_cursor(line, input, found.extent.hi)
+    write_rest(
+        line,
+        &found.faults,
+        found.line_break,
+        input,
+        found.extent.hi,
+    )
 }
 
 /// What an escape stands for, which may be nothing, or why it is refused.
@@ -233,9 +258,13 @@ pub(super) fn write_found_text(
         Ok(None) => line.push_str(" nothing")?,
         Err(error) => write_error(line, error)?,
     }
-    write_faults(line, &found.faults)?;
-    write_line_break(line, found.line_break)?;
-    write_cursor(line, input, found.extent.hi)
+    write_rest(
+        line,
+        &found.faults,
+        found.line_break,
+        input,
+        found.extent.hi,
+    )
 }
 
 /// The comments of a gap. `next` stands before one that is for the next token.
