@@ -1,11 +1,12 @@
 //! Lists of steps that numbers make, played as callers play them and by copies alone: both come to the same.
-use crate::tests::replays::{settings, write_answers, write_gathered};
+use crate::tests::replays::{settings, write_gathered, write_replay};
 use ecma_place::{BytePos, StringInput};
-use ecma_replay::{Gathered, Replay, gather, replay};
+use ecma_replay::{Gathered, Replay, gather};
 use ecma_samples::Random;
 use ecma_state::{Step, TokenContext};
 use ecma_syntax::Context;
 use listing::listing::contexts_of;
+use listings::played::played;
 use replay_model::replay_by_copies;
 use std::alloc::{AllocError, Global};
 use std::process::Abort;
@@ -87,12 +88,6 @@ fn steps_by(alloc: Global, random: &mut Random) -> Result<Vec<Step>, AllocError>
     Ok(steps)
 }
 
-fn answers_told(alloc: Global, found: &Replay) -> Result<String, AllocError> {
-    let mut out = String::new(alloc);
-    write_answers(&mut out, &found.answers)?;
-    Ok(out)
-}
-
 fn without_answers<'a>(found: Replay<'a>) -> Gathered<'a> {
     Gathered {
         kept: found.kept,
@@ -103,44 +98,98 @@ fn without_answers<'a>(found: Replay<'a>) -> Gathered<'a> {
     }
 }
 
-pub fn told(alloc: Global, found: &Gathered) -> Result<String, AllocError> {
+/// What a list of steps comes to by copies alone.
+fn modelled<'a>(alloc: Global, text: &'a str, steps: &[Step]) -> Result<Replay<'a>, AllocError> {
+    if !StringInput::fits(text, START) {
+        return Err(AllocError);
+    }
+    replay_by_copies(alloc, &settings(), text, START, steps)
+}
+
+/// What a list of steps comes to, less its answers.
+pub fn gathered<'a>(
+    alloc: Global,
+    text: &'a str,
+    steps: &[Step],
+) -> Result<Gathered<'a>, AllocError> {
+    if !StringInput::fits(text, START) {
+        return Err(AllocError);
+    }
+    gather(alloc, &settings(), text, START, steps)
+}
+
+fn replay_told(alloc: Global, found: &Replay) -> Result<String, AllocError> {
+    let mut out = String::new(alloc);
+    write_replay(&mut out, found)?;
+    Ok(out)
+}
+
+fn told(alloc: Global, found: &Gathered) -> Result<String, AllocError> {
     let mut out = String::new(alloc);
     write_gathered(&mut out, found)?;
     Ok(out)
 }
 
-fn assert_same_answers(
+fn assert_same_replay(
     rt: &impl Abort,
     alloc: Global,
     seed: u64,
     found: &Replay,
     model: &Replay,
 ) -> Result<(), Fail> {
-    let told = answers_told(alloc, found)?;
-    let wanted = answers_told(alloc, model)?;
+    let shown = replay_told(alloc, found)?;
+    let wanted = replay_told(alloc, model)?;
     let as_many = found.answers.len() == model.answers.len();
+    let kept = found.kept.as_slice() == model.kept.as_slice();
     assert!(rt;
-        as_many && told.as_str() == wanted.as_str(),
-        "list {seed}: {told}, by copies {wanted}"
+        as_many && kept && shown.as_str() == wanted.as_str(),
+        "list {seed}: {shown}, by copies {wanted}"
     );
     Ok(())
 }
 
-fn assert_same(
+/// Asserts that a text or a list, which has this number, comes to the same in two ways.
+pub fn assert_same(
+    rt: &impl Abort,
+    alloc: Global,
+    number: u64,
+    found: &Gathered,
+    other: &Gathered,
+) -> Result<(), Fail> {
+    let shown = told(alloc, found)?;
+    let wanted = told(alloc, other)?;
+    let kept = found.kept.as_slice() == other.kept.as_slice();
+    assert!(rt;
+        kept && shown.as_str() == wanted.as_str(),
+        "{number}: {shown}, otherwise {wanted}"
+    );
+    Ok(())
+}
+
+// Each of these owns what the steps come to in one way: several such values in a function multiply its paths.
+
+fn assert_replayed(
     rt: &impl Abort,
     alloc: Global,
     seed: u64,
-    found: &Gathered,
+    text: &str,
+    steps: &[Step],
+    model: &Replay,
+) -> Result<(), Fail> {
+    let found = played(alloc, &settings(), text, START, steps)?;
+    assert_same_replay(rt, alloc, seed, &found, model)
+}
+
+fn assert_gathered(
+    rt: &impl Abort,
+    alloc: Global,
+    seed: u64,
+    text: &str,
+    steps: &[Step],
     model: &Gathered,
 ) -> Result<(), Fail> {
-    let shown = told(alloc, found)?;
-    let wanted = told(alloc, model)?;
-    let kept = found.kept.as_slice() == model.kept.as_slice();
-    assert!(rt;
-        kept && shown.as_str() == wanted.as_str(),
-        "list {seed}: {shown}, by copies {wanted}"
-    );
-    Ok(())
+    let found = gathered(alloc, text, steps)?;
+    assert_same(rt, alloc, seed, &found, model)
 }
 
 /// Plays a list of steps over a text in each way.
@@ -151,16 +200,9 @@ fn assert_agreement(
     text: &str,
     steps: &[Step],
 ) -> Result<(), Fail> {
-    if !StringInput::fits(text, START) {
-        return Err(Fail::from(AllocError));
-    }
-    let found = replay(alloc, &settings(), text, START, steps)?;
-    let model = replay_by_copies(alloc, &settings(), text, START, steps)?;
-    assert_same_answers(rt, alloc, seed, &found, &model)?;
-    let model = without_answers(model);
-    assert_same(rt, alloc, seed, &without_answers(found), &model)?;
-    let gathered = gather(alloc, &settings(), text, START, steps)?;
-    assert_same(rt, alloc, seed, &gathered, &model)
+    let model = modelled(alloc, text, steps)?;
+    assert_replayed(rt, alloc, seed, text, steps, &model)?;
+    assert_gathered(rt, alloc, seed, text, steps, &without_answers(model))
 }
 
 fn assert_list(rt: &impl Abort, alloc: Global, seed: u64) -> Result<(), Fail> {

@@ -140,7 +140,7 @@ fn write_answer(out: &mut String, answer: &Answer) -> Result<(), AllocError> {
     }
 }
 
-pub fn write_answers(out: &mut String, answers: &[Answer]) -> Result<(), AllocError> {
+fn write_answers(out: &mut String, answers: &[Answer]) -> Result<(), AllocError> {
     for answer in answers {
         write_answer(out, answer)?;
     }
@@ -158,7 +158,7 @@ fn write_kept(out: &mut String, kept: &[Kept]) -> Result<(), AllocError> {
     Ok(())
 }
 
-fn write_replay(out: &mut String, found: &Replay) -> Result<(), AllocError> {
+pub fn write_replay(out: &mut String, found: &Replay) -> Result<(), AllocError> {
     write_answers(out, &found.answers)?;
     write_kept(out, &found.kept)?;
     write_errors(out, "recorded ", found.errors.as_slice())?;

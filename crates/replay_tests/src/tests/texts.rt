@@ -2,12 +2,13 @@
 ghost use Rattle.std.specs.Prelude.{◌≡◌, true};
 ghost use Rattle.ecma_slashes.specs.Rereads.{is_in_order, rule_of};
 
-use crate::tests::agreement::{START, TEXTS, told};
+use crate::tests::agreement::{START, TEXTS, assert_same, gathered};
 use crate::tests::replays::settings;
 use ecma_place::{BytePos, Spanned, StringInput};
-use ecma_reader::{Reader, read_out, tokenize};
-use ecma_replay::gather;
+use ecma_reader::{Outcome, ReadOut, Reader, read_out, tokenize};
+use ecma_replay::Gathered;
 use ecma_slashes::{Slashes, ascend, count_rereads, steps_by};
+use ecma_state::Step;
 use ecma_syntax::Context;
 use ecma_token::Error;
 use std::alloc::{AllocError, Global};
@@ -33,61 +34,98 @@ fn slashes_at(places: &[BytePos]) -> Slashes
     }
 }
 
-/// Reads a text once, and by its steps.
-fn assert_text(
-    rt: &impl Abort,
-    alloc: Global,
+/// A text, its number, and how it is read.
+#[derive(Clone, Copy)]
+struct Case<'a> {
+    number: u64,
+    text: &'a str,
     context: Context,
-    text: &str,
-    places: &[BytePos],
-) -> Result<(), Fail> {
-    if !StringInput::fits(text, START) {
-        return Err(Fail::from(AllocError));
-    }
-    let slashes = slashes_at(places);
-    let steps = steps_by(alloc, &settings(), context, text, START, slashes)?;
-    let listed = gather(alloc, &settings(), text, START, &steps)?;
-    let output = tokenize(alloc, &settings(), context, text, START, slashes)?;
-    let read = output.gathered;
-    let shown = told(alloc, &read)?;
-    let wanted = told(alloc, &listed)?;
-    let kept = read.kept.as_slice() == listed.kept.as_slice();
-    assert!(rt;
-        kept && read.ended && shown.as_str() == wanted.as_str(),
-        "{text}: {shown}, by steps {wanted}"
-    );
-    let out = read_out(alloc, &settings(), context, text, START, slashes)?;
-    let shown = told(alloc, &out.gathered)?;
-    assert!(rt;
-        out.rereads == count_rereads(&steps) && shown.as_str() == wanted.as_str(),
-        "{text}: {shown}, by steps {wanted}"
-    );
-    Ok(())
+    places: &'a [BytePos],
 }
 
-/// Counts the tokens of a text, and looks at what its reader then has.
-fn assert_counted(
-    rt: &impl Abort,
-    alloc: Global,
-    text: &str,
-    places: &[BytePos],
-) -> Result<(), Fail> {
-    if !StringInput::fits(text, START) {
-        return Err(Fail::from(AllocError));
+impl<'a> Case<'a> {
+    fn steps(&self, alloc: Global) -> Result<Vec<Step>, AllocError> {
+        if !StringInput::fits(self.text, START) {
+            return Err(AllocError);
+        }
+        let slashes = slashes_at(self.places);
+        steps_by(alloc, &settings(), self.context, self.text, START, slashes)
     }
-    let slashes = slashes_at(places);
-    let context = Context::default();
-    let read = read_out(alloc, &settings(), context, text, START, slashes)?;
-    let mut reader = Reader::new(alloc, &settings(), context, text, START, slashes)?;
-    let count = reader.count_rest()?;
-    assert!(rt; count == read.gathered.kept.len(), "{text}: {count}");
-    assert!(rt; reader.rereads() == read.rereads, "{text}");
-    let left = reader.finish();
-    let recorded = left.errors.as_slice().len() == read.gathered.errors.as_slice().len();
-    let waiting = left.waiting.as_slice().len() == read.gathered.waiting.as_slice().len();
-    let comments = left.comments.len() == read.gathered.comments.len();
-    assert!(rt; recorded && waiting && comments && left.ended, "{text}");
-    Ok(())
+
+    fn tokenized(&self, alloc: Global) -> Result<Gathered<'a>, AllocError> {
+        if !StringInput::fits(self.text, START) {
+            return Err(AllocError);
+        }
+        let slashes = slashes_at(self.places);
+        let output = tokenize(alloc, &settings(), self.context, self.text, START, slashes)?;
+        Ok(output.gathered)
+    }
+
+    fn read_out(&self, alloc: Global) -> Result<ReadOut<'a>, AllocError> {
+        if !StringInput::fits(self.text, START) {
+            return Err(AllocError);
+        }
+        let slashes = slashes_at(self.places);
+        read_out(alloc, &settings(), self.context, self.text, START, slashes)
+    }
+
+    fn assert_tokenized(
+        &self,
+        rt: &impl Abort,
+        alloc: Global,
+        listed: &Gathered,
+    ) -> Result<(), Fail> {
+        let read = self.tokenized(alloc)?;
+        assert!(rt; read.ended, "{}", self.text);
+        assert_same(rt, alloc, self.number, &read, listed)
+    }
+
+    /// Asserts that a reader which counts its tokens has at its end what was read out.
+    fn assert_counted(&self, rt: &impl Abort, alloc: Global, read: &ReadOut) -> Result<(), Fail> {
+        if !StringInput::fits(self.text, START) {
+            return Err(Fail::from(AllocError));
+        }
+        let slashes = slashes_at(self.places);
+        let mut reader = Reader::new(alloc, &settings(), self.context, self.text, START, slashes)?;
+        let count = reader.count_rest()?;
+        assert!(rt; count == read.gathered.kept.len(), "{}: {count}", self.text);
+        assert!(rt; has_left(&reader.finish(), read), "{}", self.text);
+        Ok(())
+    }
+
+    fn assert_read_out(
+        &self,
+        rt: &impl Abort,
+        alloc: Global,
+        listed: &Gathered,
+        rereads: usize,
+    ) -> Result<(), Fail> {
+        let read = self.read_out(alloc)?;
+        assert!(rt; read.rereads == rereads, "{}", self.text);
+        self.assert_counted(rt, alloc, &read)?;
+        assert_same(rt, alloc, self.number, &read.gathered, listed)
+    }
+
+    fn assert_steps(&self, rt: &impl Abort, alloc: Global, steps: &[Step]) -> Result<(), Fail> {
+        let listed = gathered(alloc, self.text, steps)?;
+        self.assert_tokenized(rt, alloc, &listed)?;
+        self.assert_read_out(rt, alloc, &listed, count_rereads(steps))
+    }
+
+    /// Reads the text once in each way, and by its steps.
+    fn assert_once_as_by_steps(&self, rt: &impl Abort, alloc: Global) -> Result<(), Fail> {
+        let steps = self.steps(alloc)?;
+        self.assert_steps(rt, alloc, &steps)
+    }
+}
+
+/// Whether a reader has left what was read out.
+fn has_left(left: &Outcome, read: &ReadOut) -> bool {
+    left.ended
+        && left.rereads == read.rereads
+        && left.errors.as_slice().len() == read.gathered.errors.as_slice().len()
+        && left.waiting.as_slice().len() == read.gathered.waiting.as_slice().len()
+        && left.comments.len() == read.gathered.comments.len()
 }
 
 fn assert_texts(
@@ -96,9 +134,14 @@ fn assert_texts(
     context: Context,
     places: &[BytePos],
 ) -> Result<(), Fail> {
-    for text in TEXTS {
-        assert_text(rt, alloc, context, text, places)?;
-        assert_counted(rt, alloc, text, places)?;
+    for (number, text) in TEXTS.iter().enumerate() {
+        let case = Case {
+            number: number as u64,
+            text,
+            context,
+            places,
+        };
+        case.assert_once_as_by_steps(rt, alloc)?;
     }
     Ok(())
 }
@@ -134,16 +177,22 @@ fn lie_at(errors: &[Error], places: &[(u32, u32)]) -> bool {
         })
 }
 
+/// Whether the tokens of a text that are errors lie at these places.
+fn are_refused(alloc: Global, text: &str, places: &[(u32, u32)]) -> Result<bool, AllocError> {
+    let case = Case {
+        number: 0,
+        text,
+        context: Context::default(),
+        places: &[],
+    };
+    let read = case.read_out(alloc)?;
+    Ok(lie_at(&read.refusals, places))
+}
+
 #[test]
 fn refused_tokens_are_told(rt: HostRuntime) -> Result<(), Fail> {
-    let alloc = rt.alloc();
     for (text, places) in REFUSED {
-        if !StringInput::fits(text, START) {
-            return Err(Fail::from(AllocError));
-        }
-        let context = Context::default();
-        let read = read_out(alloc, &settings(), context, text, START, Slashes::ByFlag)?;
-        assert!(rt; lie_at(&read.refusals, places), "{text}");
+        assert!(rt; are_refused(rt.alloc(), text, places)?, "{text}");
     }
     Ok(())
 }
