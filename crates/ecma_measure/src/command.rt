@@ -19,7 +19,7 @@ pub fn count_asked(words: &[String]) -> Option<bool>
 /// What becomes of each answer that is read.
 #[derive(Debug, Clone, Copy, PartialEq, Eq)]
 pub enum Answers {
-    /// It is let go unseen, so that a compiler need not make all of it.
+    /// It is dropped unseen, so that a compiler need not make all of it.
     Unseen,
     /// It is put into a slot that outlives the call, as a parser keeps its token.
     Kept,

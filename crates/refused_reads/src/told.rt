@@ -12,8 +12,8 @@ fn tell_token(rt: &impl Print, token: &TokenAndSpan) -> io::Result<()> {
     println!(rt; "{}..{} {:?}", span.lo.0, span.hi.0, token.token)
 }
 
-/// Writes the token that was answered, if there was one, and says whether there was. It is let go here: that costs a
-/// proof wherever it happens.
+/// Writes the token that was answered, if there was one, and says whether there was. It is dropped here, as each
+/// function that drops a token proves how.
 pub(crate) fn tell_answer(rt: &impl Print, answer: Option<TokenAndSpan>) -> io::Result<bool> {
     match answer {
         Some(token) => {

@@ -40,7 +40,7 @@ fn assert_display(
     Ok(())
 }
 
-// Errors and tokens are let go by a call: at the end of a scope the proof goes through the end of each variant.
+// Errors and tokens are dropped by a call: at the end of a scope the proof takes each variant apart.
 fn equals_its_copy(alloc: Global, error: &SyntaxError) -> Result<bool, AllocError> {
     let copy = error.copy(alloc)?;
     let equal = copy == *error;

@@ -19,7 +19,7 @@ pub fn lexer_settings(settings: Settings) -> LexerSettings {
     }
 }
 
-/// Reads a token, which is let go by a call: at the end of a scope the proof goes through the end of each variant.
+/// Reads a token, which is dropped by a call: at the end of a scope the proof takes each variant apart.
 pub fn pass(lexer: &mut Lexer) -> Result<(), AllocError> {
     drop(lexer.read()?);
     Ok(())
@@ -29,7 +29,7 @@ fn drop_found(lexer: &mut Lexer) {
     drop(lexer.take_found());
 }
 
-/// Reads so many tokens. What was found is let go.
+/// Reads so many tokens. What was found is dropped.
 fn go_behind(lexer: &mut Lexer, settings: Settings, reads: usize) -> Result<(), AllocError> {
     set_flags(lexer, settings)?;
     for _ in 0..reads {

@@ -114,7 +114,7 @@ fn it_says_what_is_expected(rt: HostRuntime) -> Result<(), Fail> {
     Ok(())
 }
 
-/// Where an item stands, which is let go here.
+/// Where an item stands, which is dropped here.
 fn span_of(item: Result<TokenAndSpan, AllocError>) -> Result<Span, AllocError> {
     let token = item?;
     let span = token.span;

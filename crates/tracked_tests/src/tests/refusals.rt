@@ -39,7 +39,7 @@ fn went_back<'a>(tracked: &mut Tracked<'a>, here: &TrackedCheckpoint) -> Result<
     }
 }
 
-/// Reads a token, which is let go here, and says where it begins; behind the end the greatest place.
+/// Reads a token, which is dropped here, and says where it begins; behind the end the greatest place.
 fn read_place(tracked: &mut Tracked) -> Result<u32, AllocError> {
     match tracked.read()? {
         Some(token) => {

@@ -29,7 +29,7 @@ pub fn assert_text(rt: &impl Abort, found: &str, expected: &str) {
     assert_eq!(rt; found, expected);
 }
 
-/// Reads a token, which is let go here, and says where it stands.
+/// Reads a token, which is dropped here, and says where it stands.
 fn next_span(tracked: &mut Tracked) -> Result<Option<Span>, AllocError> {
     match tracked.read()? {
         Some(token) => {
