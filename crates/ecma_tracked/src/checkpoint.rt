@@ -8,12 +8,22 @@ use std::marker::Model;
 
 /// Where a [`Tracked`](crate::Tracked) is between two reads: where its lexer is, and what the tokens up to there lead to. It
 /// holds no text. Our own.
-#[derive(Drop)]
 pub struct TrackedCheckpoint {
     pub(crate) place: Checkpoint,
     pub(crate) decider: Decider<'static>,
     /// Whether memory was refused.
     pub(crate) refused: bool,
+}
+
+/// By hand, so that a function that drops one proves one call.
+impl Drop for TrackedCheckpoint {
+    fn drop(self) {
+        let TrackedCheckpoint {
+            place: _,
+            decider: _,
+            refused: _,
+        } = self;
+    }
 }
 
 impl Model for TrackedCheckpoint {

@@ -28,12 +28,22 @@ use std::marker::Model;
 
 /// Reads a text token by token with no parser above: a slash is read as a regular expression where the tokens before it
 /// expect an operand ([`Slashes::ByRole`]). For those who look ahead, it is copied, and goes back to where it was. Our own.
-#[derive(Drop)]
 pub struct Tracked<'a> {
     lexer: Lexer<'a>,
     decider: Decider<'static>,
     /// Whether memory was refused.
     refused: bool,
+}
+
+/// By hand, so that a function that drops one proves one call.
+impl<'a> Drop for Tracked<'a> {
+    fn drop(self) {
+        let Tracked {
+            lexer: _,
+            decider: _,
+            refused: _,
+        } = self;
+    }
 }
 
 impl<'a> Model for Tracked<'a> {
