@@ -1,5 +1,5 @@
 -- Where a lexer is between two reads, as plain data, and where going back to it leads: our own choice.
-use Rattle.std.specs.Prelude.{◌≡◌, ◌≤◌, Bool, true, Option, Some, [], length, take}
+use Rattle.std.specs.Prelude.{◌≡◌, ◌≤◌, Bool, Option, Some, [], length, take}
 use Rattle.ecma_place.specs.Cursor.{Cursor, HasPlace, place}
 use Rattle.ecma_place.specs.declared.place.BytePos.{BytePos}
 use Rattle.ecma_syntax.specs.declared.context.Context.{Context}

@@ -2,7 +2,6 @@
 use Rattle.std.specs.Prelude.{◌≡◌, ℕ, ◌==◌, ◌++◌, List, codes, filter, map}
 use Rattle.std.specs.List.Sorted.{IsNonDecreasingBy}
 use Rattle.ecma_token.specs.View.{ErrorView, error_view}
-use Rattle.ecma_token.specs.declared.error.Error.{Error}
 use Rattle.ecma_faults.specs.declared.found.Found.{Found}
 use Rattle.ecma_faults.specs.declared.found.Origin.{Origin}
 use Rattle.ecma_faults.specs.declared.found.Origin.TheVariants.{Token, Recorded, Waiting}

@@ -1,4 +1,4 @@
--- Reads of tokens that mean what is written of them take no memory.
+-- Reads of tokens that mean what is written of them do not allocate.
 use Rattle.std.proofs.Common.{◌≡◌, ◌∙◌, ℕ, ◌<◌, ◌==◌, Bool, true, false, not, cond, ◌||◌, ◌&&◌, List, [], ◌∷◌, ◌++◌, length, drop, Option, Some, None, Result, Ok, Err, refl, sym, subst, ap, arith}
 use Rattle.std.specs.List.{list_all, list_any}
 use Rattle.std.specs.Prelude.{is_ok}
@@ -25,9 +25,9 @@ use Rattle.ecma_scan.specs.Cutters.{IsCutter, ReadsInOrder}
 use Rattle.ecma_scan.proofs.EmptyLists.{append-none, map-none}
 use Rattle.ecma_scan.proofs.PieceLemmas.{cut}
 use Rattle.ecma_scan.specs.Strings as strings
-use Rattle.ecma_scan.specs.Strings.{Piece, Plain, Escaped, Ending, Closed, Unclosed, BadEscape, atom_of, ending, found_string, is_escaped, string_cutter, string_literal, string_pieces}
+use Rattle.ecma_scan.specs.Strings.{Piece, Plain, Escaped, Ending, Closed, Unclosed, BadEscape, atom_of, ending, found_string, is_escaped, string_cutter, string_pieces}
 use Rattle.ecma_scan.specs.Templates as templates
-use Rattle.ecma_scan.specs.Templates.{TemplateEnd, TemplatePiece, AtEnd, AtBackQuote, AtDollarBrace, is_verbatim, last_refusal, template_cutter, template_end, template_of, template_text, text_of, token_of_refusal}
+use Rattle.ecma_scan.specs.Templates.{TemplateEnd, TemplatePiece, AtEnd, AtBackQuote, AtDollarBrace, is_verbatim, last_refusal, template_cutter, template_end, template_of, text_of, token_of_refusal}
 use Rattle.ecma_scan.specs.Escapes.{line_end}
 use Rattle.ecma_scan.specs.Words as words
 use Rattle.ecma_scan.specs.Words.{found_name, identifier_name, word_cutter, word_pieces}

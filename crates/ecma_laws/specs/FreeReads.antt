@@ -1,4 +1,4 @@
--- Which reads take no memory, told by what is written.
+-- Which reads do not allocate, told by what is written.
 use Rattle.std.specs.Prelude.{◌≡◌, ⊤, ℕ, Bool, true, false, ◌||◌, ◌==◌, [], Option, Some, None}
 use Rattle.std.specs.List.{list_any}
 use Rattle.ecma_place.specs.Text.{Text}

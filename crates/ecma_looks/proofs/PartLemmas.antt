@@ -1,5 +1,5 @@
 -- Parts of a text that pieces are.
-use Rattle.std.proofs.Common.{◌≡◌, ◌∙◌, ℕ, ◌+◌, ◌-◌, List, [], ◌∷◌, ◌++◌, Option, refl, ap, arith}
+use Rattle.std.proofs.Common.{◌≡◌, ◌∙◌, ℕ, ◌-◌, List, [], ◌∷◌, ◌++◌, Option, refl, ap, arith}
 use Rattle.std.specs.Prelude.{slice_range}
 use Rattle.ecma_classes.specs.Classes as classes
 use Rattle.ecma_classes.specs.declared.piece.Piece.{Piece}

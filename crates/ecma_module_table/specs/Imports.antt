@@ -1,19 +1,15 @@
 -- Rows of imports
-use Rattle.std.specs.Prelude.{ℕ, ◌==◌, ◌&&◌, ◌||◌, Bool, true, false, not, nat_lt, if◌then◌else◌}
+use Rattle.std.specs.Prelude.{ℕ, ◌==◌, Bool, false, if◌then◌else◌}
 use Rattle.ecma_module_table.specs.declared.part.Part.{Part}
 use Rattle.ecma_module_table.specs.declared.part.Part.TheVariants as part
 use Rattle.ecma_module_table.specs.declared.part.Word.{Word}
 use Rattle.ecma_module_table.specs.declared.part.Word.TheVariants as word
-use Rattle.ecma_module_table.specs.declared.rows.Form.{Form}
 use Rattle.ecma_module_table.specs.declared.rows.Form.TheVariants as form
 use Rattle.ecma_module_table.specs.declared.rows.Phase.TheVariants as phase
-use Rattle.ecma_module_table.specs.declared.stage.Stage.{Stage}
 use Rattle.ecma_module_table.specs.declared.stage.Stage.TheVariants as stage
-use Rattle.ecma_module_table.specs.declared.stage.Change.{Change}
 use Rattle.ecma_module_table.specs.declared.stage.Change.TheVariants as change
 use Rattle.ecma_module_table.specs.declared.stage.Move.{Move}
 use Rattle.ecma_module_table.specs.declared.stage.Move.TheVariants.{To, Again}
-use Rattle.ecma_module_table.specs.declared.stage.Seen.{Seen}
 
 -- behind `import`, where a declaration may begin (ECMA-262, 16.2.2, 13.3.10)
 abbrev pub behind_import : Part → Move

@@ -1,12 +1,11 @@
 -- The table: for each stage its row
-use Rattle.std.specs.Prelude.{ℕ, ◌==◌, ◌&&◌, ◌||◌, Bool, true, false, not, nat_lt, if◌then◌else◌}
+use Rattle.std.specs.Prelude.{◌==◌, Bool, true, false}
 use Rattle.ecma_module_table.specs.declared.part.Part.{Part}
 use Rattle.ecma_module_table.specs.declared.part.Part.TheVariants as part
 use Rattle.ecma_module_table.specs.declared.part.Word.{Word}
 use Rattle.ecma_module_table.specs.declared.part.Word.TheVariants as word
 use Rattle.ecma_module_table.specs.declared.rows.Form.{Form}
 use Rattle.ecma_module_table.specs.declared.rows.Form.TheVariants as form
-use Rattle.ecma_module_table.specs.declared.rows.Phase.TheVariants as phase
 use Rattle.ecma_module_table.specs.declared.stage.Stage.{Stage}
 use Rattle.ecma_module_table.specs.declared.stage.Stage.TheVariants as stage
 use Rattle.ecma_module_table.specs.declared.stage.Change.{Change}

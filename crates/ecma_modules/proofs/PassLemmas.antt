@@ -1,5 +1,5 @@
 -- Tokens that tell nothing and change no more than the stage.
-use Rattle.std.proofs.Common.{◌≡◌, ◌∙◌, ◌⊎◌, ℕ, Bool, true, false, not, Option, Some, None, inl, inr, refl, sym, ap, subst, arith, ⊎_elim}
+use Rattle.std.proofs.Common.{◌≡◌, ◌∙◌, ◌⊎◌, Bool, true, false, Option, Some, None, inl, inr, refl, sym, ap, subst, arith, ⊎_elim}
 use Rattle.std.specs.Prelude.{IfSome}
 use Rattle.ecma_modules.specs.declared.calls.At.{At}
 use Rattle.ecma_modules.specs.declared.known.Known.{Known}
@@ -13,12 +13,11 @@ use Rattle.ecma_module_table.specs.declared.stage.Move.TheVariants.{To}
 use Rattle.ecma_module_table.specs.declared.stage.Seen.{Seen}
 use Rattle.ecma_module_table.specs.declared.stage.Stage.{Stage}
 use Rattle.ecma_module_table.specs.declared.stage.Stage.TheVariants as stage
-use Rattle.ecma_module_table.specs.declared.variables.Variables.{Variables}
 use Rattle.ecma_module_table.specs.declared.variables.VariableStage.{VariableStage}
 use Rattle.ecma_module_table.specs.declared.variables.VariableStage.TheVariants as variable
 use Rattle.ecma_module_table.specs.Table.{begun, row}
 use Rattle.ecma_module_table.specs.Variables as variables
-use Rattle.ecma_modules.specs.Known.{Passes, begins_call, changed, moved_by, nothing_told, opens, quiet_stage, seen_by, stepped, stepped_behind, with_stage}
+use Rattle.ecma_modules.specs.Known.{Passes, begins_call, changed, moved_by, nothing_told, quiet_stage, seen_by, stepped, stepped_behind, with_stage}
 
 -- a token that begins nothing is of something else, or ends a statement
 abbrev quiet_change : Part → Change

@@ -1,16 +1,14 @@
 -- What is remembered lies within the tokens that were gone through, and so does what is told.
-use Rattle.std.proofs.Common.{◌≡◌, ◌≤◌, ◌++◌, ◌∷◌, ℕ, Bool, true, false, List, [], Option, Some, None, if◌then◌else◌, refl, arith}
+use Rattle.std.proofs.Common.{◌≤◌, ◌∷◌, ℕ, Bool, true, false, List, [], Option, Some, None, if◌then◌else◌, arith}
 use Rattle.std.specs.Prelude.{⊤}
 use Rattle.ecma_span.specs.declared.place.BytePos.{BytePos}
 use Rattle.ecma_span.specs.declared.place.Span.{Span}
-use Rattle.ecma_state.specs.declared.kept.Kept.{Kept}
 use Rattle.ecma_modules.specs.declared.calls.At.{At}
 use Rattle.ecma_modules.specs.declared.calls.Call.{Call}
 use Rattle.ecma_modules.specs.declared.calls.CallStage.{CallStage}
 use Rattle.ecma_modules.specs.declared.calls.CallStage.TheVariants as stage
 use Rattle.ecma_module_table.specs.declared.part.Part.{Part}
 use Rattle.ecma_module_table.specs.declared.part.Part.TheVariants as part
-use Rattle.ecma_module_table.specs.declared.rows.Export.{Export}
 use Rattle.ecma_module_table.specs.declared.rows.Import.{Import}
 use Rattle.ecma_module_table.specs.declared.rows.Specifier.{Specifier}
 use Rattle.ecma_module_table.specs.declared.stage.Change.{Change}

@@ -1,6 +1,5 @@
 -- What the machine remembers and tells lies within the tokens that it took.
-use Rattle.std.proofs.Common.{◌≡◌, ◌≤◌, ◌++◌, ◌∷◌, ℕ, Bool, true, false, List, [], Option, Some, None, if◌then◌else◌, option_map, arith}
-use Rattle.std.specs.Prelude.{⊤}
+use Rattle.std.proofs.Common.{◌≤◌, ◌++◌, ◌∷◌, ℕ, Bool, true, false, List, [], Option, Some, None, if◌then◌else◌, option_map, arith}
 use Rattle.ecma_span.specs.declared.place.Span.{Span}
 use Rattle.ecma_state.specs.declared.kept.Kept.{Kept}
 use Rattle.ecma_modules.specs.declared.calls.At.{At}
@@ -24,9 +23,9 @@ use Rattle.ecma_module_table.specs.declared.variables.Variables.{Variables}
 use Rattle.ecma_modules.specs.Calls as a_call
 use Rattle.ecma_modules.specs.Calls.{calls_behind, calls_told, ends_with, passed}
 use Rattle.ecma_modules.specs.Known.{at_of, behind, behind_told, call_of, changed, counted, export_told, first_of, import_told, moved, moved_by, opens, seen_by, stepped, stepped_behind, told_by, variable_seen, variables_behind}
-use Rattle.ecma_modules.specs.Modules.{scan_of, scan_over}
+use Rattle.ecma_modules.specs.Modules.{scan_over}
 use Rattle.ecma_modules.specs.Places.{ExportLies, ImportToldLies, IsPlaced, Lies, RowsLieInTokens, SpanLies, ToldLies}
-use Rattle.ecma_modules.specs.Scans.{ScanView, calls_after, either, first_scan, scanned, told, told_of_calls}
+use Rattle.ecma_modules.specs.Scans.{ScanView, either, first_scan, scanned, told, told_of_calls}
 use Rattle.ecma_module_table.specs.Table.{begun, row}
 use Rattle.ecma_module_table.specs.Variables as variables
 use Rattle.ecma_modules.proofs.PlaceLemmas.{CallLies, CallsLie, ImportOptionLies, StatementLies, call-further, call-goes-on, call-row, export-lies, import-lies, lies-further, statement-changes, statement-further}

@@ -1,6 +1,5 @@
 -- What is known of a text behind some of its tokens
-use Rattle.std.specs.Prelude.{ℕ, ◌-◌, ◌≡◌, ◌==◌, ◌&&◌, ◌||◌, Bool, true, false, not, Option, Some, None, option_map, if◌then◌else◌}
-use Rattle.ecma_span.specs.declared.place.BytePos.{BytePos}
+use Rattle.std.specs.Prelude.{ℕ, ◌≡◌, ◌&&◌, ◌||◌, Bool, true, false, not, Option, Some, None, option_map, if◌then◌else◌}
 use Rattle.ecma_span.specs.declared.place.Span.{Span}
 use Rattle.ecma_state.specs.declared.kept.Kept.{Kept}
 use Rattle.ecma_modules.specs.declared.calls.At.{At}
@@ -17,7 +16,6 @@ use Rattle.ecma_module_table.specs.declared.rows.ImportTold.TheVariants.{Row}
 use Rattle.ecma_module_table.specs.declared.rows.ModuleOptions.{ModuleOptions}
 use Rattle.ecma_module_table.specs.declared.rows.Phase.{Phase}
 use Rattle.ecma_module_table.specs.declared.rows.Phase.TheVariants as phase
-use Rattle.ecma_module_table.specs.declared.rows.Specifier.{Specifier}
 use Rattle.ecma_module_table.specs.declared.rows.Told.{Told}
 use Rattle.ecma_module_table.specs.declared.stage.Change.{Change}
 use Rattle.ecma_module_table.specs.declared.stage.Change.TheVariants as change

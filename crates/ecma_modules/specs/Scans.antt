@@ -1,13 +1,11 @@
 -- A machine that takes the tokens of a text one after another, and what it tells
-use Rattle.std.specs.Prelude.{ℕ, ◌++◌, ◌∷◌, Bool, true, List, [], Option, Some, None, length, if◌then◌else◌}
+use Rattle.std.specs.Prelude.{◌∷◌, true, List, [], Option, Some, None, if◌then◌else◌}
 use Rattle.ecma_state.specs.declared.kept.Kept.{Kept}
 use Rattle.ecma_modules.specs.declared.calls.At.{At}
 use Rattle.ecma_modules.specs.declared.calls.Call.{Call}
 use Rattle.ecma_modules.specs.declared.known.Known.{Known}
-use Rattle.ecma_module_table.specs.declared.rows.Export.{Export}
-use Rattle.ecma_module_table.specs.declared.rows.Import.{Import}
 use Rattle.ecma_module_table.specs.declared.rows.ImportTold.{ImportTold}
-use Rattle.ecma_module_table.specs.declared.rows.ImportTold.TheVariants.{Begun, Ended, Row}
+use Rattle.ecma_module_table.specs.declared.rows.ImportTold.TheVariants.{Begun}
 use Rattle.ecma_module_table.specs.declared.rows.ModuleOptions.{ModuleOptions}
 use Rattle.ecma_module_table.specs.declared.rows.Told.{Told}
 use Rattle.ecma_modules.specs.Calls as calls

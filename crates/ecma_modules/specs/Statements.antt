@@ -1,5 +1,5 @@
 -- What is known of an import or export that is read
-use Rattle.std.specs.Prelude.{ℕ, ◌-◌, ◌||◌, Bool, true, false, Option, Some, None}
+use Rattle.std.specs.Prelude.{ℕ, ◌-◌, ◌||◌, true, false, Option, Some, None}
 use Rattle.ecma_span.specs.declared.place.BytePos.{BytePos}
 use Rattle.ecma_span.specs.declared.place.Span.{Span}
 use Rattle.ecma_modules.specs.declared.calls.At.{At}

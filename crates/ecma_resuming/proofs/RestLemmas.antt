@@ -4,10 +4,9 @@ use Rattle.std.proofs.Math.Seq.{take-append-add, drop-append-add, take-length}
 use Rattle.std.proofs.lemmas.Bool.{ltb-false, ltb-true}
 use Rattle.std.proofs.lemmas.Bool.Decides.{leb_tells}
 use Rattle.std.proofs.lemmas.List.{length-append, take-append-le}
-use Rattle.ecma_place.specs.Cursor.{Cursor, HasPlace, count_within, index_of, place, place_at, rest}
+use Rattle.ecma_place.specs.Cursor.{Cursor, HasPlace, index_of, place, place_at, rest}
 use Rattle.ecma_place.specs.Text.{Text, byte_len, place_of}
 use Rattle.ecma_place.specs.declared.place.BytePos.{BytePos}
-use Rattle.ecma_place.proofs.CursorLemmas.{count_within-byte_len}
 use Rattle.ecma_place.proofs.MoveLemmas.{byte_len-append}
 use Rattle.ecma_grammar.specs.Expressions.{opens_expression}
 use Rattle.ecma_state.specs.Run.{at_place}

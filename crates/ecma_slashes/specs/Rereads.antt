@@ -143,7 +143,7 @@ abbrev pub behind_last : Option TrackView → Option Part → Option TrackView
 behind_last None last = None
 behind_last (Some t) last = Some (track_behind t last)
 
--- there is no track, or one token more takes no memory of it
+-- there is no track, or one token more allocates nothing for it
 abbrev pub HasRoom : Option TrackView → Type 0
 HasRoom None = ⊤
 HasRoom (Some t) = IsShallow t.nest

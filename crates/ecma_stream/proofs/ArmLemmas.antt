@@ -1,8 +1,7 @@
 -- Reads that look at what stands behind white space: the cursor before it, and what an arm gives.
-use Rattle.std.proofs.Common.{is_some, ◌≡◌, ◌∙◌, ℕ, ◌+◌, ◌-◌, ◌≤◌, Bool, true, false, [], ◌∷◌, Some, None, zero, suc, length, length-drop, drop, drop-drop, refl, slice_get, sym, subst, ap, arith}
+use Rattle.std.proofs.Common.{is_some, ◌≡◌, ◌∙◌, ℕ, ◌+◌, ◌-◌, ◌≤◌, Bool, true, false, ◌∷◌, Some, None, length, length-drop, drop, refl, slice_get, sym, subst, ap, arith}
 use Rattle.std.proofs.lemmas.Option.{none-some}
 use Rattle.ecma_place.specs.Cursor.{Cursor, HasPlace, passed, place, rest}
-use Rattle.ecma_place.specs.Text.{Text}
 use Rattle.ecma_place.specs.declared.place.BytePos.{BytePos}
 use Rattle.ecma_place.proofs.MoveLemmas.{place-passed-le}
 use Rattle.ecma_place.proofs.RunLemmas.{first-cons}

@@ -89,6 +89,7 @@ impl<'a> Case<'a> {
         let mut reader = Reader::new(alloc, &settings(), self.context, self.text, START, slashes)?;
         let count = reader.count_rest()?;
         assert!(rt; count == read.gathered.kept.len(), "{}: {count}", self.text);
+        assert!(rt; reader.rereads() == read.rereads, "{}", self.text);
         assert!(rt; has_left(&reader.finish(), read), "{}", self.text);
         Ok(())
     }

@@ -1,6 +1,5 @@
-use Rattle.std.proofs.Common.{subst, sym, ◌∙◌, ap}
-use Rattle.ecma_replay.specs.Playing.{IsAt}
-use Rattle.ecma_replay.proofs.JoinedLemmas.{delivered-first, enters-none, enters-outside}
+use Rattle.std.proofs.Common.{sym, ◌∙◌, ap}
+use Rattle.ecma_replay.proofs.JoinedLemmas.{delivered-first, enters-none}
 use Rattle.ecma_replay.proofs.branch.Branch.enter.Goals as goal
 
 pub returns-clause-enters : goal.returns-clause-enters
