@@ -6,7 +6,7 @@ use Rattle.ecma_faults.specs.Faults.{all_of}
 use Rattle.ecma_reader.specs.Outputs.{error_tokens}
 use Rattle.ecma_report.specs.FaultLines.{OfFaults}
 use Rattle.ecma_report.specs.Rows.{Look}
-use Rattle.ecma_report.specs.declared.words.Named.{Named}
+use Rattle.ecma_command.specs.declared.words.Named.{Named}
 use Rattle.ecma_report.proofs.FaultLemmas.{faults-as}
 use Rattle.ecma_faces.specs.Whole.{errors_told}
 

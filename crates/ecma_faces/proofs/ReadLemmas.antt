@@ -15,7 +15,7 @@ use Rattle.ecma_faces.specs.Pieces.{pieces_by}
 use Rattle.ecma_report.specs.Rows.{Look}
 use Rattle.ecma_report.specs.Runs.{read_to}
 use Rattle.ecma_report.specs.Slashes.{rule_at}
-use Rattle.ecma_report.specs.declared.words.Named.{Named}
+use Rattle.ecma_command.specs.declared.words.Named.{Named}
 
 -- what is read of a text, by a rule in a context
 abbrev Of : SlashRule → Settings → Context → List ℕ → ReadOut → Type 0

@@ -5,7 +5,7 @@ use Rattle.ecma_names.specs.Names.{comment_name, side_name}
 use Rattle.ecma_print.specs.Rows.{beside_token}
 use Rattle.ecma_report.specs.Rows.{Look, row_of}
 use Rattle.ecma_report.specs.Runs.{read_to}
-use Rattle.ecma_report.specs.declared.words.Named.{Named}
+use Rattle.ecma_command.specs.declared.words.Named.{Named}
 
 -- its form, where it is, on which side of the token at which place, and what it says
 abbrev pub comment_row : Look → List ℕ → List ℕ → BufferedComment → List ℕ

@@ -17,8 +17,8 @@ use Rattle.ecma_reader.specs.Readers.{tokens_by}
 use Rattle.ecma_report.specs.Rows.{Look, part_at, row_of}
 use Rattle.ecma_report.specs.Slashes.{rule_at}
 use Rattle.ecma_faces.specs.Tokens.{begun}
-use Rattle.ecma_report.specs.declared.words.Asked.{Asked}
-use Rattle.ecma_report.specs.declared.words.Named.{Named}
+use Rattle.ecma_command.specs.declared.words.Asked.{Asked}
+use Rattle.ecma_command.specs.declared.words.Named.{Named}
 
 -- what is looked for in a text, as it is asked for
 abbrev pub module_options : Asked → ModuleOptions

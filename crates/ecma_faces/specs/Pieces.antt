@@ -7,7 +7,7 @@ use Rattle.ecma_names.specs.Names.{piece_name}
 use Rattle.ecma_print.specs.Rows.{nothing}
 use Rattle.ecma_report.specs.Rows.{Look, part_at, row_of}
 use Rattle.ecma_report.specs.Runs.{read_to}
-use Rattle.ecma_report.specs.declared.words.Named.{Named}
+use Rattle.ecma_command.specs.declared.words.Named.{Named}
 
 abbrev pub piece_row : Look → List ℕ → List ℕ → Piece → List ℕ
 piece_row l file text piece = row_of l file text (piece_name piece.«class») piece.span nothing (part_at text piece.span)

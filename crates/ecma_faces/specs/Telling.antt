@@ -1,7 +1,7 @@
 -- How a text is read for what is told of it.
 use Rattle.std.specs.Prelude.{Bool, true, false}
-use Rattle.ecma_report.specs.declared.words.Face.{Face}
-use Rattle.ecma_report.specs.declared.words.Face.TheVariants.{Comments, Classes, Html, Show}
+use Rattle.ecma_command.specs.declared.words.Face.{Face}
+use Rattle.ecma_command.specs.declared.words.Face.TheVariants.{Comments, Classes, Html, Show}
 
 -- comments are collected
 abbrev pub with_comments : Face → Bool

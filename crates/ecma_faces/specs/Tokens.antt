@@ -8,7 +8,7 @@ use Rattle.ecma_styles.specs.Styles.{class_name, class_of}
 use Rattle.ecma_styles.specs.declared.«class».Class.{Class}
 use Rattle.ecma_report.specs.Rows.{Look, part_at, row_of}
 use Rattle.ecma_faces.specs.Values.{told}
-use Rattle.ecma_report.specs.declared.words.Asked.{Asked}
+use Rattle.ecma_command.specs.declared.words.Asked.{Asked}
 
 -- the class of a token, or that it is a punctuator
 abbrev pub name_of : Option Class → List ℕ

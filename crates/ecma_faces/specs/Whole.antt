@@ -19,7 +19,7 @@ use Rattle.ecma_looks.specs.Shown.{IsShown}
 use Rattle.ecma_reader.specs.Outputs.{error_tokens}
 use Rattle.ecma_report.specs.Rows.{Look, whole_text}
 use Rattle.ecma_report.specs.Runs.{read_to}
-use Rattle.ecma_report.specs.declared.words.Named.{Named}
+use Rattle.ecma_command.specs.declared.words.Named.{Named}
 
 -- The canonical text
 

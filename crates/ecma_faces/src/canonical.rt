@@ -18,11 +18,11 @@ ghost use Rattle.ecma_report.specs.Rows.{Look, whole_part, whole_text};
 
 use crate::errors::tell_errors;
 use ecma_canonical::between;
+use ecma_command::words::Named;
 use ecma_reader::Reader;
 use ecma_report::faults::keep_error;
 use ecma_report::report::{Report, Stop};
 use ecma_report::slashes::open;
-use ecma_report::words::Named;
 use ecma_slot::Slot;
 use ecma_state::Kept;
 use ecma_token::{Error, TokenAndSpan, TokenKind};

@@ -9,12 +9,12 @@ ghost use Rattle.ecma_report.specs.Reports.{Adds, IsOf, Stays, writes_errors};
 ghost use Rattle.ecma_report.specs.Rows.{Look};
 
 use crate::errors::tell_errors;
+use ecma_command::words::Named;
 use ecma_names::{comment_name, side_name};
 use ecma_reader::Outcome;
 use ecma_report::faults::pass_tokens;
 use ecma_report::report::{More, Report, Row, Stop};
 use ecma_report::slashes::open;
-use ecma_report::words::Named;
 use ecma_state::BufferedComment;
 use std::alloc::AllocError;
 use std::io::Write;

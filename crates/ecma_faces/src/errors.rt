@@ -6,11 +6,11 @@ ghost use Rattle.ecma_report.specs.FaultLines.{OfFaults};
 ghost use Rattle.ecma_report.specs.Reports.{Adds, IsOf, IsStill, writes_errors};
 ghost use Rattle.ecma_report.specs.Rows.{Look};
 
+use ecma_command::words::Named;
 use ecma_faults::in_order;
 use ecma_report::faults::tell_found;
 use ecma_report::report::{Report, Stop};
 use ecma_report::slashes::tell_unmet;
-use ecma_report::words::Named;
 use ecma_token::Error;
 use std::io::Write;
 

@@ -17,6 +17,7 @@ ghost use Rattle.ecma_report.specs.Reports.{Adds, IsOf, IsStill, Stays, writes_e
 ghost use Rattle.ecma_report.specs.Rows.{Look};
 
 use crate::errors::tell_errors;
+use ecma_command::words::{Asked, Named};
 use ecma_module_table::rows::{Export, Form, Import, ModuleOptions, Phase};
 use ecma_modules::{Gathering, Module};
 use ecma_place::Span;
@@ -25,7 +26,6 @@ use ecma_reader::Reader;
 use ecma_report::faults::keep_error;
 use ecma_report::report::{More, Report, Row, Stop};
 use ecma_report::slashes::open;
-use ecma_report::words::{Asked, Named};
 use ecma_slot::Slot;
 use ecma_token::Error;
 use std::alloc::AllocError;

@@ -16,16 +16,16 @@ ghost use Rattle.ecma_report.specs.Slashes.{rule_at};
 ghost use Rattle.ecma_faces.specs.Telling.{with_comments};
 ghost use Rattle.ecma_faces.specs.Tokens.{begun, token_rows};
 ghost use Rattle.ecma_report.specs.Rows.{Look};
-ghost use Rattle.ecma_report.specs.declared.words.Face.TheVariants as face;
+ghost use Rattle.ecma_command.specs.declared.words.Face.TheVariants as face;
 
 use crate::canonical::write_canonical;
 use crate::comments::write_comments;
 use crate::imports::{write_exports, write_imports};
 use crate::tokens::write_tokens;
 use crate::whole::tell_gathered;
+use ecma_command::words::{Face, Named};
 use ecma_report::faults::write_errors;
 use ecma_report::report::{Report, Stop};
-use ecma_report::words::{Face, Named};
 use std::io::Write;
 
 /// Writes what is asked for, or holds it.

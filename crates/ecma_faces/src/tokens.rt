@@ -17,11 +17,11 @@ ghost use Rattle.ecma_print.specs.Rows.{more_view};
 
 use crate::errors::tell_errors;
 use crate::values::told;
+use ecma_command::words::Named;
 use ecma_reader::Reader;
 use ecma_report::faults::keep_error;
 use ecma_report::report::{More, Report, Row, Stop};
 use ecma_report::slashes::open;
-use ecma_report::words::Named;
 use ecma_slot::Slot;
 use ecma_state::Kept;
 use ecma_styles::Class;

@@ -14,10 +14,11 @@ ghost use Rattle.ecma_report.specs.FaultLines.{OfFaults, OfUnmet, tells_faults};
 ghost use Rattle.ecma_report.specs.Runs.{read_to};
 ghost use Rattle.ecma_report.specs.Reports.{Adds, IsOf, Stays, look_of};
 ghost use Rattle.ecma_report.specs.Rows.{Look};
-ghost use Rattle.ecma_report.specs.declared.words.Face.TheVariants as face;
+ghost use Rattle.ecma_command.specs.declared.words.Face.TheVariants as face;
 
 use crate::html::write_html;
 use ecma_classes::{Cover, Piece};
+use ecma_command::words::{Face, Named};
 use ecma_faults::{Found, in_order};
 use ecma_looks::show_text;
 use ecma_names::piece_name;
@@ -25,7 +26,6 @@ use ecma_reader::{Gathered, ReadOut, read_out};
 use ecma_report::faults::tell_found;
 use ecma_report::report::{More, Report, Row, Stop};
 use ecma_report::slashes::{START, slashes_at, tell_unmet};
-use ecma_report::words::{Face, Named};
 use std::alloc::{AllocError, Global};
 use std::io::Write;
 

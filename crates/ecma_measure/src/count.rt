@@ -4,7 +4,8 @@ ghost use Rattle.ecma_state.specs.Ending.{tokens_of};
 ghost use Rattle.ecma_measure.specs.Begin as starts;
 ghost use Rattle.ecma_measure.specs.Reply.{count_line, count_text};
 
-use ecma_options::{Options, begin, pass_next};
+use ecma_options::Options;
+use ecma_start::{begin, pass_next};
 use std::alloc::{AllocError, Global};
 
 /// A script in sloppy mode, of TypeScript or not.

@@ -4,7 +4,7 @@ ghost use Rattle.std.specs.Prelude.{◌^◌, ◌<◌, length};
 use crate::command::{Answers, Measure, Rereads};
 use crate::count::options;
 use crate::saving::{read_out_saving, read_some};
-use ecma_options::{begin, pass_next};
+use ecma_start::{begin, pass_next};
 use ecma_stdio::{Fault, Halt};
 use ecma_stream::{Lexer, Tokens};
 use ecma_token::TokenAndSpan;

@@ -1,12 +1,9 @@
-//! Options of the programs, and what they begin with.
+//! Options of the programs: how a text is read, and the settings and the context that this means.
 //!
-//! `options` has how a text is read, and the settings and the context that this means; `start` the lexer that begins
-//! it, and passing a token. The programs and the rows of numbers share it. Promised: `Options::settings` and
-//! `Options::context` are what the options mean, `begin` the lexer that begins the run, `pass_next` one read.
+//! The programs and the rows of numbers share them. Promised: `Options::settings` and `Options::context` are what the options
+//! mean. `specs/Begin.antt` has the session that begins a run.
 #![tactic(auto)]
 
 pub mod options;
-mod start;
 
 pub use options::Options;
-pub use start::{begin, pass_next};

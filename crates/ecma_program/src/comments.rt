@@ -8,7 +8,8 @@ ghost use Rattle.ecma_program.specs.Rereads.{Lacks};
 
 use crate::rereads::open;
 use ecma_names::{comment_name, side_name};
-use ecma_options::{Options, pass_next};
+use ecma_options::Options;
+use ecma_start::pass_next;
 use ecma_state::BufferedComment;
 use ecma_stdio::{Fault, push_escaped, push_number, push_pair};
 use ecma_stream::{CommentList, Lexer, hand_comments};

@@ -7,7 +7,8 @@ ghost use Rattle.ecma_state.specs.Session.{Session, state_of};
 ghost use Rattle.ecma_state.specs.Slashes.{slash_answered};
 ghost use Rattle.ecma_program.specs.Rereads.{CameTo, Lacks, Stands, behind_rereads, session_behind, rereading};
 
-use ecma_options::{Options, begin};
+use ecma_options::Options;
+use ecma_start::begin;
 use ecma_stdio::Fault;
 use ecma_stream::{Lexer, Tokens};
 use ecma_token::TokenAndSpan;

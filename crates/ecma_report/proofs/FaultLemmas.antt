@@ -1,13 +1,12 @@
 -- Lines of faults behind those of before.
-use Rattle.std.proofs.Common.{◌≡◌, ◌∙◌, ℕ, Bool, true, false, if◌then◌else◌, List, [], ◌∷◌, ◌++◌, append-nil, append_assoc, ap, refl, subst, sym}
-use Rattle.std.specs.Prelude.{flat_map}
+use Rattle.std.proofs.Common.{◌≡◌, ◌∙◌, ℕ, true, false, if◌then◌else◌, List, [], ◌∷◌, ◌++◌, append-nil, append_assoc, ap, refl, subst, sym}
 use Rattle.ecma_faults.specs.Faults.{FoundView, IsByPlace}
-use Rattle.ecma_report.specs.FaultLines.{OfFaults, OfUnmet, fault_of, tells_faults, told_fault, told_faults}
+use Rattle.ecma_report.specs.FaultLines.{OfFaults, OfUnmet, fault_of, tells_faults, told_faults}
 use Rattle.ecma_report.specs.Reports.{writes_errors}
 use Rattle.ecma_report.specs.Rows.{Look}
-use Rattle.ecma_report.specs.declared.words.Face.{Face}
-use Rattle.ecma_report.specs.declared.words.Face.TheVariants.{Tokens, Imports, Exports, Comments, Errors, Classes, Html, Show, Canonical}
-use Rattle.ecma_report.specs.declared.words.Named.{Named}
+use Rattle.ecma_command.specs.declared.words.Face.{Face}
+use Rattle.ecma_command.specs.declared.words.Face.TheVariants.{Tokens, Imports, Exports, Comments, Errors, Classes, Html, Show, Canonical}
+use Rattle.ecma_command.specs.declared.words.Named.{Named}
 
 -- errors that have rows have no lines
 pub rows-no-lines : (face : Face) → writes_errors face ≡ true → tells_faults face ≡ false

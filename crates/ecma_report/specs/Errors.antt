@@ -7,7 +7,7 @@ use Rattle.ecma_print.specs.Rows.{message}
 use Rattle.ecma_reader.specs.Outputs.{error_tokens}
 use Rattle.ecma_report.specs.Rows.{Look, row_of}
 use Rattle.ecma_report.specs.Runs.{read_to}
-use Rattle.ecma_report.specs.declared.words.Named.{Named}
+use Rattle.ecma_command.specs.declared.words.Named.{Named}
 
 -- where it comes from, where it is, and its message
 abbrev pub error_row : Look → List ℕ → List ℕ → FoundView → List ℕ

@@ -10,9 +10,9 @@ use Rattle.ecma_positions.specs.Columns.{position_by}
 use Rattle.ecma_positions.specs.declared.position.Position.{Position}
 use Rattle.ecma_print.specs.Rows.{one_line}
 use Rattle.ecma_report.specs.Rows.{Look}
-use Rattle.ecma_report.specs.declared.words.Named.{Named}
-use Rattle.ecma_report.specs.declared.words.Face.{Face}
-use Rattle.ecma_report.specs.declared.words.Face.TheVariants.{Errors, Show}
+use Rattle.ecma_command.specs.declared.words.Named.{Named}
+use Rattle.ecma_command.specs.declared.words.Face.{Face}
+use Rattle.ecma_command.specs.declared.words.Face.TheVariants.{Errors, Show}
 
 -- the name of the file, a line and a column
 abbrev pub place_in : List ℕ → Position → List ℕ

@@ -4,8 +4,8 @@ use Rattle.std.specs.Io.KnownBytes.{Appends}
 use Rattle.ecma_print.specs.Lines.{Counts}
 use Rattle.ecma_report.specs.declared.report.Report.{Report}
 use Rattle.ecma_report.specs.Rows.{Look, look}
-use Rattle.ecma_report.specs.declared.words.Face.{Face}
-use Rattle.ecma_report.specs.declared.words.Face.TheVariants.{Errors}
+use Rattle.ecma_command.specs.declared.words.Face.{Face}
+use Rattle.ecma_command.specs.declared.words.Face.TheVariants.{Errors}
 
 abbrev pub look_of : Report → Look
 look_of report = look report.asked report.among

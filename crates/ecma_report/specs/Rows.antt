@@ -9,8 +9,8 @@ use Rattle.ecma_positions.specs.Columns.{position_by}
 use Rattle.ecma_positions.specs.declared.position.Position.{Position}
 use Rattle.ecma_print.specs.Rows.{MoreView, head_of, members, more_view, own_text, text_begin, text_data, text_end, text_part}
 use Rattle.ecma_print.specs.declared.row.Row.{Row}
-use Rattle.ecma_report.specs.declared.words.Among.{Among}
-use Rattle.ecma_report.specs.declared.words.Asked.{Asked}
+use Rattle.ecma_command.specs.declared.words.Among.{Among}
+use Rattle.ecma_command.specs.declared.words.Asked.{Asked}
 
 -- what is asked for, and how the file is written of beside others
 pub record Look : Type 0 where

@@ -5,7 +5,7 @@ use Rattle.ecma_options.specs.Begin.{begin}
 use Rattle.ecma_reader.specs.Readers.{end_by}
 use Rattle.ecma_report.specs.Rows.{Look}
 use Rattle.ecma_report.specs.Slashes.{rule_at}
-use Rattle.ecma_report.specs.declared.words.Named.{Named}
+use Rattle.ecma_command.specs.declared.words.Named.{Named}
 
 -- the session that a text is read to, as it is asked for; the first part says whether comments are collected
 abbrev pub read_to : Bool → Named → Look → List ℕ → Session

@@ -2,7 +2,7 @@
 use Rattle.std.specs.Prelude.{Bool, true, false, List, [], ◌∷◌, if◌then◌else◌}
 use Rattle.ecma_span.specs.declared.place.BytePos.{BytePos}
 use Rattle.ecma_reader.specs.Rereads.{SlashRule, ascend, at_places, by_flag, by_role}
-use Rattle.ecma_report.specs.declared.words.Named.{Named}
+use Rattle.ecma_command.specs.declared.words.Named.{Named}
 
 -- those that the lexer's own flag says, or those where the tokens before expect an operand
 abbrev pub rule_without_places : Bool → SlashRule

@@ -14,7 +14,7 @@ ghost use Rattle.ecma_report.specs.Rows.{Look};
 
 use crate::report::{More, Report, Row, Stop};
 use crate::slashes::{open, tell_unmet};
-use crate::words::{Face, Named};
+use ecma_command::words::{Face, Named};
 use ecma_faults::{Found, Origin, in_order};
 use ecma_reader::{Reader, take_error};
 use ecma_slot::Slot;

@@ -10,7 +10,7 @@ ghost use Rattle.ecma_report.specs.Reports.{Adds, IsOf, IsStill, Stays, look_of}
 ghost use Rattle.ecma_print.specs.Rows.{head, more_view, own_text};
 ghost use Rattle.ecma_report.specs.Rows.{alone, line_text, look, name_asked, part_at, place_asked, row_parts, row_text, whole_begin, whole_end, whole_part, whole_text};
 
-use crate::words::{Among, Asked};
+use ecma_command::words::{Among, Asked};
 use ecma_positions::Position;
 use ecma_print::lines::Lines;
 pub use ecma_print::row::{More, Row};

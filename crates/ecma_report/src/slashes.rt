@@ -8,7 +8,7 @@ ghost use Rattle.ecma_report.specs.Reports.{IsStill};
 ghost use Rattle.ecma_report.specs.Slashes.{rule_at};
 
 use crate::report::Report;
-use crate::words::Named;
+use ecma_command::words::Named;
 use ecma_reader::{Reader, Slashes, ascend};
 use ecma_slot::Slot;
 use ecma_span::BytePos;

@@ -2,9 +2,10 @@
 ghost use Rattle.std.specs.Prelude.{◌<◌, ◌^◌, length};
 
 use crate::digest::Digest;
-use ecma_options::{Options, begin};
+use ecma_options::Options;
 use ecma_slashes::read_by_flag;
 use ecma_slot::Slot;
+use ecma_start::begin;
 use ecma_stream::Lexer;
 use ecma_token::TokenAndSpan;
 use std::alloc::{AllocError, Global};

@@ -5,13 +5,13 @@ ghost use Rattle.std.specs.Prelude.{◌<◌, ◌^◌, length};
 
 use crate::job::Job;
 use crate::settings::{fits, options};
+use ecma_command::words::{Asked, Face};
 use ecma_options::Options;
 use ecma_place::BytePos;
 use ecma_positions::Columns;
 use ecma_program::run as run_program;
 use ecma_replay::replay;
 use ecma_report::report::{More, Report, Row};
-use ecma_report::words::{Asked, Face};
 use ecma_samples::{Pool, Sample};
 use ecma_slashes::steps_by_flag;
 use ecma_state::Kept;

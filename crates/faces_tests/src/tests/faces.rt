@@ -1,12 +1,12 @@
 //! What is told of texts: rows over each face, with what the command wrote before its faces could be called.
+use ecma_command::words::{
+    Among, Asked, Chosen, Face, Named, command, is_by_flag, is_chosen, slash_places,
+};
 use ecma_faces::telling::tell;
 use ecma_options::Options;
 use ecma_place::{BytePos, StringInput};
 use ecma_positions::Columns;
 use ecma_report::report::{Report, Stop};
-use ecma_report::words::{
-    Among, Asked, Chosen, Face, Named, command, is_by_flag, is_chosen, slash_places,
-};
 use std::alloc::{AllocError, Global};
 use std::io;
 use std::io::Write;

@@ -1,10 +1,10 @@
 //! Pages of texts.
+use ecma_command::words::{Asked, Face, Named};
 use ecma_faces::telling::tell;
 use ecma_options::Options;
 use ecma_place::{BytePos, StringInput};
 use ecma_positions::Columns;
 use ecma_report::report::Report;
-use ecma_report::words::{Asked, Face, Named};
 use std::alloc::{AllocError, Global};
 use std::test::Fail;
 

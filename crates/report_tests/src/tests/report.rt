@@ -1,9 +1,9 @@
 //! Rows of a report, each held to what `serde_json` and `format!` write of it.
+use ecma_command::words::{Among, Asked, Face};
 use ecma_options::Options;
 use ecma_positions::{Columns, LineStarts, Position};
 use ecma_print::row::{Imported, Value};
 use ecma_report::report::{More, Report, Row};
-use ecma_report::words::{Among, Asked, Face};
 use ecma_span::{BytePos, Span};
 use ecma_stdio::push_escaped;
 use serde_json::json;

@@ -4,7 +4,7 @@ ghost use Rattle.ecma_state.specs.Run.{reading_of, state_behind};
 ghost use Rattle.ecma_state.specs.Session.{lexer_state, state_of};
 ghost use Rattle.ecma_options.specs.Begin as starts;
 
-use crate::options::Options;
+use ecma_options::Options;
 use ecma_place::{BytePos, StringInput};
 use ecma_stream::{Lexer, Tokens};
 use std::alloc::{AllocError, Global};
