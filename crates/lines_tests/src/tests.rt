@@ -316,6 +316,9 @@ fn writes_the_lists(rt: HostRuntime) -> Result<(), Fail> {
 }
 
 /// Asserts what is written where some tokens are read again.
+/// Words, what is read, the status, and what is written.
+type Row = (&'static [&'static str], &'static [u8], u8, &'static [u8]);
+
 fn assert_rows(
     rt: &impl Abort,
     alloc: Global,
@@ -580,71 +583,70 @@ fn tells_what_has_no_pieces(rt: HostRuntime) -> Result<(), Fail> {
     )
 }
 
+/// Numbers by the rule of ECMA-262 (12.9.3).
+const BY_THE_STANDARD: &[Row] = &[
+    (
+        &["tokens", "standard"],
+        b"0b12",
+        0,
+        b"0 3 lf Error 0b1\n3 4 - Num 2\n",
+    ),
+    (
+        &["tokens", "standard"],
+        b"0b1 2",
+        0,
+        b"0 3 lf Num 0b1\n4 5 - Num 2\n",
+    ),
+    (
+        &["tokens", "standard"],
+        b"1na",
+        0,
+        b"0 2 lf Error 1n\n2 3 - Ident a\n",
+    ),
+    (
+        &["tokens", "standard"],
+        b"1n2",
+        0,
+        b"0 2 lf Error 1n\n2 3 - Num 2\n",
+    ),
+    (
+        &["tokens", "standard"],
+        b"3\\u0061",
+        0,
+        b"0 1 lf Error 3\n1 7 - Ident \\\\u0061\n",
+    ),
+    (&["tokens", "standard"], b"0_1", 0, b"0 3 lf Num 0_1\n"),
+    (&["tokens", "standard"], b"08_1", 0, b"0 4 lf Num 08_1\n"),
+    (&["tokens", "standard"], b"1_0", 0, b"0 3 lf Num 1_0\n"),
+    (&["tokens", "standard"], b"0_", 0, b"0 2 lf Num 0_\n"),
+    (&["tokens", "standard"], b"0_1n", 0, b"0 4 lf BigInt 0_1n\n"),
+    (
+        &["errors", "standard"],
+        b"0b12",
+        0,
+        b"token 3 3 Identifier cannot follow number\n",
+    ),
+    (
+        &["errors", "ts", "standard", "module"],
+        b"0_1n",
+        0,
+        b"recorded 0 1 A numeric separator is only allowed between two digits\n",
+    ),
+    (
+        &["comments", "standard"],
+        b"/**/1n2",
+        0,
+        b"leading 4 0 4 block \n",
+    ),
+    (&["canon", "standard"], b"0b12", 4, b"not clean\n"),
+    (&["canon", "standard"], b"0b1 2", 0, b"0b1 2"),
+    (&["tokens", "standard", "standard"], b"", 2, b"bad words\n"),
+    (&["standard"], b"", 2, b"bad words\n"),
+];
+
 #[test]
 fn reads_numbers_by_the_standard(rt: HostRuntime) -> Result<(), Fail> {
-    assert_rows(
-        &rt,
-        rt.alloc(),
-        &[
-            (
-                &["tokens", "standard"],
-                b"0b12",
-                0,
-                b"0 3 lf Error 0b1\n3 4 - Num 2\n",
-            ),
-            (
-                &["tokens", "standard"],
-                b"0b1 2",
-                0,
-                b"0 3 lf Num 0b1\n4 5 - Num 2\n",
-            ),
-            (
-                &["tokens", "standard"],
-                b"1na",
-                0,
-                b"0 2 lf Error 1n\n2 3 - Ident a\n",
-            ),
-            (
-                &["tokens", "standard"],
-                b"1n2",
-                0,
-                b"0 2 lf Error 1n\n2 3 - Num 2\n",
-            ),
-            (
-                &["tokens", "standard"],
-                b"3\\u0061",
-                0,
-                b"0 1 lf Error 3\n1 7 - Ident \\\\u0061\n",
-            ),
-            (&["tokens", "standard"], b"0_1", 0, b"0 3 lf Num 0_1\n"),
-            (&["tokens", "standard"], b"08_1", 0, b"0 4 lf Num 08_1\n"),
-            (&["tokens", "standard"], b"1_0", 0, b"0 3 lf Num 1_0\n"),
-            (&["tokens", "standard"], b"0_", 0, b"0 2 lf Num 0_\n"),
-            (&["tokens", "standard"], b"0_1n", 0, b"0 4 lf BigInt 0_1n\n"),
-            (
-                &["errors", "standard"],
-                b"0b12",
-                0,
-                b"token 3 3 Identifier cannot follow number\n",
-            ),
-            (
-                &["errors", "ts", "standard", "module"],
-                b"0_1n",
-                0,
-                b"recorded 0 1 A numeric separator is only allowed between two digits\n",
-            ),
-            (
-                &["comments", "standard"],
-                b"/**/1n2",
-                0,
-                b"leading 4 0 4 block \n",
-            ),
-            (&["canon", "standard"], b"0b12", 4, b"not clean\n"),
-            (&["canon", "standard"], b"0b1 2", 0, b"0b1 2"),
-            (&["tokens", "standard", "standard"], b"", 2, b"bad words\n"),
-            (&["standard"], b"", 2, b"bad words\n"),
-        ],
-    )
+    assert_rows(&rt, rt.alloc(), BY_THE_STANDARD)
 }
 
 #[test]

@@ -5,81 +5,96 @@ use ecma_syntax::{
 use std::alloc::{AllocError, Global};
 use std::test::Fail;
 
-/// Each option of ECMAScript alone, under its key, in the order in which they are written.
-fn es_options() -> [(&'static str, EsSyntax); 10] {
-    let off = EsSyntax::default();
-    [
-        ("jsx", EsSyntax { jsx: true, ..off }),
-        (
-            "functionBind",
-            EsSyntax {
-                fn_bind: true,
-                ..off
-            },
-        ),
-        (
-            "decorators",
-            EsSyntax {
-                decorators: true,
-                ..off
-            },
-        ),
-        (
-            "decoratorsBeforeExport",
-            EsSyntax {
-                decorators_before_export: true,
-                ..off
-            },
-        ),
-        (
-            "exportDefaultFrom",
-            EsSyntax {
-                export_default_from: true,
-                ..off
-            },
-        ),
-        (
-            "importAttributes",
-            EsSyntax {
-                import_attributes: true,
-                ..off
-            },
-        ),
-        (
-            "allowSuperOutsideMethod",
-            EsSyntax {
-                allow_super_outside_method: true,
-                ..off
-            },
-        ),
-        (
-            "allowReturnOutsideFunction",
-            EsSyntax {
-                allow_return_outside_function: true,
-                ..off
-            },
-        ),
-        (
-            "autoAccessors",
-            EsSyntax {
-                auto_accessors: true,
-                ..off
-            },
-        ),
-        (
-            "explicitResourceManagement",
-            EsSyntax {
-                explicit_resource_management: true,
-                ..off
-            },
-        ),
-    ]
-}
+const OFF: EsSyntax = EsSyntax {
+    jsx: false,
+    fn_bind: false,
+    decorators: false,
+    decorators_before_export: false,
+    export_default_from: false,
+    import_attributes: false,
+    allow_super_outside_method: false,
+    allow_return_outside_function: false,
+    auto_accessors: false,
+    explicit_resource_management: false,
+};
 
-/// The text of the options, with the one of this key on.
-fn written(alloc: Global, tag: &str, keys: &[&str], on: &str) -> Result<String, AllocError> {
+/// Each option of ECMAScript alone, under its key, in the order in which they are written.
+const ES_OPTIONS: &[(&str, EsSyntax)] = &[
+    ("jsx", EsSyntax { jsx: true, ..OFF }),
+    (
+        "functionBind",
+        EsSyntax {
+            fn_bind: true,
+            ..OFF
+        },
+    ),
+    (
+        "decorators",
+        EsSyntax {
+            decorators: true,
+            ..OFF
+        },
+    ),
+    (
+        "decoratorsBeforeExport",
+        EsSyntax {
+            decorators_before_export: true,
+            ..OFF
+        },
+    ),
+    (
+        "exportDefaultFrom",
+        EsSyntax {
+            export_default_from: true,
+            ..OFF
+        },
+    ),
+    (
+        "importAttributes",
+        EsSyntax {
+            import_attributes: true,
+            ..OFF
+        },
+    ),
+    (
+        "allowSuperOutsideMethod",
+        EsSyntax {
+            allow_super_outside_method: true,
+            ..OFF
+        },
+    ),
+    (
+        "allowReturnOutsideFunction",
+        EsSyntax {
+            allow_return_outside_function: true,
+            ..OFF
+        },
+    ),
+    (
+        "autoAccessors",
+        EsSyntax {
+            auto_accessors: true,
+            ..OFF
+        },
+    ),
+    (
+        "explicitResourceManagement",
+        EsSyntax {
+            explicit_resource_management: true,
+            ..OFF
+        },
+    ),
+];
+
+/// The text of the options of a table, with the one of this key on.
+fn written<T>(
+    alloc: Global,
+    tag: &str,
+    options: &[(&str, T)],
+    on: &str,
+) -> Result<String, AllocError> {
     let mut text = format!(in alloc; "{{\"syntax\":\"{}\"", tag)?;
-    for key in keys {
+    for (key, _) in options {
         let value = if *key == on { "true" } else { "false" };
         text.push_str(",\"")?;
         text.push_str(*key)?;
@@ -92,13 +107,13 @@ fn written(alloc: Global, tag: &str, keys: &[&str], on: &str) -> Result<String, 
 
 #[test]
 fn es_options_read(rt: HostRuntime) -> Result<(), Fail> {
-    for (key, options) in es_options() {
+    for (key, options) in ES_OPTIONS {
         let text = format!(in rt.alloc(); "{{\"syntax\":\"ecmascript\",\"{}\":true}}", key)?;
         let syntax: Syntax = serde_json::from_str(rt.alloc(), text.as_str())?;
         let off = format!(in rt.alloc(); "{{\"{}\":false,\"syntax\":\"ecmascript\"}}", key)?;
         let plain: Syntax = serde_json::from_str(rt.alloc(), off.as_str())?;
         assert!(rt;
-            syntax == Syntax::Es(options) && plain == Syntax::default(),
+            syntax == Syntax::Es(*options) && plain == Syntax::default(),
             "{key}"
         );
     }
@@ -107,22 +122,10 @@ fn es_options_read(rt: HostRuntime) -> Result<(), Fail> {
 
 #[test]
 fn es_options_written(rt: HostRuntime) -> Result<(), Fail> {
-    let keys = [
-        "jsx",
-        "functionBind",
-        "decorators",
-        "decoratorsBeforeExport",
-        "exportDefaultFrom",
-        "importAttributes",
-        "allowSuperOutsideMethod",
-        "allowReturnOutsideFunction",
-        "autoAccessors",
-        "explicitResourceManagement",
-    ];
-    for (key, options) in es_options() {
-        let syntax = Syntax::Es(options);
+    for (key, options) in ES_OPTIONS {
+        let syntax = Syntax::Es(*options);
         let text = serde_json::to_string(rt.alloc(), &syntax)?;
-        let want = written(rt.alloc(), "ecmascript", &keys, key)?;
+        let want = written(rt.alloc(), "ecmascript", ES_OPTIONS, *key)?;
         let again: Syntax = serde_json::from_str(rt.alloc(), text.as_str())?;
         assert!(rt; text.as_str() == want.as_str() && again == syntax, "{key}");
     }
@@ -146,7 +149,7 @@ fn ts_options(rt: HostRuntime) -> Result<(), Fail> {
         let syntax = Syntax::Typescript(options);
         let text = format!(in rt.alloc(); "{{\"syntax\":\"typescript\",\"{}\":true}}", key)?;
         let read: Syntax = serde_json::from_str(rt.alloc(), text.as_str())?;
-        let want = written(rt.alloc(), "typescript", &["tsx", "decorators"], key)?;
+        let want = written(rt.alloc(), "typescript", &rows, key)?;
         let put = serde_json::to_string(rt.alloc(), &syntax)?;
         assert!(rt; read == syntax && put.as_str() == want.as_str(), "{key}");
     }
@@ -199,7 +202,7 @@ fn options_alone(rt: HostRuntime) -> Result<(), Fail> {
     Ok(())
 }
 
-/// The ten questions that have an option of ECMAScript, in the order of `es_options`.
+/// The ten questions that have an option of ECMAScript, in the order of `ES_OPTIONS`.
 fn answers(syntax: Syntax) -> [bool; 10] {
     [
         syntax.jsx(),
@@ -217,7 +220,7 @@ fn answers(syntax: Syntax) -> [bool; 10] {
 
 #[test]
 fn questions_of_ecmascript(rt: HostRuntime) {
-    for (at, (key, options)) in es_options().iter().enumerate() {
+    for (at, (key, options)) in ES_OPTIONS.iter().enumerate() {
         for (asked, answer) in answers(Syntax::Es(*options)).iter().enumerate() {
             assert!(rt; *answer == (asked == at), "question {asked} under {key}");
         }
