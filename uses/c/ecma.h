@@ -132,10 +132,11 @@ struct ecma_error {
     size_t message_hi;
 };
 
-/* An import: the string with its quotes that names the module, else the first argument of a call, else the statement; the
-   statement; the left parenthesis of a call, else 0; the braces behind `with` or `assert`, or the second argument of a call,
-   else 0 and 0; how it names the module and how far that is brought; its flags; and which rows of exports are its own, so that
-   their local names are names of the other module: how many come before them, and how many they are. */
+/* An import: the string with its quotes that names the module (one that is not closed has the first alone), else the first
+   argument of a call, else the statement; the statement; the left parenthesis of a call, else 0; the braces behind `with` or
+   `assert`, or the second argument of a call, else 0 and 0; how it names the module and how far that is brought; its flags; and
+   which rows of exports are its own, so that their local names are names of the other module: how many come before them, and
+   how many they are. */
 struct ecma_import {
     uint32_t lo;
     uint32_t hi;

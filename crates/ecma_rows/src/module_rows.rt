@@ -5,8 +5,8 @@ ghost use Rattle.ecma_rows.specs.ModuleRows as rows;
 use ecma_module_table::rows::{Argument, Export, Form, Import, Phase, Specifier};
 use ecma_span::{BytePos, Span};
 
-/// An import. Places are bytes from the text's start: of what names the module, which is the string with its quotes, else the
-/// first argument of a call, else the statement; of the statement; of the left parenthesis of a call, else 0; of the braces
+/// An import. Places are bytes from the text's start: of what names the module, which is the string with its quotes (one that
+/// is not closed has the first alone), else the first argument of a call, else the statement; of the statement; of the left parenthesis of a call, else 0; of the braces
 /// behind `with` or `assert`, or of the second argument of a call, both 0 where there are none.
 ///
 /// `form` is 0 for `import`, 1 for `export .. from`, 2 for a call of `import`, 3 for `import.meta`, 4 for

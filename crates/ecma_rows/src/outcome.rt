@@ -17,7 +17,8 @@ pub enum Status {
     OutOfMemory,
     /// There is no room for all. What fits was written.
     NoRoom,
-    /// An option is unknown, or the places do not ascend, or some are given though the flag is to say.
+    /// An option is unknown, the places do not ascend, or two of these are to say which slashes begin regular expressions: the
+    /// flag, the tokens before, and places.
     Refused,
     /// The text, or its canonical text, is longer than 4,294,967,295 bytes.
     TooLong,

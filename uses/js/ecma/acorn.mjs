@@ -1,7 +1,7 @@
 // The tokens as acorn's tokenizer has them: its types, its values, its places.
 import { Kind, cook, tokenRows } from './ecma.mjs';
 import { KIND, RESPELLED } from './rows.mjs';
-import { bigIntOf, cookTemplate, numberOf, regexpOf } from './values.mjs';
+import { bigIntOf, cookTemplate, numberOf, regexpOf, withoutQuotes } from './values.mjs';
 
 const FIRST_OPERATOR = Kind.OP_EQ_EQ, FIRST_WORD = Kind.KEYWORD_AWAIT, NAME = Kind.NAME;
 
@@ -102,7 +102,7 @@ class Tokenizer {
         const type = this.table[kind], text = this.text;
         switch (kind) {
             case Kind.STR: {
-                const raw = text.slice(start + 1, end - 1);
+                const raw = withoutQuotes(text.slice(start, end));
                 return new Token(type, word & RESPELLED ? cook(raw) : raw, start, end);
             }
             case Kind.TEMPLATE: return this.template(text.slice(start, end), start, end, word);

@@ -111,6 +111,8 @@ export interface ImportSpecifier {
     readonly require: boolean;
 }
 export interface ImportOptions extends Options {
+    /** As of `Options`, but true where nothing else is said. */
+    module?: boolean;
     /** Find each `require("x")` of CommonJS too. */
     commonjs?: boolean;
 }

@@ -177,7 +177,7 @@ function putBytes(text) {
 
 /** By the tokens before a slash, where nothing else is said. */
 function slashBits(slashes) {
-    if (slashes === undefined) return SLASHES_BY_ROLE;
+    if (slashes === undefined || slashes === null) return SLASHES_BY_ROLE;
     return slashes === 'flag' ? SLASHES_BY_FLAG : 0;
 }
 
@@ -270,18 +270,17 @@ class Request {
 
 /** Does `work` with a text inside the module. Whatever comes of it, the next call finds a module that is in order. */
 export function withText(text, options, work) {
-    if (!exports) {
-        if (!compiled) throw new EcmaError('NOT_LOADED');
-        start(compiled);
-    }
+    if (!exports && !compiled) throw new EcmaError('NOT_LOADED');
     try {
+        // The memory of a new instance may be more than there is.
+        if (!exports) start(compiled);
         const request = new Request(text, options);
         request.renew();
         return work(request);
     } catch (error) {
         if (error instanceof EcmaError) throw error;
         // A trap leaves the stack of the module where it was, so that this instance is of no use any more.
-        exports = undefined;
+        exports = bytes = undefined;
         throw new EcmaError(error instanceof RangeError ? 'OUT_OF_MEMORY' : 'STOPPED', undefined, { cause: error });
     } finally {
         if (exports && exports.memory.buffer.byteLength > KEPT_BYTES) exports = bytes = undefined;

@@ -1,6 +1,6 @@
 // What a module imports and exports, with the fields of es-module-lexer, of the rows that the library writes.
 import { NO_ROOM, room, stringAt, withText, wordsAt } from './host.mjs';
-import { cook, withoutQuotes } from './values.mjs';
+import { cook, isClosed, withoutQuotes } from './values.mjs';
 
 // Rows of imports: name, statement, each from where to where, parenthesis, attributes from where to where, then form + 256 * phase
 // + 65536 * flags, and two numbers of 64 bits: how many rows of exports come before its own, and how many are its own.
@@ -50,11 +50,13 @@ function toUnits(request, rows, width, columns) {
 
 function importOf(row, between) {
     const flags = row[FORM] >>> 16, form = row[FORM] & 0xff;
-    // Of a call the string's places are those of the argument.
-    const quote = (flags & STRING) !== 0 && form !== CALL ? 1 : 0;
+    const name = flags & STRING ? between(row[START], row[END]) : undefined;
+    // Of a call the string's places are those of the argument, with its quotes.
+    const isInside = name !== undefined && form !== CALL;
+    const opening = isInside ? 1 : 0, closing = isInside && isClosed(name) ? 1 : 0;
     return {
-        n: flags & STRING ? cook(withoutQuotes(between(row[START], row[END]))) : undefined,
-        s: row[START] + quote, e: row[END] - quote, ss: row[STATEMENT_START], se: row[STATEMENT_END],
+        n: name === undefined ? undefined : cook(withoutQuotes(name)),
+        s: row[START] + opening, e: row[END] - closing, ss: row[STATEMENT_START], se: row[STATEMENT_END],
         d: form === CALL ? row[PAREN] : form === META ? D_META : D_STATIC,
         // No attributes begin where the text does.
         a: row[ATTRIBUTES] || NO_PLACE,
@@ -74,8 +76,8 @@ function exportOf([s, e, ls, le, flags], isForeign, between) {
 /** What a module imports and exports, as es-module-lexer answers it: `[imports, exports, facade, hasModuleSyntax]`. */
 export function imports(text, options) {
     // es-module-lexer has the name of a file there.
-    const { commonjs, ...more } = typeof options === 'string' ? {} : { ...options };
-    return withText(text, { module: true, ...more }, (request) => {
+    const { commonjs, module = true, ...more } = typeof options === 'string' ? {} : { ...options };
+    return withText(text, { ...more, module }, (request) => {
         if (commonjs) request.bits |= COMMONJS_BIT;
         const [importRows, exportRows, flags] = askImports(request);
         toUnits(request, importRows, IMPORT_WIDTH, IMPORT_PLACES);

@@ -44,10 +44,18 @@ export function regexpOf(raw) {
     return { pattern: raw.slice(1, end), flags: cook(raw.slice(end + 1)) };
 }
 
+/** Whether a string ends with a quote that closes it, and not with one that is escaped. */
+export function isClosed(raw) {
+    const last = raw.length - 1;
+    if (last < 1 || raw[last] !== raw[0]) return false;
+    let backslashes = 0;
+    while (raw[last - 1 - backslashes] === '\\') backslashes++;
+    return backslashes % 2 === 0;
+}
+
 /** A string without its quotes; one that is not closed has the first alone. */
 export function withoutQuotes(raw) {
-    const isClosed = raw.length > 1 && raw.at(-1) === raw[0];
-    return isClosed ? raw.slice(1, -1) : raw.slice(1);
+    return isClosed(raw) ? raw.slice(1, -1) : raw.slice(1);
 }
 
 /** The value of a token, of its kind and spelling: undefined of an error, and else the spelling where nothing else is said. */

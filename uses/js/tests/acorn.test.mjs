@@ -24,6 +24,8 @@ test('types and values', () => {
     assert.deepEqual([value.pattern, value.flags, value.value.source], ['a', 'g', 'a']);
     assert.equal([...tokenizer('/(/', types)][0].value.value, null);
     assert.deepEqual(seen('\\u0061s'), [['name', 'as', 0, 7]]);
+    assert.deepEqual(seen('"a\\x62" "" \'c').map(([type, value]) => [type, value]), [['string', 'ab'], ['string', ''], ['string', 'c']]);
+    for (const [text, value] of [['"', ''], ['"\'é', "'é"], ['"a\\"', 'a"']]) assert.deepEqual(seen(text), [['string', value, 0, text.length]], text);
     assert.deepEqual(seen('#!a\nb'), [['name', 'b', 4, 5]]);
 });
 

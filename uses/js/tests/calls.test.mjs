@@ -28,6 +28,10 @@ test('values of tokens', () => {
         ['"\\x41\\u0042\\u{43}"', 'ABC'],
         ["'a\\\r\nb'", 'ab'],
         ["'\\101\\0\\8'", 'A\u00008'],
+        ['""', ''], ['"a\\\\"', 'a\\'], ['"\\""', '"'],
+        // A string that is not closed says what stands behind its quote.
+        ['"', ''], ["'", ''], ['"a', 'a'], ['"\'é', "'é"], ["'a\"", 'a"'], ['"a\\"', 'a"'], ['"a\\\\\\"', 'a\\"'],
+        ['"a\n"b', 'a'], ['"a\\\n', 'a'],
         ['\\u{61}b', 'ab'],
         ['0x1f', 31], ['0b11', 3], ['0o17', 15], ['017', 15], ['089', 89], ['1e3', 1000], ['.5', 0.5], ['1_000', 1000], ['7', 7],
         ['0x1_fn', 31n],
@@ -98,7 +102,7 @@ test('options', () => {
 
 test('slashes', () => {
     const text = 'é = 𝒳 / /b/g';
-    assert.deepEqual(spelled(text), ['é', '=', '𝒳', '/', '/b/g']);
+    for (const options of [undefined, null, { slashes: undefined }, { slashes: null }]) assert.deepEqual(spelled(text, options), ['é', '=', '𝒳', '/', '/b/g']);
     assert.deepEqual(spelled(text, { slashes: [] }), ['é', '=', '𝒳', '/', '/', 'b', '/', 'g']);
     assert.deepEqual(spelled(text, { slashes: [7] }), ['é', '=', '𝒳', '/ /b', '/', 'g']);
     assert.deepEqual(spelled(text, { slashes: new Uint32Array([9]) }), ['é', '=', '𝒳', '/', '/b/g']);

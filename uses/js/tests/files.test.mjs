@@ -114,23 +114,44 @@ test('over HTTP', async () => {
     }
 });
 
-test('a module that stops leaves nothing behind', () => {
-    // A module with the exports of the package, whose call of count traps.
-    const good = new WebAssembly.Module(bytesOf('ecma.wasm'));
-    ecma.loadSync(good);
+/** Does `work` while each instance exports what `change` makes of its exports and of how many instances came before it. */
+function changing(change, work) {
     const { Instance } = WebAssembly;
     let made = 0;
     WebAssembly.Instance = class {
         constructor(module) {
-            const { exports } = new Instance(module);
-            this.exports = made++ ? exports : { ...exports, ecma_js_count: () => { throw new WebAssembly.RuntimeError('unreachable'); } };
+            this.exports = change(new Instance(module).exports, made++);
         }
     };
     try {
-        ecma.loadSync(good);
-        refuses('STOPPED', () => ecma.count('a b'));
-        assert.equal(ecma.count('a b'), 2);
+        work();
     } finally {
         WebAssembly.Instance = Instance;
     }
+}
+
+const throwing = (error) => () => { throw error; };
+/** The exports, whose call of count traps. */
+const trapping = (exports) => ({ ...exports, ecma_js_count: throwing(new WebAssembly.RuntimeError('unreachable')) });
+
+test('a module that stops leaves nothing behind', () => {
+    changing((exports, before) => (before ? exports : trapping(exports)), () => {
+        ecma.loadSync(bytesOf('ecma.wasm'));
+        refuses('STOPPED', () => ecma.count('a b'));
+        assert.equal(ecma.count('a b'), 2);
+    });
+});
+
+test('a module that does not start again is an error, and the next call starts it', () => {
+    // What an engine throws that has no room for the memory of an instance.
+    const noMemory = throwing(new RangeError('Out of memory: Cannot allocate Wasm memory for new instance'));
+    const change = [trapping, noMemory, noMemory];
+    changing((exports, before) => (change[before] ? change[before](exports) : exports), () => {
+        ecma.loadSync(bytesOf('ecma.wasm'));
+        refuses('STOPPED', () => ecma.count('a b'));
+        refuses('OUT_OF_MEMORY', () => ecma.count('a b'));
+        assert.equal(ecma.memory(), 0);
+        refuses('OUT_OF_MEMORY', () => ecma.tokenRows('a b'));
+        assert.equal(ecma.count('a b'), 2);
+    });
 });

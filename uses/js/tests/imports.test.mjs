@@ -22,6 +22,41 @@ test('static imports', () => {
     for (const [text, wanted] of rows) assert.deepEqual(seen(text), [wanted], text);
 });
 
+test('names in strings that are not closed', () => {
+    const rows = [
+        ['import "', ['', '', 'import "', -1, '']],
+        ['import "é', ['é', 'é', 'import "é', -1, '']],
+        ['import "ab', ['ab', 'ab', 'import "ab', -1, '']],
+        ['import "\'', ["'", "'", 'import "\'', -1, '']],
+        ['import "a\\"', ['a"', 'a\\"', 'import "a\\"', -1, '']],
+        ['import "a\\\\"', ['a\\', 'a\\\\', 'import "a\\\\"', -1, '']],
+        ["export * from 'x", ['x', 'x', "export * from 'x", -1, '']],
+        ['import a from "b\nwith { type: "json" }', ['b', 'b', 'import a from "b\nwith { type: "json" }', -1, '{']],
+        // Of a call the places are those of the argument.
+        ['import("a', ['a', '"a', 'import("a', 6, '']],
+        ['import("', ['', '"', 'import("', 6, '']],
+    ];
+    for (const [text, wanted] of rows) assert.deepEqual(seen(text), [wanted], text);
+    assert.deepEqual(seen('require("a\n)', { commonjs: true }), [['a', 'a', 'require("a\n)', -1, '']]);
+    const bytes = Buffer.from('/* é */ import "é'), [[{ n, s, e, se }]] = imports(bytes);
+    assert.deepEqual([n, s, e, se], ['é', 17, 19, 19]);
+    const names = [
+        ['export { a as "b', [['b', 'a', '"b', 'a']]],
+        ['export { a as "', [['', 'a', '"', 'a']]],
+        ['export { a as "b\\"', [['b"', 'a', '"b\\"', 'a']]],
+        ['export * as "b\nfrom "c', [['b', undefined, '"b', '']]],
+        ["export { 'a\n}", [['a', 'a', "'a", "'a"]]],
+    ];
+    for (const [text, wanted] of names) assert.deepEqual(exported(text), wanted, text);
+});
+
+test('module code, where nothing else is said', () => {
+    // `await` is a keyword of it, behind which a regular expression stands.
+    const text = 'await /import("a")/';
+    for (const options of [undefined, 'file.js', {}, { module: undefined }, { module: true }]) assert.deepEqual(seen(text, options), []);
+    assert.deepEqual(seen(text, { module: false }), [['a', '"a"', 'import("a")', 13, '']]);
+});
+
 test('dense texts have more rows than there is room for at first', () => {
     const text = 'import"a";export{b};'.repeat(1000);
     const [found, names] = imports(text);
@@ -119,26 +154,32 @@ test('facade and module syntax', () => {
 });
 
 test('whatever stands there, fields are places of the text', () => {
-    const parts = ['import', 'export', '(', ')', '{', '}', ',', '"a"', 'from', '*', 'as', 'a', '.', 'meta', 'let', '=', 'default', 'function', 'with', ';', '\n', '`', '${', 'assert', 'class'];
+    const parts = ['import', 'export', '(', ')', '{', '}', ',', '"a"', '"', "'", '"é', '"a\\"', 'from', '*', 'as', 'a', '.', 'meta', 'let', '=', 'default', 'function', 'with', ';', '\n', '`', '${', 'assert', 'class'];
     let state = 1;
     const next = (bound) => (state = (Math.imul(state, 1103515245) + 12345) >>> 0, (state >>> 8) % bound);
     for (let i = 0; i < 20_000; i++) {
         const text = Array.from({ length: next(12) }, () => parts[next(parts.length)]).join(' ');
         const [found, names] = imports(text);
         const isPlace = (it) => Number.isInteger(it) && 0 <= it && it <= text.length;
-        for (const { s, e, ss, se, d, a } of found) {
+        for (const { n, s, e, ss, se, d, a } of found) {
             assert.ok([s, e, ss, se].every(isPlace) && s <= e && ss <= s && e <= se, text);
             assert.ok((d >= -2 || isPlace(d)) && (a === -1 || isPlace(a)), text);
+            if (n === undefined || d !== -1) continue;
+            // The name lies between its quotes; where it is not closed the line or the text ends.
+            assert.ok(['"', "'"].includes(text[s - 1]) && [text[s - 1], '\n', undefined].includes(text[e]), text);
+            assert.equal(n, text.slice(s, e).replaceAll('\\"', '"'), text);
         }
         for (const { s, e, ls, le, n } of names) assert.ok(isPlace(s) && s <= e && ls <= le && typeof n === 'string', text);
     }
 });
 
 test('long texts take time as they are long', () => {
+    const backslashes = '\\'.repeat(400_000);
     const seconds = (text) => {
         const begin = performance.now();
         imports(text);
         return (performance.now() - begin) / 1000;
     };
     for (const part of ['import(', 'import {', 'import a ', 'export let a ', 'export {', 'export let a = (', 'import {} ', 'import(é', 'import(import(é),', 'import "é"; ', 'export {é};']) assert.ok(seconds(part.repeat(100_000)) < 5, part);
+    for (const text of [`import "${backslashes}"`, `import "${backslashes} "`, `import "${backslashes}\\"`]) assert.ok(seconds(text) < 5, text.slice(-3));
 });

@@ -13,7 +13,7 @@ for (const token of tokens('a', { module: true, slashes: new Uint32Array(0) })) 
     if (one.type === 'string') console.log(start, value);
 }
 const [found, , facade] = imports('import "a"', 'file.js');
-const first: ImportSpecifier | undefined = found[0];
+const first: ImportSpecifier | undefined = found[0] ?? imports('', { module: false, commonjs: true })[0][0];
 const name: string | undefined = first?.n;
 const rows: Uint32Array = tokenRows(new Uint8Array(1));
 const wrong: Diagnostic[] = errors('');

@@ -129,7 +129,14 @@ fn asked(options: Options, slashes: Slashes<'_>) -> (u32, &[u32]) {
 }
 
 impl<'a> Tokens<'a> {
-    /// Reads a text.
+    /// Reads a text, whatever is wrong with it.
+    ///
+    /// # Errors
+    ///
+    /// - [`Error::Refused`]: the places of [`Slashes::At`] do not ascend.
+    /// - [`Error::TooLong`]: the text has more than 4,294,967,295 bytes.
+    /// - [`Error::NoSlash`]: a place is not that of a `/` or `/=` which is read there.
+    /// - [`Error::OutOfMemory`]: allocation fails in the library.
     pub fn new(text: &'a str, options: Options, slashes: Slashes) -> Result<Self, Error> {
         let (bits, places) = asked(options, slashes);
         // SAFETY: the calls ask nothing of their caller but that the pointers and lengths are those of slices.

@@ -35,11 +35,11 @@ pub struct Import<'a> {
     pub phase: Phase,
     /// Whether types alone are imported, as TypeScript's `type` says of the whole statement.
     pub is_type: bool,
-    /// How the string that names the module is spelled, without its quotes.
+    /// How the string that names the module is spelled, without its quotes; one that is not closed has the first alone.
     pub specifier: Option<&'a str>,
     /// Whether that has an escape.
     pub is_escaped: bool,
-    /// The string with its quotes; else the first argument of a call; else the statement.
+    /// The string with the quotes that it has; else the first argument of a call; else the statement.
     pub name: Range<usize>,
     pub statement: Range<usize>,
     /// The braces behind `with` or `assert`, or the second argument of a call.
@@ -50,7 +50,7 @@ pub struct Import<'a> {
     pub exports: Range<usize>,
 }
 
-/// A name that is exported. Places are bytes; names are as they are spelled, strings with their quotes.
+/// A name that is exported. Places are bytes; names are as they are spelled, strings with the quotes that they have.
 #[derive(Clone, Debug, PartialEq, Eq)]
 pub struct Export<'a> {
     pub name: &'a str,
@@ -131,6 +131,18 @@ fn range(lo: u32, hi: u32) -> Range<usize> {
     lo as usize..hi as usize
 }
 
+/// A string without its quotes; one that is not closed has the first alone.
+fn without_quotes(spelling: &str) -> &str {
+    let mut behind = spelling.chars();
+    let Some(quote) = behind.next() else { return spelling };
+    let open = behind.as_str();
+    match open.strip_suffix(quote) {
+        // Behind an odd number of backslashes the last quote is an escaped one.
+        Some(closed) if (closed.len() - closed.trim_end_matches('\\').len()) % 2 == 0 => closed,
+        _ => open,
+    }
+}
+
 impl<'a> Import<'a> {
     fn of(text: &'a str, row: &ImportRow) -> Self {
         let name = range(row.lo, row.hi);
@@ -140,7 +152,7 @@ impl<'a> Import<'a> {
             form,
             phase: [Phase::Evaluation, Phase::Defer, Phase::Source][usize::from(row.phase)],
             is_type: row.flags & 1 != 0,
-            specifier: (row.flags & 4 != 0).then(|| &text[name.start + 1..name.end - 1]),
+            specifier: (row.flags & 4 != 0).then(|| without_quotes(&text[name.clone()])),
             is_escaped: row.flags & 8 != 0,
             name,
             statement: range(row.statement_lo, row.statement_hi),
@@ -165,6 +177,10 @@ impl<'a> Export<'a> {
 
 impl<'a> Module<'a> {
     /// Reads a text. `commonjs` says whether there is a row for each `require("x")`.
+    ///
+    /// # Errors
+    ///
+    /// As of [`Tokens::new`](crate::Tokens::new).
     pub fn new(text: &'a str, options: Options, commonjs: bool, slashes: Slashes) -> Result<Self, Error> {
         let (bits, places) = asked(options, slashes);
         let bits = bits + if commonjs { COMMONJS } else { 0 };
