@@ -1,5 +1,5 @@
 -- What is no text is taken away again.
-use Rattle.std.proofs.Common.{◌≡◌, ◌∙◌, ℕ, zero, suc, ◌+◌, ◌-◌, ◌<◌, ◌≤◌, ◌^◌, Bool, true, false, cond, ◌==◌, List, [], ◌∷◌, ◌++◌, append_assoc, append-nil, Option, Some, None, length, refl, sym, subst, ap, arith}
+use Rattle.std.proofs.Common.{◌≡◌, ◌∙◌, ℕ, zero, suc, ◌+◌, ◌-◌, ◌<◌, ◌≤◌, ◌^◌, Bool, true, false, cond, ◌==◌, ◌&&◌, List, [], ◌∷◌, ◌++◌, append_assoc, append-nil, Option, Some, None, length, refl, sym, subst, ap, arith}
 use Rattle.std.specs.Prelude.{codes, decimal, flat_map, fold, nat_le, nat_lt, replicate, slice_index, slice_range}
 use Rattle.std.specs.Str.Parse.{AllDigits}
 use Rattle.std.proofs.lemmas.Fmt.{decimal_is_IsNumeral}
@@ -14,8 +14,8 @@ use Rattle.ecma_show.specs.declared.frame.Frame.{Frame}
 use Rattle.ecma_show.specs.declared.mark.Mark.{Mark}
 use Rattle.ecma_show.specs.declared.paint.Part.{Part}
 use Rattle.ecma_show.specs.Colours.{set, set_any, unset, unset_any}
-use Rattle.ecma_show.specs.Painted.{colour_of, joined, painted, painted_byte, painted_bytes, painted_part, part_of, shown, shown_byte}
-use Rattle.ecma_show.specs.Shown.{all_marks, bar, before, below_span, blank, caret_byte, carets, column_text, goes_on, line_part, lines_of, margin, mark_colour, mark_line, marks_at, marks_behind, message_byte, message_text, most, numbered, pad, pad_byte, pointer}
+use Rattle.ecma_show.specs.Painted.{colour_of, each_behind, goes_on, joined, last_of, lead, painted, painted_behind, painted_byte, painted_bytes, painted_part, part_of, shown, shown_alone, shown_byte, shown_led}
+use Rattle.ecma_show.specs.Shown.{all_marks, bar, before, below_span, blank, caret_byte, carets, column_text, line_part, lines_of, margin, mark_colour, mark_line, marks_at, marks_behind, message_byte, message_text, most, numbered, pad, pad_byte, pointer}
 use Rattle.ecma_show.specs.Unshown.{Begin, Number, Bar, Inside, Sequence, Marks, Place, Unshown, at, read_byte, unshown}
 
 -- Lines of marks
@@ -36,6 +36,10 @@ silent-cons b bs other rest = silent-append (b ∷ []) bs (silent-byte b other) 
 silent-map : (f : ℕ → List ℕ) → ((b : ℕ) → Silent (f b)) → (bs : List ℕ) → Silent (flat_map f bs)
 silent-map f each [] t = refl
 silent-map f each (b ∷ bs) t = silent-append (f b) (flat_map f bs) (each b) (silent-map f each bs) t
+
+silent-each : (f : ℕ → ℕ → List ℕ) → ((a b : ℕ) → Silent (f a b)) → (a : ℕ) (bs : List ℕ) → Silent (each_behind f a bs)
+silent-each f each a [] t = refl
+silent-each f each a (b ∷ bs) t = silent-append (f a b) (each_behind f b bs) (each a b) (silent-each f each b bs) t
 
 silent-spaces : (n : ℕ) → Silent (replicate n 32)
 silent-spaces zero t = refl
@@ -69,24 +73,58 @@ silent-caret b = go (goes_on b)
     go true t = refl
     go false t = refl
 
--- a picture's last byte
-high-byte : (b : ℕ) → (128 + b == 10) ≡ false
-high-byte b = ne_eqb (128 + b) 10 (λ e. absurd (omega (arith, e)))
+-- Bytes that end no line and begin no sequence
 
-silent-message : (b : ℕ) → Silent (message_byte b)
-silent-message b = feed (b == 10) refl
+abbrev Plain : List ℕ → Type 0
+Plain [] = Unit {0}
+Plain (b ∷ bs) = ((b == 10) ≡ false) × ((b == 27) ≡ false) × Plain bs
+
+plain-byte : (b : ℕ) → ¬ (b ≡ 10) → ¬ (b ≡ 27) → ((b == 10) ≡ false) × ((b == 27) ≡ false)
+plain-byte b feed escape = (ne_eqb b 10 feed, ne_eqb b 27 escape)
+
+plain-alone : (b : ℕ) → (b == 10) ≡ false → Plain (shown_alone b)
+plain-alone b other = rw other (go (b == 9) (nat_lt b 32) refl (b == 127) (b == lead))
   where
-    rest : (x y z : Bool) → (b == 10) ≡ false → Silent (cond x (9 ∷ []) (cond y (226 ∷ (144 ∷ ((128 + b) ∷ []))) (cond z (226 ∷ (144 ∷ (161 ∷ []))) (b ∷ []))))
-    rest true y z other t = refl
-    rest false true z other t = silent-byte (128 + b) (high-byte b) t
-    rest false false true other t = refl
-    rest false false false other t = silent-byte b other t
+    go : (x y : Bool) → nat_lt b 32 ≡ y → (z w : Bool) → Plain (cond x (9 ∷ []) (cond y (226 ∷ (144 ∷ ((128 + b) ∷ []))) (cond z (226 ∷ (144 ∷ (161 ∷ []))) (cond w [] (b ∷ [])))))
+    go true y e z w = (refl, refl, tt)
+    go false true e z w = let last = plain-byte (128 + b) (λ h. absurd (omega (arith, h))) (λ h. absurd (omega (arith, h))) in (refl, refl, (refl, refl, (last.0, last.1, tt)))
+    go false false e true w = (refl, refl, (refl, refl, (refl, refl, tt)))
+    go false false e false true = tt
+    go false false e false false = (other, ne_eqb b 27 (λ h. absurd (grind (arith, nat_tests, h, e))), tt)
 
-    feed : (x : Bool) → (b == 10) ≡ x → Silent (message_byte b)
-    feed true e = subst (λ n. Silent (message_byte n)) (sym (eqb-true b 10 e)) (λ t. refl)
-    feed false e =
-        let is : message_byte b ≡ cond (b == 9) (9 ∷ []) (cond (nat_lt b 32) (226 ∷ (144 ∷ ((128 + b) ∷ []))) (cond (b == 127) (226 ∷ (144 ∷ (161 ∷ []))) (b ∷ []))) = rw e refl in
-        subst Silent (sym is) (rest (b == 9) (nat_lt b 32) (b == 127) e)
+plain-led : (b : ℕ) → goes_on b ≡ true → Plain (shown_led b)
+plain-led b high = go (nat_lt b 160)
+  where
+    go : (x : Bool) → Plain (cond x (239 ∷ (191 ∷ (189 ∷ []))) (lead ∷ (b ∷ [])))
+    go true = (refl, refl, (refl, refl, (refl, refl, tt)))
+    go false = let last = plain-byte b (λ h. absurd (grind (arith, nat_tests, h, high))) (λ h. absurd (grind (arith, nat_tests, h, high))) in (refl, refl, (last.0, last.1, tt))
+
+plain-shown : (a b : ℕ) → (b == 10) ≡ false → Plain (shown_byte a b)
+plain-shown a b other = go (a == lead) (goes_on b) refl
+  where
+    go : (x y : Bool) → goes_on b ≡ y → Plain (cond (x && y) (shown_led b) (shown_alone b))
+    go true true high = plain-led b high
+    go true false high = plain-alone b other
+    go false y high = plain-alone b other
+
+-- a line feed is shown as itself
+feed-shown : (a : ℕ) → shown_byte a 10 ≡ 10 ∷ []
+feed-shown a = go (a == lead)
+  where
+    go : (x : Bool) → cond (x && false) (shown_led 10) (10 ∷ []) ≡ 10 ∷ []
+    go true = refl
+    go false = refl
+
+silent-plain : (xs : List ℕ) → Plain xs → Silent xs
+silent-plain [] plain t = refl
+silent-plain (b ∷ bs) plain t = silent-cons b bs plain.0 (silent-plain bs plain.2) t
+
+silent-message : (a b : ℕ) → Silent (message_byte a b)
+silent-message a b = go (b == 10) refl
+  where
+    go : (x : Bool) → (b == 10) ≡ x → Silent (cond x (32 ∷ []) (shown_byte a b))
+    go true e t = refl
+    go false e t = silent-plain (shown_byte a b) (plain-shown a b e) t
 
 -- digits
 
@@ -131,7 +169,7 @@ mark-passed text frame m t =
     let content : Silent (set_any colour ++ (pointer text m ++ (32 ∷ (message ++ unset_any colour)))) =
     silent-append (set_any colour) (pointer text m ++ (32 ∷ (message ++ unset_any colour))) around.0
     (silent-append (pointer text m) (32 ∷ (message ++ unset_any colour)) (silent-pointer text m)
-    (silent-cons 32 (message ++ unset_any colour) refl (silent-append message (unset_any colour) (silent-map message_byte silent-message (string_bytes m.message)) around.1))) in
+    (silent-cons 32 (message ++ unset_any colour) refl (silent-append message (unset_any colour) (silent-each message_byte silent-message 0 (string_bytes m.message)) around.1))) in
     ap (fold read_byte (at Begin t)) parts
     ∙ fold-append read_byte (at Begin t) (blank frame.width) ((set_any colour ++ (pointer text m ++ (32 ∷ (message ++ unset_any colour)))) ++ 10 ∷ [])
     ∙ ap (λ u. fold read_byte u ((set_any colour ++ (pointer text m ++ (32 ∷ (message ++ unset_any colour)))) ++ 10 ∷ [])) (begun-blank frame.width t)
@@ -283,69 +321,55 @@ back-unset-any : (c : Option Colour) → Back (unset_any c) []
 back-unset-any None = back-none [] (λ t. refl)
 back-unset-any (Some c) = back-none unset (λ t. refl)
 
--- a byte that is written as itself
-back-byte : (b : ℕ) → (b == 10) ≡ false → (b == 27) ≡ false → Back (b ∷ []) (b ∷ [])
-back-byte b feed escape t = rw (feed, escape) refl
+-- bytes that are written as themselves, as pictures are
+back-plain : (xs : List ℕ) → Plain xs → Back xs xs
+back-plain [] plain t = ap (at Inside) (sym (append-nil t))
+back-plain (b ∷ bs) plain t = back-append (b ∷ []) bs (b ∷ []) bs (λ s. rw (plain.0, plain.1) refl) (back-plain bs plain.2) t
 
--- a control character is written as its picture, which is what is read
-back-shown : (b : ℕ) → Back (shown_byte b) (shown_byte b)
-back-shown b = feed (b == 10) refl
+back-shown : (a b : ℕ) → Back (shown_byte a b) (shown_byte a b)
+back-shown a b = go (b == 10) refl
   where
-    Shows : ℕ → Type 0
-    Shows c = Back (shown_byte c) (shown_byte c)
+    go : (x : Bool) → (b == 10) ≡ x → Back (shown_byte a b) (shown_byte a b)
+    go true e = subst (λ n. Back (shown_byte a n) (shown_byte a n)) (sym (eqb-true b 10 e)) (subst (λ l. Back l l) (sym (feed-shown a)) (λ t. refl))
+    go false e = back-plain (shown_byte a b) (plain-shown a b e)
 
-    escape : (b == 10) ≡ false → nat_lt b 32 ≡ false → (b == 27) ≡ false
-    escape other high = ne_eqb b 27 (λ e. absurd (grind (arith, nat_tests, e, high)))
-
-    erase : (x : Bool) → (b == 127) ≡ x → nat_lt b 32 ≡ false → (b == 10) ≡ false → (b == 9) ≡ false → Shows b
-    erase true same e other tab = subst Shows (sym (eqb-true b 127 same)) (λ t. ap (at Inside) (append_assoc (t ++ 226 ∷ []) (144 ∷ []) (161 ∷ []) ∙ append_assoc t (226 ∷ []) (144 ∷ (161 ∷ []))))
-    erase false same e other tab =
-        let is : shown_byte b ≡ b ∷ [] = rw (other, tab, e, same) refl in
-        subst (λ l. Back l l) (sym is) (back-byte b other (escape other e))
-
-    picture : (x : Bool) → nat_lt b 32 ≡ x → (b == 10) ≡ false → (b == 9) ≡ false → Shows b
-    picture true e other tab =
-        let is : shown_byte b ≡ 226 ∷ (144 ∷ ((128 + b) ∷ [])) = rw (other, tab, e) refl in
-        let last : Back ((128 + b) ∷ []) ((128 + b) ∷ []) = back-byte (128 + b) (high-byte b) (ne_eqb (128 + b) 27 (λ e. absurd (omega (arith, e)))) in
-        subst (λ l. Back l l) (sym is) (back-append (226 ∷ (144 ∷ [])) ((128 + b) ∷ []) (226 ∷ (144 ∷ [])) ((128 + b) ∷ []) (λ t. ap (at Inside) (append_assoc t (226 ∷ []) (144 ∷ []))) last)
-    picture false e other tab = erase (b == 127) refl e other tab
-
-    tab : (x : Bool) → (b == 9) ≡ x → (b == 10) ≡ false → Shows b
-    tab true e other = subst Shows (sym (eqb-true b 9 e)) (λ t. refl)
-    tab false e other = picture (nat_lt b 32) refl other e
-
-    feed : (x : Bool) → (b == 10) ≡ x → Shows b
-    feed true e = subst Shows (sym (eqb-true b 10 e)) (λ t. refl)
-    feed false e = tab (b == 9) refl e
-
-back-painted : (c : Option Colour) (b : ℕ) → Back (painted_byte c b) (shown_byte b)
-back-painted None b = back-shown b
-back-painted (Some c) b = go (b == 10) refl
+back-painted : (c : Option Colour) (a b : ℕ) → Back (painted_byte c a b) (shown_byte a b)
+back-painted None a b = back-shown a b
+back-painted (Some c) a b = go (b == 10) refl
   where
-    go : (x : Bool) → (b == 10) ≡ x → Back (painted_byte (Some c) b) (shown_byte b)
-    go true e = subst (λ n. Back (painted_byte (Some c) n) (shown_byte n)) (sym (eqb-true b 10 e)) (back-append (unset ++ 10 ∷ []) (set c) (10 ∷ []) [] (λ t. refl) (back-set c))
+    feed : Back (painted_byte (Some c) a 10) (10 ∷ [])
+    feed = back-append (unset ++ 10 ∷ []) (set c) (10 ∷ []) [] (λ t. refl) (back-set c)
+
+    go : (x : Bool) → (b == 10) ≡ x → Back (painted_byte (Some c) a b) (shown_byte a b)
+    go true e = subst (λ n. Back (painted_byte (Some c) a n) (shown_byte a n)) (sym (eqb-true b 10 e)) (subst (λ l. Back (painted_byte (Some c) a 10) l) (sym (feed-shown a)) feed)
     go false e =
-        let is : painted_byte (Some c) b ≡ shown_byte b = rw e refl in
-        subst (λ l. Back l (shown_byte b)) (sym is) (back-shown b)
+        let is : painted_byte (Some c) a b ≡ shown_byte a b = rw e refl in
+        subst (λ l. Back l (shown_byte a b)) (sym is) (back-shown a b)
 
-back-bytes : (c : Option Colour) (bs : List ℕ) → Back (flat_map (painted_byte c) bs) (shown bs)
-back-bytes c [] t = ap (at Inside) (sym (append-nil t))
-back-bytes c (b ∷ bs) t = back-append (painted_byte c b) (flat_map (painted_byte c) bs) (shown_byte b) (shown bs) (back-painted c b) (back-bytes c bs) t
+back-bytes : (c : Option Colour) (a : ℕ) (bs : List ℕ) → Back (each_behind (painted_byte c) a bs) (each_behind shown_byte a bs)
+back-bytes c a [] t = ap (at Inside) (sym (append-nil t))
+back-bytes c a (b ∷ bs) t = back-append (painted_byte c a b) (each_behind (painted_byte c) b bs) (shown_byte a b) (each_behind shown_byte b bs) (back-painted c a b) (back-bytes c b bs) t
 
-back-part : (c : Option Colour) (bs : List ℕ) → Back (painted_bytes c bs) (shown bs)
-back-part c bs t =
-    back-append (set_any c) (flat_map (painted_byte c) bs ++ unset_any c) [] (shown bs ++ []) (back-set-any c) (back-append (flat_map (painted_byte c) bs) (unset_any c) (shown bs) [] (back-bytes c bs) (back-unset-any c)) t
-    ∙ ap (λ l. at Inside (t ++ l)) (append-nil (shown bs))
+back-part : (c : Option Colour) (a : ℕ) (bs : List ℕ) → Back (painted_bytes c a bs) (each_behind shown_byte a bs)
+back-part c a bs t =
+    let bytes = each_behind (painted_byte c) a bs in
+    let own = each_behind shown_byte a bs in
+    back-append (set_any c) (bytes ++ unset_any c) [] (own ++ []) (back-set-any c) (back-append bytes (unset_any c) own [] (back-bytes c a bs) (back-unset-any c)) t
+    ∙ ap (λ l. at Inside (t ++ l)) (append-nil own)
 
-shown-append : (a b : List ℕ) → shown (a ++ b) ≡ shown a ++ shown b
-shown-append [] b = refl
-shown-append (x ∷ xs) b = ap (λ more. shown_byte x ++ more) (shown-append xs b) ∙ sym (append_assoc (shown_byte x) (shown xs) (shown b))
+shown-append : (a : ℕ) (xs ys : List ℕ) → each_behind shown_byte a (xs ++ ys) ≡ each_behind shown_byte a xs ++ each_behind shown_byte (last_of a xs) ys
+shown-append a [] ys = refl
+shown-append a (x ∷ xs) ys =
+    ap (λ more. shown_byte a x ++ more) (shown-append x xs ys) ∙ sym (append_assoc (shown_byte a x) (each_behind shown_byte x xs) (each_behind shown_byte (last_of x xs) ys))
 
-back-parts : (colours : Bool) (text : List ℕ) (ps : List Part) → Back (painted colours text ps) (shown (joined text ps))
-back-parts colours text [] t = ap (at Inside) (sym (append-nil t))
-back-parts colours text (p ∷ ps) t =
-    back-append (painted_part colours text p) (painted colours text ps) (shown (part_of text p)) (shown (joined text ps)) (back-part (colour_of colours p) (part_of text p)) (back-parts colours text ps) t
-    ∙ ap (λ l. at Inside (t ++ l)) (sym (shown-append (part_of text p) (joined text ps)))
+back-parts : (colours : Bool) (text : List ℕ) (a : ℕ) (ps : List Part) → Back (painted_behind colours text a ps) (each_behind shown_byte a (joined text ps))
+back-parts colours text a [] t = ap (at Inside) (sym (append-nil t))
+back-parts colours text a (p ∷ ps) t =
+    let own = part_of text p in
+    let last = last_of a own in
+    back-append (painted_part colours text a p) (painted_behind colours text last ps) (each_behind shown_byte a own) (each_behind shown_byte last (joined text ps))
+    (back-part (colour_of colours p) a own) (back-parts colours text last ps) t
+    ∙ ap (λ l. at Inside (t ++ l)) (sym (shown-append a own (joined text ps)))
 
 -- where the parts are the text, the text is what is left of what is shown
 pub unshown-text : (text : List ℕ) (ps : List Part) (ms : List Mark) (frame : Frame) → joined text ps ≡ text → 1 + length (painted frame.colours text ps) < 2 ^ 64
@@ -357,5 +381,5 @@ unshown-text text ps ms frame whole fits =
     (fold-append read_byte (at Begin []) (margin frame.width 1) lines
     ∙ ap (λ u. fold read_byte u lines) (margin-passed frame.width 1 [] (omega arith))
     ∙ numbered-read text frame 1 ms (painted colours text ps) false [] fits
-    ∙ ap (λ u. at Begin (u.text ++ 10 ∷ [])) (back-parts colours text ps []))
+    ∙ ap (λ u. at Begin (u.text ++ 10 ∷ [])) (back-parts colours text 0 ps []))
     ∙ ap (λ l. shown l ++ 10 ∷ []) whole

@@ -1,5 +1,5 @@
 -- What is shown of a text: each line behind its number, and marks below the lines. The form is our own choice.
-use Rattle.std.specs.Prelude.{ℕ, Bool, ◌+◌, ◌-◌, ◌==◌, ◌&&◌, List, [], ◌∷◌, ◌++◌, Option, Some, None, codes, count_by, decimal, flat_map, length, nat_le, nat_lt, replicate, slice_range, if◌then◌else◌}
+use Rattle.std.specs.Prelude.{ℕ, Bool, ◌+◌, ◌-◌, ◌==◌, List, [], ◌∷◌, ◌++◌, Option, Some, None, codes, count_by, decimal, flat_map, length, nat_le, replicate, slice_range, if◌then◌else◌}
 use Rattle.ecma_show.specs.declared.colour.Colour.{Colour}
 use Rattle.ecma_show.specs.declared.colour.Colour.TheVariants.{Red}
 use Rattle.ecma_show.specs.declared.frame.Frame.{Frame}
@@ -7,7 +7,7 @@ use Rattle.ecma_show.specs.declared.mark.Mark.{Mark}
 use Rattle.ecma_show.specs.declared.paint.Part.{Part}
 use Rattle.std.specs.String.{string_bytes}
 use Rattle.ecma_show.specs.Colours.{set_any, unset_any}
-use Rattle.ecma_show.specs.Painted.{painted, shown_byte}
+use Rattle.ecma_show.specs.Painted.{each_behind, goes_on, painted, shown_byte}
 
 -- Margins
 
@@ -23,10 +23,6 @@ abbrev pub blank : ℕ → List ℕ
 blank width = replicate width 32 ++ bar
 
 -- Marks
-
--- it goes on with a character that began before it
-abbrev pub goes_on : ℕ → Bool
-goes_on b = nat_le 128 b && nat_lt b 192
 
 -- what stands below a byte before the place of a mark: a tab below a tab, and else a space below each character
 abbrev pub pad_byte : ℕ → List ℕ
@@ -67,11 +63,11 @@ abbrev pub pointer : List ℕ → Mark → List ℕ
 pointer text mark = if nat_le mark.column most then pad (before text mark) ++ below_span text mark else column_text mark.column
 
 -- a message, in one line
-abbrev pub message_byte : ℕ → List ℕ
-message_byte b = if b == 10 then 32 ∷ [] else shown_byte b
+abbrev pub message_byte : ℕ → ℕ → List ℕ
+message_byte before b = if b == 10 then 32 ∷ [] else shown_byte before b
 
 abbrev pub message_text : List ℕ → List ℕ
-message_text message = flat_map message_byte message
+message_text message = each_behind message_byte 0 message
 
 -- the colour of marks, where colours are asked for
 abbrev pub mark_colour : Bool → Option Colour

@@ -2,7 +2,8 @@
 //!
 //! What is written is a definition (specs/Shown.antt), with a law (specs/Unshown.antt): without the numbers, the lines
 //! of marks and the sequences that set colours, it is the text again. Nothing that a text holds controls the terminal:
-//! control characters are shown as their pictures. The crate knows colours and places, and no tokens.
+//! control characters are shown as their pictures, and those from U+0080 to U+009F, which have none, as U+FFFD. The crate
+//! knows colours and places, and no tokens.
 //!
 //! | File | Has |
 //! |---|---|

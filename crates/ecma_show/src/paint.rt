@@ -1,11 +1,14 @@
 //! The parts of a text in their colours.
-ghost use Rattle.std.specs.Prelude.{◌≡◌, ◌∷◌, ◌++◌, ◌<◌, [], false, flat_map, slice_range, OnOk};
+ghost use Rattle.std.specs.Prelude.{◌≡◌, ◌∷◌, ◌++◌, [], false, slice_range, OnOk};
 ghost use Rattle.ecma_show.specs.Colours as colours;
 ghost use Rattle.ecma_show.specs.Painted as paint;
 
 use crate::colour::{Colour, UNSET};
 use ecma_span::Span;
 use std::alloc::AllocError;
+
+/// The first byte of the characters from U+0080 to U+00BF. It is written with the one behind it.
+const LEAD: u8 = 0xc2;
 
 /// A part of a text, and its colour where it has one.
 #[derive(Clone, Copy, Debug, PartialEq, Eq)]
@@ -23,25 +26,29 @@ pub(crate) fn between(bytes: &[u8], from: usize, to: usize) -> &[u8]
     &bytes[from..to]
 }
 
-/// Whether something else stands for a byte of a part with this colour.
-fn is_replaced(colour: Option<Colour>, byte: u8) -> bool
-    ensures { result ≡ false → paint.painted_byte colour byte ≡ byte ∷ [] }
+/// Whether something else stands for a byte of a part with this colour, behind another byte.
+fn is_replaced(colour: Option<Colour>, before: u8, byte: u8) -> bool
+    ensures { result ≡ false → paint.painted_byte colour before byte ≡ byte ∷ [] }
 {
-    // Most bytes are no control characters.
+    // Most bytes are no control characters, and of none.
     if byte >= b' ' {
-        return byte == 127;
+        return byte == 127 || byte == LEAD || before == LEAD;
     }
     byte != b'\t' && (byte != b'\n' || colour.is_some())
 }
 
-/// Adds a byte, a control character but for tabs and line feeds as its picture.
-pub(crate) fn push_shown(out: &mut Vec<u8>, byte: u8) -> Result<(), AllocError>
-    ensures { OnOk result (out.new.items ≡ out.old.items ++ paint.shown_byte byte) }
+/// Adds a byte behind another one. A control character but for tabs and line feeds is added as its picture, or where there is
+/// none as U+FFFD.
+pub(crate) fn push_shown(out: &mut Vec<u8>, before: u8, byte: u8) -> Result<(), AllocError>
+    ensures { OnOk result (out.new.items ≡ out.old.items ++ paint.shown_byte before byte) }
 {
     match byte {
         b'\n' | b'\t' => Ok(out.push(byte)?),
         0..=31 => out.extend_from_slice(&[0xe2, 0x90, 0x80 + byte]),
         127 => out.extend_from_slice(b"\xe2\x90\xa1"),
+        LEAD => Ok(()),
+        128..=159 if before == LEAD => out.extend_from_slice(b"\xef\xbf\xbd"),
+        160..=191 if before == LEAD => out.extend_from_slice(&[LEAD, byte]),
         _ => Ok(out.push(byte)?),
     }
 }
@@ -66,9 +73,14 @@ pub(crate) fn push_unset(out: &mut Vec<u8>, colour: Option<Colour>) -> Result<()
     }
 }
 
-/// Adds a byte of a part with this colour, which ends before a line feed and begins anew behind it.
-fn push_painted(out: &mut Vec<u8>, colour: Option<Colour>, byte: u8) -> Result<(), AllocError>
-    ensures { OnOk result (out.new.items ≡ out.old.items ++ paint.painted_byte colour byte) }
+/// Adds a byte of a part with this colour, behind another byte. The colour ends before a line feed and begins anew behind it.
+fn push_painted(
+    out: &mut Vec<u8>,
+    colour: Option<Colour>,
+    before: u8,
+    byte: u8,
+) -> Result<(), AllocError>
+    ensures { OnOk result (out.new.items ≡ out.old.items ++ paint.painted_byte colour before byte) }
 {
     match colour {
         Some(colour) if byte == b'\n' => {
@@ -76,41 +88,68 @@ fn push_painted(out: &mut Vec<u8>, colour: Option<Colour>, byte: u8) -> Result<(
             out.push(byte)?;
             out.extend_from_slice(colour.set())
         }
-        _ => push_shown(out, byte),
+        _ => push_shown(out, before, byte),
     }
 }
 
-/// Adds the bytes of a part with this colour. What lies between two bytes that are replaced goes in at once.
-fn push_bytes(out: &mut Vec<u8>, colour: Option<Colour>, bytes: &[u8]) -> Result<(), AllocError>
-    ensures { OnOk result (out.new.items ≡ out.old.items ++ flat_map (paint.painted_byte colour) bytes.now) }
+/// Adds the bytes of a part with this colour, behind another byte. What lies between two that are replaced goes in at once.
+fn push_bytes(
+    out: &mut Vec<u8>,
+    colour: Option<Colour>,
+    before: u8,
+    bytes: &[u8],
+) -> Result<(), AllocError>
+    ensures { OnOk result (out.new.items ≡ out.old.items ++ paint.each_behind (paint.painted_byte colour) before bytes.now) }
 {
     let mut done = 0;
+    let mut last = before;
     for (place, byte) in bytes.iter().enumerate() {
-        if is_replaced(colour, *byte) {
+        if is_replaced(colour, last, *byte) {
             out.extend_from_slice(&bytes[done..place])?;
-            push_painted(out, colour, *byte)?;
+            push_painted(out, colour, last, *byte)?;
             done = place + 1;
         }
+        last = *byte;
     }
     out.extend_from_slice(&bytes[done..])
 }
 
-/// Adds the bytes of a part in its colour.
-fn push_part(out: &mut Vec<u8>, colour: Option<Colour>, bytes: &[u8]) -> Result<(), AllocError>
-    ensures { OnOk result (out.new.items ≡ out.old.items ++ paint.painted_bytes colour bytes.now) }
+/// Adds the bytes of a part in its colour, behind another byte.
+fn push_part(
+    out: &mut Vec<u8>,
+    colour: Option<Colour>,
+    before: u8,
+    bytes: &[u8],
+) -> Result<(), AllocError>
+    ensures { OnOk result (out.new.items ≡ out.old.items ++ paint.painted_bytes colour before bytes.now) }
 {
     push_set(out, colour)?;
-    push_bytes(out, colour, bytes)?;
+    push_bytes(out, colour, before, bytes)?;
     push_unset(out, colour)
 }
 
-/// Adds a part of a text, in its colour where colours are asked for.
-fn push_asked(out: &mut Vec<u8>, bytes: &[u8], part: Part, colours: bool) -> Result<(), AllocError>
-    ensures { OnOk result (out.new.items ≡ out.old.items ++ paint.painted_part colours bytes.now part) }
+/// The bytes of a part of a text.
+fn part_of(bytes: &[u8], part: Part) -> &[u8]
+    ensures { result.now ≡ paint.part_of bytes.now part }
 {
-    let colour = if colours { part.colour } else { None };
-    let own = between(bytes, part.span.lo.0 as usize, part.span.hi.0 as usize);
-    push_part(out, colour, own)
+    between(bytes, part.span.lo.0 as usize, part.span.hi.0 as usize)
+}
+
+/// The colour of a part, where colours are asked for.
+fn colour_of(colours: bool, part: Part) -> Option<Colour>
+    ensures { result ≡ paint.colour_of colours part }
+{
+    if colours { part.colour } else { None }
+}
+
+/// The last of these bytes, or else the one before them.
+fn last_of(before: u8, bytes: &[u8]) -> u8
+    ensures { result ≡ paint.last_of before bytes.now }
+{
+    match bytes.last() {
+        Some(last) => *last,
+        None => before,
+    }
 }
 
 /// Adds the parts of a text, in their colours where these are asked for.
@@ -122,8 +161,11 @@ pub(crate) fn push_parts(
 ) -> Result<(), AllocError>
     ensures { OnOk result (out.new.items ≡ out.old.items ++ paint.painted colours bytes.now parts.now) }
 {
+    let mut before = 0;
     for part in parts {
-        push_asked(out, bytes, *part, colours)?;
+        let own = part_of(bytes, *part);
+        push_part(out, colour_of(colours, *part), before, own)?;
+        before = last_of(before, own);
     }
     Ok(())
 }

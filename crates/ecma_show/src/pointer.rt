@@ -1,5 +1,6 @@
 //! A line below a line of text that points at a place and says something.
 ghost use Rattle.std.specs.Prelude.{◌≡◌, ◌++◌, OnOk};
+ghost use Rattle.ecma_show.specs.Painted.{goes_on};
 ghost use Rattle.ecma_show.specs.Shown as shows;
 
 use crate::colour::Colour;
@@ -15,7 +16,7 @@ const MOST: usize = 400;
 
 /// Whether a byte goes on with a character that began before it.
 fn goes_on(byte: u8) -> bool
-    ensures { result ≡ shows.goes_on byte }
+    ensures { result ≡ goes_on byte }
 {
     128 <= byte && byte < 192
 }
@@ -97,22 +98,24 @@ fn push_pointer(out: &mut Vec<u8>, text: &[u8], mark: &Mark) -> Result<(), Alloc
     push_carets(out, between(text, place, mark.span.hi.0 as usize))
 }
 
-/// Adds a byte of a message, a line feed as a space.
-fn push_message_byte(out: &mut Vec<u8>, byte: u8) -> Result<(), AllocError>
-    ensures { OnOk result (out.new.items ≡ out.old.items ++ shows.message_byte byte) }
+/// Adds a byte of a message behind another one, a line feed as a space.
+fn push_message_byte(out: &mut Vec<u8>, before: u8, byte: u8) -> Result<(), AllocError>
+    ensures { OnOk result (out.new.items ≡ out.old.items ++ shows.message_byte before byte) }
 {
     if byte == b'\n' {
         return Ok(out.push(b' ')?);
     }
-    push_shown(out, byte)
+    push_shown(out, before, byte)
 }
 
 /// Adds a message, in one line.
 fn push_message(out: &mut Vec<u8>, message: &[u8]) -> Result<(), AllocError>
     ensures { OnOk result (out.new.items ≡ out.old.items ++ shows.message_text message.now) }
 {
+    let mut before = 0;
     for byte in message {
-        push_message_byte(out, *byte)?;
+        push_message_byte(out, before, *byte)?;
+        before = *byte;
     }
     Ok(())
 }

@@ -26,8 +26,9 @@ fn width_of(alloc: Global, text: &[u8]) -> Result<usize, AllocError>
 }
 
 /// A text for a terminal: each line behind its number, its parts in their colours where `colours` says so, and below a line
-/// that of each mark which is of it. A control character is shown as its picture, but for tabs and line feeds. The text ends
-/// with a line, which is empty where the text ends with a line feed. Our own.
+/// that of each mark which is of it. A control character is shown as its picture, but for tabs and line feeds, and as U+FFFD
+/// from U+0080 to U+009F, of which there are no pictures. The text ends with a line, which is empty where the text ends with a
+/// line feed. Our own.
 ///
 /// The parts are the text, one behind the other; else what they have of it is shown. Marks are written in their order, each
 /// below its line where none before it is of a later one; those of lines that the text has not are below the last. The caller

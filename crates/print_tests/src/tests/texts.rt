@@ -53,6 +53,41 @@ const CASES: &[Case] = &[
         false,
         "1 | \u{241b}[2J\u{2400}\u{240d}\n2 | \t\u{2421}é\n",
     ),
+    ("\u{7f}", &[(1, None)], &[], false, "1 | \u{2421}\n"),
+    // Control characters that have no pictures, and characters beside them or with their bytes.
+    ("a\u{9b}2Jb", &[(6, None)], &[], false, "1 | a\u{fffd}2Jb\n"),
+    ("\u{80}", &[(2, None)], &[], false, "1 | \u{fffd}\n"),
+    ("\u{9f}", &[(2, None)], &[], false, "1 | \u{fffd}\n"),
+    ("\u{a0}", &[(2, None)], &[], false, "1 | \u{a0}\n"),
+    (
+        "\u{bf}\u{c0}\u{df}\u{201b}\u{1f600}",
+        &[(13, None)],
+        &[],
+        false,
+        "1 | \u{bf}\u{c0}\u{df}\u{201b}\u{1f600}\n",
+    ),
+    (
+        "\u{90}\u{1b}\u{9c}\u{85}\n",
+        &[(8, None)],
+        &[],
+        false,
+        "1 | \u{fffd}\u{241b}\u{fffd}\u{fffd}\n2 | \n",
+    ),
+    (
+        "\u{9d}\u{9d}\n",
+        &[(2, Some(Colour::Green)), (0, None), (3, None)],
+        &[],
+        true,
+        "1 | \u{1b}[32m\u{fffd}\u{1b}[0m\u{fffd}\n2 | \n",
+    ),
+    // Also where a part ends within one.
+    (
+        "\u{9b}m\u{a0}",
+        &[(1, Some(Colour::Green)), (3, None), (1, None)],
+        &[],
+        true,
+        "1 | \u{1b}[32m\u{1b}[0m\u{fffd}m\u{a0}\n",
+    ),
     // Numbers of one width.
     (
         "\n\n\n\n\n\n\n\n\n",
@@ -68,6 +103,14 @@ const CASES: &[Case] = &[
         &[(3, 6, 1, 4, "m\u{7}\nn")],
         false,
         "1 | \té'ab\n  | \t ^^^ m\u{2407} n\n",
+    ),
+    // One column for what stands for a control character of two bytes.
+    (
+        "\u{9b}\u{a0}'\u{9b}b",
+        &[(8, None)],
+        &[(4, 8, 1, 5, "m\u{9b}2J\u{a0}\u{80}")],
+        false,
+        "1 | \u{fffd}\u{a0}'\u{fffd}b\n  |   ^^^ m\u{fffd}2J\u{a0}\u{fffd}\n",
     ),
     (
         "x\n",
