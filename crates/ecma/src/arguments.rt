@@ -28,8 +28,8 @@ fn argument(rt: &HostRuntime, number: usize) -> Result<Option<Vec<u8>>, AllocErr
     Err(AllocError)
 }
 
-/// The words that the program was started with, its name first, and the status: a word that is not UTF-8 is reported and left
-/// out, since no file can be opened by it.
+/// The words that the program was started with, its name first, and the status: a word that is not UTF-8 is reported, and an
+/// empty one stands in its place, since no file can be opened by it.
 ///
 /// # Errors
 ///
@@ -46,6 +46,7 @@ pub fn arguments(rt: &HostRuntime) -> Result<(Vec<String>, u8), AllocError> {
             Err(_) => {
                 let name = format!(in rt.alloc(); "argument {number}")?;
                 status = refuse(rt, name.as_str(), "is not UTF-8").max(FAULTY);
+                words.push(String::new(rt.alloc()))?;
             }
         }
     }

@@ -1,8 +1,8 @@
 //! Lines on standard error.
 
 use crate::source::refusal;
-use ecma_stdio::{Halt, send};
-use std::alloc::Global;
+use ecma_stdio::{Halt, push_escaped, send};
+use std::alloc::{AllocError, Global};
 use std::io;
 use std::io::{ErrorKind, Write};
 
@@ -26,10 +26,20 @@ impl From<Halt> for Refusal {
     }
 }
 
+/// A line about a file, whose name stands there as in rows.
+fn line_about(alloc: Global, name: &str, message: &str) -> Result<Vec<u8>, AllocError> {
+    let mut line = Vec::new(alloc);
+    push_escaped(&mut line, name.as_bytes())?;
+    line.extend_from_slice(b": ")?;
+    line.extend_from_slice(message.as_bytes())?;
+    line.push(b'\n')?;
+    Ok(line)
+}
+
 /// Writes a line about a file, and answers the status.
 pub fn refuse(rt: &HostRuntime, name: &str, message: &str) -> u8 {
-    match format!(in rt.alloc(); "{name}: {message}\n") {
-        Ok(line) => send(&mut rt.stderr(), FAULTY, line.as_bytes()),
+    match line_about(rt.alloc(), name, message) {
+        Ok(line) => send(&mut rt.stderr(), FAULTY, &line),
         Err(_) => send(&mut rt.stderr(), FAULTY, b"ecma: out of memory\n"),
     }
 }

@@ -151,7 +151,9 @@ impl Files {
         };
         match text_of(&bytes) {
             Ok(text) => {
-                for line in text.lines() {
+                // Editors of some systems begin a list with a byte order mark.
+                let list = text.strip_prefix('\u{feff}').unwrap_or(text);
+                for line in list.lines() {
                     if !line.is_empty() {
                         self.add(rt, chosen, line)?;
                     }

@@ -24,12 +24,12 @@ use crate::source::{STANDARD_INPUT, read};
 use crate::watched::Watched;
 use clap::ArgMatches;
 use ecma_command::words::{
-    Among, Asked, Chosen, Named, command, has_jsx, is_by_flag, slash_places,
+    Among, Asked, Chosen, Face, Named, command, has_jsx, is_by_flag, slash_places,
 };
 use ecma_faces::telling::tell;
 use ecma_report::report::{Report, Stop};
 use ecma_span::BytePos;
-use ecma_stdio::{Fault, Halt, exit_code, send, text_of};
+use ecma_stdio::{Halt, exit_code, send, text_of};
 use std::alloc::AllocError;
 use std::process::ExitCode;
 
@@ -41,6 +41,9 @@ const NO_WORDS: u8 = 5;
 
 /// What is reported of a file that has JSX.
 const JSX: &str = "JSX is not read yet; --as-is reads the file as what it is without it";
+
+/// What is reported of a file that has no canonical text for this alone.
+const TOO_LONG: &str = "its canonical text is longer than 4,294,967,295 bytes";
 
 /// What the words ask for of all files.
 #[derive(Clone, Copy)]
@@ -62,18 +65,22 @@ enum Ended {
     Closed(u8),
 }
 
+/// Whether there is no canonical text though nothing is wrong.
+fn is_too_long(report: &Report) -> bool {
+    report.asked.face == Face::Canonical && report.is_faulty && report.faults.is_empty()
+}
+
 /// Writes what is asked for of a text, and its faults.
 fn tell_text<'t>(rt: &HostRuntime, job: Job<'t>, name: &'t str, text: &'t str) -> Ended
     requires { length text.now < 2 ^ 32 }
 {
-    let Ok(mut report) = Report::new(rt.alloc(), job.asked.for_file(name), name, text) else {
-        return Ended::Status(refuse(rt, name, "out of memory"));
-    };
+    let mut report = Report::new(rt.alloc(), job.asked.for_file(name), name, text);
     report.among = job.among;
     let mut out = Watched::new(rt.stdout());
     let told = tell(&mut report, job.named, &mut out);
     job.progress.clear(rt);
     match told {
+        Ok(()) if is_too_long(&report) => Ended::Status(refuse(rt, name, TOO_LONG)),
         Ok(()) => {
             let status = if report.is_faulty { FAULTY } else { 0 };
             Ended::Status(send(&mut rt.stderr(), status, &report.faults))
@@ -118,15 +125,27 @@ fn tell_all(rt: &HostRuntime, job: Job, files: &[String]) -> u8 {
     status
 }
 
+/// Whether a word is empty and may stand for one that was reported.
+fn is_lost(word: &str, lacks_words: bool) -> bool {
+    lacks_words && word.is_empty()
+}
+
 /// The files that the words ask for; standard input where there is none.
-fn files_of(rt: &HostRuntime, matches: &ArgMatches) -> Result<Files, AllocError> {
+fn files_of(
+    rt: &HostRuntime,
+    matches: &ArgMatches,
+    lacks_words: bool,
+) -> Result<Files, AllocError> {
     let chosen = Chosen::of(matches);
     let names = matches.get_strs("files").unwrap_or(&[]);
     let mut files = Files::new(rt);
     for name in names {
-        files.add(rt, chosen, name)?;
+        if !is_lost(name, lacks_words) {
+            files.add(rt, chosen, name)?;
+        }
     }
     match matches.get_str("files-from") {
+        Some(list) if is_lost(list, lacks_words) => {}
         Some(list) => files.add_list(rt, chosen, list)?,
         None if names.is_empty() => files.add(rt, None, STANDARD_INPUT)?,
         None => {}
@@ -146,11 +165,15 @@ fn run_subcommand(
     rt: &HostRuntime,
     subcommand: &str,
     matches: &ArgMatches,
+    lacks_words: bool,
 ) -> Result<u8, AllocError> {
+    let Some(asked) = Asked::of(subcommand, matches, takes_colours(rt)) else {
+        return Ok(BAD_WORDS);
+    };
     let places: Vec<BytePos> = slash_places(rt.alloc(), matches)?;
-    let files = files_of(rt, matches)?;
+    let files = files_of(rt, matches, lacks_words)?;
     let job = Job {
-        asked: Asked::of(subcommand, matches, takes_colours(rt)),
+        asked,
         among: Among::of(matches, are_several(matches, &files)),
         named: Named {
             places: &places,
@@ -163,10 +186,10 @@ fn run_subcommand(
 }
 
 /// Parses the words, and does what they ask for.
-fn run(rt: &HostRuntime, words: &[String]) -> Result<u8, AllocError> {
+fn run(rt: &HostRuntime, words: &[String], lacks_words: bool) -> Result<u8, AllocError> {
     match command(rt.alloc())?.try_get_matches_from(words) {
         Ok(matches) => match matches.subcommand() {
-            Some((name, behind)) => run_subcommand(rt, name, behind),
+            Some((name, behind)) => run_subcommand(rt, name, behind, lacks_words),
             None => Ok(BAD_WORDS),
         },
         Err(error) => match error.print(rt) {
@@ -180,7 +203,7 @@ fn run(rt: &HostRuntime, words: &[String]) -> Result<u8, AllocError> {
 /// Reads the words, and does what they ask for.
 fn run_words(rt: &HostRuntime) -> Result<u8, AllocError> {
     let (words, status) = arguments(rt)?;
-    Ok(run(rt, words.as_slice())?.max(status))
+    Ok(run(rt, words.as_slice(), status != 0)?.max(status))
 }
 
 fn main(rt: HostRuntime) -> ExitCode {

@@ -67,18 +67,13 @@ impl Face {
     }
 
     /// What a subcommand asks for.
-    fn named(word: &str) -> Face {
-        match word {
-            "comments" => Face::Comments,
-            "errors" => Face::Errors,
-            "canonical" => Face::Canonical,
-            "classes" => Face::Classes,
-            "html" => Face::Html,
-            "show" => Face::Show,
-            "imports" => Face::Imports,
-            "exports" => Face::Exports,
-            _ => Face::Tokens,
+    fn named(word: &str) -> Option<Face> {
+        for face in Face::ALL {
+            if face.name() == word {
+                return Some(face);
+            }
         }
+        None
     }
 }
 
@@ -114,11 +109,12 @@ pub struct Asked {
 }
 
 impl Asked {
-    /// What a subcommand asks for, with the words behind it. `colours` says whether standard output takes colours, where no word
-    /// says so.
-    pub fn of(subcommand: &str, matches: &ArgMatches, colours: bool) -> Asked {
-        Asked {
-            face: Face::named(subcommand),
+    /// What a subcommand asks for, with the words behind it; nothing where there is no such subcommand. `colours` says whether
+    /// standard output takes colours, where no word says so.
+    pub fn of(subcommand: &str, matches: &ArgMatches, colours: bool) -> Option<Asked> {
+        let face = Face::named(subcommand)?;
+        Some(Asked {
+            face,
             options: Options {
                 typescript: matches.get_flag("ts"),
                 module: matches.get_flag("module"),
@@ -136,7 +132,7 @@ impl Asked {
             commonjs: matches.get_flag("commonjs"),
             values: matches.get_flag("values"),
             page: matches.get_flag("page"),
-        }
+        })
     }
 
     /// The same for a file: its ending may say that it is TypeScript, or a module.

@@ -9,14 +9,15 @@ use Rattle.ecma_faults.specs.declared.found.Origin.TheVariants.{Waiting}
 use Rattle.ecma_positions.specs.Columns.{position_by}
 use Rattle.ecma_positions.specs.declared.position.Position.{Position}
 use Rattle.ecma_print.specs.Rows.{one_line}
+use Rattle.ecma_stdio.specs.Escaped.{escaped}
 use Rattle.ecma_report.specs.Rows.{Look}
 use Rattle.ecma_command.specs.declared.words.Named.{Named}
 use Rattle.ecma_command.specs.declared.words.Face.{Face}
 use Rattle.ecma_command.specs.declared.words.Face.TheVariants.{Errors, Show}
 
--- the name of the file, a line and a column
+-- the name of the file, as rows have it, a line and a column
 abbrev pub place_in : List ℕ → Position → List ℕ
-place_in file at = file ++ 58 ∷ (decimal at.line ++ 58 ∷ decimal at.column)
+place_in file at = escaped file ++ 58 ∷ (decimal at.line ++ 58 ∷ decimal at.column)
 
 -- and a message, in one line
 abbrev pub line_at : List ℕ → Position → List ℕ → List ℕ

@@ -1,5 +1,5 @@
 //! What is written of a text: lines, or JSON objects, in blocks.
-ghost use Rattle.std.specs.Prelude.{◌≡◌, ◌++◌, ◌∷◌, [], IfOk, OnOk};
+ghost use Rattle.std.specs.Prelude.{◌≡◌, ◌++◌, ◌<◌, ◌^◌, [], false, length, OnOk};
 ghost use Rattle.std.specs.Io.KnownBytes.{Appends};
 ghost use Rattle.ecma_token.specs.View.{kind_view};
 ghost use Rattle.ecma_token.specs.MessageView.{view_message};
@@ -77,11 +77,11 @@ fn write_all<W: Write>(out: &mut W, bytes: &[u8]) -> Result<(), Stop>
     Ok(())
 }
 
-/// Adds the name of a file, a line and a column.
+/// Adds the name of a file, as rows have it, a line and a column.
 fn push_place(out: &mut Vec<u8>, name: &str, position: Position) -> Result<(), AllocError>
     ensures { OnOk result (out.new.items ≡ out.old.items ++ place_in name.now position) }
 {
-    out.extend_from_slice(name.as_bytes())?;
+    push_escaped(out, name.as_bytes())?;
     out.push(b':')?;
     push_number(out, position.line)?;
     out.push(b':')?;
@@ -106,19 +106,11 @@ fn push_fault_line(
 
 impl<'a> Report<'a> {
     /// Of a text of which nothing is reported yet. It does not allocate.
-    ///
-    /// # Errors
-    ///
-    /// None.
-    pub fn new(
-        alloc: Global,
-        asked: Asked,
-        name: &'a str,
-        text: &'a str,
-    ) -> Result<Report<'a>, AllocError>
-        ensures { IfOk result (λ report. IsOf (look asked alone) name.now text.now report × (report.out.items ≡ [])) }
+    pub fn new(alloc: Global, asked: Asked, name: &'a str, text: &'a str) -> Report<'a>
+        ensures of { IsOf (look asked alone) name.now text.now result }
+        ensures none { (result.out.items ≡ []) × (result.faults.items ≡ []) × (result.is_faulty ≡ false) }
     {
-        Ok(Report {
+        Report {
             alloc,
             asked,
             among: Among {
@@ -131,7 +123,7 @@ impl<'a> Report<'a> {
             out: Vec::new(alloc),
             faults: Vec::new(alloc),
             is_faulty: false,
-        })
+        }
     }
 
     /// The text at a span, or none where that begins or ends within a character, or behind the text.
@@ -168,6 +160,7 @@ impl<'a> Report<'a> {
     /// `Closed` where not all of them went out.
     pub fn pass_on<W: Write>(&mut self, out: &mut W) -> Result<(), Stop>
         ensures adds { OnOk result (Adds (W.contents out.old) (W.contents out.new) self.old.out.items self.new.out.items []) }
+        ensures held { OnOk result (length self.new.out.items < 2 ^ 16) }
         ensures stays { Stays self.old self.new }
     {
         if self.out.len() < BLOCK {
@@ -372,8 +365,6 @@ impl<'a> Report<'a> {
     {
         let position = self.position(span.lo);
         let message = kind.msg(self.alloc)?;
-        push_fault_line(&mut self.faults, self.name, position, message.as_bytes())?;
-        self.is_faulty = true;
-        Ok(())
+        push_fault_line(&mut self.faults, self.name, position, message.as_bytes())
     }
 }

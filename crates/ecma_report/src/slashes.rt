@@ -1,5 +1,5 @@
 //! Which slashes begin regular expressions, and the places among them that are no slash's.
-ghost use Rattle.std.specs.Prelude.{◌≡◌, ◌<◌, ◌^◌, [], length, true, IfOk, OnOk};
+ghost use Rattle.std.specs.Prelude.{◌≡◌, ◌<◌, ◌^◌, [], length, true, IfOk, IsOk, OnOk};
 ghost use Rattle.ecma_options.specs.Begin.{begin};
 ghost use Rattle.ecma_reader.specs.Rereads.{is_in_order, rule_of};
 ghost use Rattle.ecma_reader.specs.Readers.{IsReady, Shows};
@@ -12,13 +12,15 @@ use ecma_command::words::Named;
 use ecma_reader::{Reader, Slashes, ascend};
 use ecma_slot::Slot;
 use ecma_span::BytePos;
+use ecma_stdio::{push_escaped, push_number};
 use ecma_token::{Token, TokenAndSpan};
 use std::alloc::AllocError;
 
 /// The place at which a text starts.
 pub const START: BytePos = BytePos(0);
 
-/// Which slashes begin regular expressions: those at the places, or where there are none those of the other rule.
+/// Which slashes begin regular expressions: those at the places, or those of the other rule where there are none, or they do
+/// not ascend.
 pub fn slashes_at<'a>(named: Named<'a>) -> Slashes<'a>
     ensures rule { rule_of result ≡ rule_at named.entry }
     ensures in_order { is_in_order (rule_of result) ≡ true }
@@ -98,10 +100,10 @@ fn unmet_lines(
     let mut lines = Vec::new(report.alloc);
     for place in places {
         if met.binary_search(place).is_err() {
-            let name = report.name;
-            let place = place.0;
-            let line = format!(in report.alloc; "{name}: no slash is read at the place {place}\n")?;
-            lines.extend_from_slice(line.as_bytes())?;
+            push_escaped(&mut lines, report.name.as_bytes())?;
+            lines.extend_from_slice(b": no slash is read at the place ")?;
+            push_number(&mut lines, place.0 as usize)?;
+            lines.push(b'\n')?;
         }
     }
     Ok(lines)
@@ -121,6 +123,7 @@ pub fn tell_unmet<'a>(
     requires { length report.old.text.now < 2 ^ 32 }
     ensures out { report.new.out ≡ report.old.out }
     ensures lines { OnOk result (OfUnmet named.entry report.old.faults.items report.new.faults.items) }
+    ensures met { rereads ≡ length named.entry.places.now → IsOk result × (report.new ≡ report.old) }
     ensures still { IsStill report.old report.new }
 {
     let places = named.places;

@@ -84,7 +84,7 @@ fn report_tokens(
         values: false,
         page: false,
     };
-    let mut report = Report::new(job.alloc, asked, "bundle.js", text)?;
+    let mut report = Report::new(job.alloc, asked, "bundle.js", text);
     push_tokens(job.alloc, options, &mut report, text)?;
     job.digest.add_bytes(&report.out);
     Ok(())

@@ -533,7 +533,7 @@ fn is_written<'t>(
         return Ok(false);
     }
     let (is_faulty, rows, faults) = wanted;
-    let mut report = Report::new(alloc, asked, "a.js", text)?;
+    let mut report = Report::new(alloc, asked, "a.js", text);
     report.among = among;
     let mut out = Vec::new(alloc);
     if tell(&mut report, named, &mut out).is_err() {
@@ -563,14 +563,10 @@ fn is_told(alloc: Global, told: &Told) -> Result<bool, AllocError> {
         by_flag: is_by_flag(behind),
     };
     let wanted = (is_faulty, rows, faults);
-    is_written(
-        alloc,
-        Asked::of(name, behind, false),
-        Among::of(behind, false),
-        named,
-        text,
-        wanted,
-    )
+    let Some(asked) = Asked::of(name, behind, false) else {
+        return Ok(false);
+    };
+    is_written(alloc, asked, Among::of(behind, false), named, text, wanted)
 }
 
 /// Asserts that all of this is told.
@@ -675,7 +671,7 @@ fn told_to(
     if !StringInput::fits(text.as_str(), BytePos(0)) {
         return Ok((Err(Stop::OutOfMemory), 0, 0));
     }
-    let mut report = Report::new(alloc, asked(face), "a.js", text.as_str())?;
+    let mut report = Report::new(alloc, asked(face), "a.js", text.as_str());
     let named = Named {
         places: &[],
         by_flag: false,

@@ -42,7 +42,7 @@ fn page(alloc: Global, name: &str, text: &str) -> Result<Vec<u8>, AllocError> {
         values: false,
         page: true,
     };
-    let mut report = Report::new(alloc, asked, name, text)?;
+    let mut report = Report::new(alloc, asked, name, text);
     let named = Named {
         places: &[],
         by_flag: false,

@@ -182,7 +182,7 @@ fn is_reported(
     file: &str,
     row: Row,
 ) -> Result<bool, AllocError> {
-    let mut report = Report::new(alloc, asked, file, SOURCE)?;
+    let mut report = Report::new(alloc, asked, file, SOURCE);
     report.among = among;
     report.push_row(row)?;
     report.push_row(row)?;
@@ -377,7 +377,7 @@ const ROWS: &[(More, bool, bool, &str)] = &[
 ];
 
 fn is_written(alloc: Global, asked: Asked, more: More, wanted: &str) -> Result<bool, AllocError> {
-    let mut report = Report::new(alloc, asked, "a.js", SOURCE)?;
+    let mut report = Report::new(alloc, asked, "a.js", SOURCE);
     report.push_row(Row {
         kind: "number",
         span: SPAN,
@@ -422,7 +422,7 @@ const ORDERS: &[(&str, &[u32])] = &[
 
 /// Whether rows that begin at these places, added to one report, have the line and the column of each.
 fn are_placed(alloc: Global, asked: Asked, places: &[u32]) -> Result<bool, AllocError> {
-    let mut report = Report::new(alloc, asked, "a.js", LINES)?;
+    let mut report = Report::new(alloc, asked, "a.js", LINES);
     let mut wanted = Vec::new(alloc);
     for place in places {
         let place = BytePos(*place);
