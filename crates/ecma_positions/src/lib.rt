@@ -2,7 +2,7 @@
 //!
 //! Begin with `LineStarts::of`; `LineStarts::position` finds the line and column of a place by halving, or at once
 //! where its line is the one that is named (`position.rt`, `specs/Positions.antt`). Lines and columns count from 1,
-//! columns in bytes; only line feeds end lines.
+//! columns in bytes, or in units of UTF-16 (`columns.rt`); only line feeds end lines.
 #![tactic(auto)]
 
 mod columns;

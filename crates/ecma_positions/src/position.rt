@@ -5,7 +5,7 @@ ghost use Rattle.ecma_positions.specs.Positions.{line_starts, position_in};
 use ecma_span::BytePos;
 use std::alloc::{AllocError, Global};
 
-/// A line and a column, both from 1. A column counts bytes.
+/// A line and a column, both from 1. A column counts bytes, or what was asked for ([`Columns`](crate::Columns)).
 #[derive(Clone, Copy, Debug, PartialEq, Eq)]
 pub struct Position {
     pub line: usize,

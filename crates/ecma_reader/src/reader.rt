@@ -1,5 +1,5 @@
 //! A reader of a text, and what it leaves.
-ghost use Rattle.std.specs.Prelude.{◌≡◌, ◌+◌, ◌<◌, ◌^◌, Err, List, None, Ok, [], alloc_error, drop, is_some, length, option_map, true, IfOk, OnOk, OnErr};
+ghost use Rattle.std.specs.Prelude.{◌≡◌, ◌+◌, ◌<◌, ◌^◌, Err, List, None, Ok, [], alloc_error, drop, is_some, length, option_map, true, IfOk, IsOk, OnOk, OnErr};
 ghost use Rattle.std.specs.Str.{chars};
 ghost use Rattle.ecma_token.specs.View.{SpannedView, spanned_view};
 ghost use Rattle.ecma_state.specs.Session.{Session, lexer_state, state_of};
@@ -7,8 +7,8 @@ ghost use Rattle.ecma_state.specs.Ending.{most_tokens};
 ghost use Rattle.ecma_slashes.specs.Rereads.{SlashRule, entered, is_in_order, rule_of};
 ghost use Rattle.ecma_reader.specs.Readers.{HasRead, IsReady, Leaves, Reads, Shows, one_if, tokens_by};
 
-use ecma_place::{BytePos, StringInput};
-use ecma_slashes::{Decider, Lexer, Slashes, Tokens, read_deciding};
+use ecma_place::BytePos;
+use ecma_slashes::{Decider, Lexer, Slashes, enter, read_deciding};
 use ecma_slot::Slot;
 use ecma_state::Settings;
 use ecma_state::comments_buffer::BufferedComment;
@@ -63,24 +63,6 @@ fn counted(rereads: usize, again: bool) -> usize
     if again { rereads + 1 } else { rereads }
 }
 
-/// A lexer of a text that starts at a place, in a context.
-fn begun<'a>(
-    alloc: Global,
-    settings: &Settings,
-    context: Context,
-    source: &'a str,
-    start: BytePos,
-) -> Result<Lexer<'a>, AllocError>
-    requires { start.0 + length source.now < 2 ^ 32 }
-    ensures shows { IfOk result (λ lexer. lexer_state lexer ≡ state_of (entered settings.now context record { start = start.0; text = chars source.now; at = 0 })) }
-    ensures no_reread { IfOk result (λ lexer. lexer.reread ≡ None) }
-{
-    let input = StringInput::new(source, start);
-    let mut lexer = Lexer::with_settings(alloc, settings, input);
-    lexer.set_ctx(context)?;
-    Ok(lexer)
-}
-
 impl<'a> Reader<'a> {
     /// A reader of a text that starts at a place, in a context.
     ///
@@ -89,7 +71,7 @@ impl<'a> Reader<'a> {
     ///
     /// # Errors
     ///
-    /// `AllocError` where allocation fails.
+    /// None: the answer is that of [`enter`], which does not allocate.
     pub fn new(
         alloc: Global,
         settings: &Settings,
@@ -102,8 +84,9 @@ impl<'a> Reader<'a> {
         requires in_order { is_in_order (rule_of slashes) ≡ true }
         ensures shows { IfOk result (Shows (rule_of slashes.entry) (entered settings.now context record { start = start.0; text = chars source.now; at = 0 }) []) }
         ensures ready { IfOk result (λ reader. IsReady reader) }
+        ensures free { IsOk result }
     {
-        let lexer = begun(alloc, settings, context, source, start)?;
+        let lexer = enter(alloc, settings, context, source, start)?;
         let decider = Decider::new(alloc, settings, &context, slashes);
         Ok(Reader {
             lexer,
@@ -174,6 +157,8 @@ impl<'a> Reader<'a> {
         requires ready { IsReady self.old }
         ensures count { (rule : SlashRule) (begin : Session) → Shows rule begin [] self.old → IfOk result (λ count. count ≡ length (tokens_by rule begin)) }
         ensures read { (rule : SlashRule) (begin : Session) → Shows rule begin [] self.old → OnOk result (HasRead rule begin self.new) }
+        ensures refused { self.old.refused ≡ true → (result ≡ Err alloc_error) × (self.new ≡ self.old) }
+        ensures refusal { OnErr result (self.new.refused ≡ true) }
     {
         let mut count = 0;
         let mut slot = Slot::new();

@@ -5,6 +5,7 @@ ghost use Rattle.ecma_token.specs.View.{spanned_view};
 ghost use Rattle.ecma_state.specs.Run.{act_all};
 ghost use Rattle.ecma_state.specs.Session.{Session, lexer_state, state_of};
 ghost use Rattle.ecma_stream.specs.View.{IsGivenAs};
+ghost use Rattle.ecma_rewinding.specs.Rewinding.{GoesOn};
 ghost use Rattle.ecma_state.specs.Ending.{most_tokens};
 ghost use Rattle.ecma_slashes.specs.Alone.{rule_of};
 ghost use Rattle.ecma_slashes.specs.Rereads.{ReadsBy, are_free_by, is_in_order, meets_expression, steps_to_end_by};
@@ -41,6 +42,8 @@ pub fn read_telling<'a>(
     ensures refused { lexer.old.refused ≡ true → (result ≡ Err alloc_error) × (lexer.new ≡ lexer.old) }
     ensures refusal { OnErr result (lexer.new.refused ≡ true) }
     ensures given { OnErr result (IsGivenAs lexer.old lexer.new) }
+    // What was recorded before stays, so that a checkpoint of before undoes it.
+    ensures on { OnErr result (GoesOn (lexer_state lexer.old) (lexer_state lexer.new)) }
     ensures free { (s : Session) → state_of s ≡ lexer_state lexer.old → lexer.old.refused ≡ false → are_free_by (rule_of slashes.entry) s ≡ true → IsOk result }
     ensures ended { lexer.old.refused ≡ false → rest lexer.old.input ≡ [] → IsOk result }
 {
@@ -73,6 +76,8 @@ pub fn read_by<'a>(
     ensures refused { lexer.old.refused ≡ true → (result ≡ Err alloc_error) × (lexer.new ≡ lexer.old) }
     ensures refusal { OnErr result (lexer.new.refused ≡ true) }
     ensures given { OnErr result (IsGivenAs lexer.old lexer.new) }
+    // What was recorded before stays, so that a checkpoint of before undoes it.
+    ensures on { OnErr result (GoesOn (lexer_state lexer.old) (lexer_state lexer.new)) }
     // It does not allocate where neither of its reads does.
     ensures free { (s : Session) → state_of s ≡ lexer_state lexer.old → lexer.old.refused ≡ false → are_free_by (rule_of slashes.entry) s ≡ true → IsOk result }
     // Nor does the end.
@@ -90,7 +95,8 @@ pub fn read_by<'a>(
 ///
 /// # Errors
 ///
-/// `AllocError` where allocation fails; each later read returns the same.
+/// `AllocError` where allocation fails for a token, so that each later read returns the same, or for a step. Which steps
+/// were added, and how much was read, is then not said.
 pub fn add_steps_by(
     steps: &mut Vec<Step>,
     lexer: &mut Lexer,

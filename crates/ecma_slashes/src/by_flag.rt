@@ -6,6 +6,7 @@ ghost use Rattle.ecma_token.specs.View.{spanned_view};
 ghost use Rattle.ecma_state.specs.Run.{act_all};
 ghost use Rattle.ecma_state.specs.Session.{Session, lexer_state, state_of};
 ghost use Rattle.ecma_stream.specs.View.{IsGivenAs};
+ghost use Rattle.ecma_rewinding.specs.Rewinding.{GoesOn};
 ghost use Rattle.ecma_state.specs.Ending.{most_tokens};
 ghost use Rattle.ecma_slashes.specs.ByFlag.{ReadsByFlag, steps_to_end, text_steps};
 ghost use Rattle.ecma_slashes.specs.Rereads.{are_free_by, by_flag};
@@ -44,6 +45,8 @@ pub fn read_by_flag<'a>(lexer: &mut Lexer<'a>) -> Result<Option<TokenAndSpan<'a>
     ensures refused { lexer.old.refused ≡ true → (result ≡ Err alloc_error) × (lexer.new ≡ lexer.old) }
     ensures refusal { OnErr result (lexer.new.refused ≡ true) }
     ensures given { OnErr result (IsGivenAs lexer.old lexer.new) }
+    // What was recorded before stays, so that a checkpoint of before undoes it.
+    ensures on { OnErr result (GoesOn (lexer_state lexer.old) (lexer_state lexer.new)) }
     // It does not allocate where neither of its reads does.
     ensures free { (s : Session) → state_of s ≡ lexer_state lexer.old → lexer.old.refused ≡ false → are_free_by by_flag s ≡ true → IsOk result }
     // Nor does the end.
@@ -58,7 +61,7 @@ pub fn read_by_flag<'a>(lexer: &mut Lexer<'a>) -> Result<Option<TokenAndSpan<'a>
 ///
 /// # Errors
 ///
-/// `AllocError` where allocation fails; each later read returns the same.
+/// `AllocError` as of [`add_steps_by`].
 pub fn add_steps_to_end(steps: &mut Vec<Step>, lexer: &mut Lexer) -> Result<(), AllocError>
     requires no_reread { lexer.old.reread ≡ None }
     ensures steps { (s : Session) → state_of s ≡ lexer_state lexer.old → OnOk result (steps.new.items ≡ steps.old.items ++ steps_to_end s) }

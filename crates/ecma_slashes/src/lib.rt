@@ -19,6 +19,7 @@
 mod alone;
 mod by_flag;
 mod decider;
+mod entry;
 pub mod laws;
 mod reads;
 mod slashes;
@@ -27,5 +28,6 @@ pub use alone::{add_steps_by, read_by, read_telling};
 pub use by_flag::{add_steps_to_end, read_by_flag, steps_by_flag};
 pub use decider::Decider;
 pub use ecma_stream::{Lexer, Tokens};
+pub use entry::enter;
 pub use reads::{count_rereads, read_deciding, steps_by};
 pub use slashes::{Slashes, ascend};

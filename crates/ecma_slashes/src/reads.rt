@@ -11,8 +11,9 @@ ghost use Rattle.ecma_rewinding.specs.Rewinding.{GoesOn};
 ghost use Rattle.ecma_slashes.specs.Rereads.{Decides, HasRoom, MayName, NamesAs, PassesBy, ReadsBy, SlashRule, StepsOn, are_free_by, behind_by, is_in_order, meets_expression, names, rereads, rule_of, says, steps_to_end_by, text_steps_by};
 
 use crate::decider::{Decider, Namer};
+use crate::entry::enter;
 use crate::slashes::Slashes;
-use ecma_place::{BytePos, StringInput};
+use ecma_place::BytePos;
 use ecma_slot::Slot;
 use ecma_state::settings::Settings;
 use ecma_state::step::Step;
@@ -232,7 +233,7 @@ pub(crate) fn add_steps_deciding(
 /// A place that is not that of a `/` or `/=` which is read there changes nothing: all were met where
 /// [`count_rereads`] of the steps is as many as there are places.
 ///
-/// The caller knows that the text fits its places ([`StringInput::fits`]), and that the places ascend
+/// The caller knows that the text fits its places ([`StringInput::fits`](ecma_place::StringInput::fits)), and that the places ascend
 /// ([`ascend`](crate::ascend)).
 ///
 /// # Errors
@@ -250,9 +251,7 @@ pub fn steps_by(
     requires in_order { is_in_order (rule_of slashes) ≡ true }
     ensures { IfOk result (λ v. v.items ≡ text_steps_by (rule_of slashes.entry) settings.now context record { start = start.0; text = chars source.now; at = 0 }) }
 {
-    let input = StringInput::new(source, start);
-    let mut lexer = Lexer::with_settings(alloc, settings, input);
-    lexer.set_ctx(context)?;
+    let mut lexer = enter(alloc, settings, context, source, start)?;
     let mut steps = Vec::new(alloc);
     steps.push(Step::SetCtx(context))?;
     let mut decider = Decider::new(alloc, settings, &context, slashes);

@@ -1,5 +1,5 @@
 //! Where the reading of a text begins, and going on token by token.
-ghost use Rattle.std.specs.Prelude.{◌≡◌, ◌^◌, ◌<◌, IfOk, OnOk, is_some, length};
+ghost use Rattle.std.specs.Prelude.{◌≡◌, ◌^◌, ◌<◌, Err, IfOk, OnErr, OnOk, alloc_error, is_some, length, true};
 ghost use Rattle.ecma_state.specs.Run.{reading_of, state_behind};
 ghost use Rattle.ecma_state.specs.Session.{lexer_state, state_of};
 ghost use Rattle.ecma_options.specs.Begin as starts;
@@ -41,6 +41,8 @@ pub fn begin<'a>(
 pub fn pass_next(lexer: &mut Lexer) -> Result<bool, AllocError>
     ensures more { IfOk result (λ more. more ≡ is_some (reading_of (lexer_state lexer.old)).found) }
     ensures after { OnOk result (lexer_state lexer.new ≡ state_behind (lexer_state lexer.old) (reading_of (lexer_state lexer.old))) }
+    ensures refused { lexer.old.refused ≡ true → (result ≡ Err alloc_error) × (lexer.new ≡ lexer.old) }
+    ensures refusal { OnErr result (lexer.new ≡ record lexer.old { refused = true }) }
 {
     Ok(lexer.read()?.is_some())
 }

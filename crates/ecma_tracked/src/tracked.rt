@@ -1,10 +1,10 @@
 //! A lexer together with what decides its slashes.
-ghost use Rattle.std.specs.Prelude.{◌≡◌, ◌+◌, ◌<◌, ◌^◌, ◌↔◌, Err, alloc_error, false, is_some, length, option_map, true, IfOk, IsOk, IsTrue, OnOk, OnErr};
+ghost use Rattle.std.specs.Prelude.{◌≡◌, ◌+◌, ◌<◌, ◌^◌, ◌↔◌, Err, [], alloc_error, false, is_some, length, option_map, true, IfOk, IsOk, IsTrue, OnOk, OnErr};
 ghost use Rattle.std.specs.Str.{chars};
 ghost use Rattle.ecma_place.specs.Cursor.{IsWithin};
 ghost use Rattle.ecma_token.specs.View.{spanned_view};
 ghost use Rattle.ecma_checkpoint.specs.Checkpoints.{GoesBack, checkpoint_of};
-ghost use Rattle.ecma_state.specs.Run.{act_on};
+ghost use Rattle.ecma_state.specs.Run.{act_on, state_in};
 ghost use Rattle.ecma_state.specs.Session.{Session, lexer_state, state_of};
 ghost use Rattle.ecma_state.specs.declared.step.Step.{Step};
 ghost use Rattle.ecma_state.specs.Ending.{most_tokens};
@@ -17,7 +17,7 @@ ghost use Rattle.ecma_tracked.specs.States.{ReadsOn, tracked_of, tracked_state};
 
 use crate::checkpoint::TrackedCheckpoint;
 use ecma_place::{BytePos, StringInput};
-use ecma_slashes::{Decider, Slashes, read_deciding};
+use ecma_slashes::{Decider, Slashes, enter, read_deciding};
 use ecma_state::Settings;
 use ecma_stream::lexer::Lexer;
 use ecma_stream::tokens::Tokens;
@@ -63,24 +63,6 @@ impl<'a> Model for Tracked<'a> {
     ghost invariant = { IsTracked };
 }
 
-/// A lexer of a text that starts at a place, in a context, which does not allocate.
-fn begun<'a>(
-    alloc: Global,
-    settings: &Settings,
-    context: Context,
-    source: &'a str,
-    start: BytePos,
-) -> Result<Lexer<'a>, AllocError>
-    requires { start.0 + length source.now < 2 ^ 32 }
-    ensures shows { IfOk result (λ lexer. lexer_state lexer ≡ state_of (entered settings.now context record { start = start.0; text = chars source.now; at = 0 })) }
-    ensures free { IsOk result }
-{
-    let input = StringInput::new(source, start);
-    let mut lexer = Lexer::with_settings(alloc, settings, input);
-    lexer.set_ctx(context)?;
-    Ok(lexer)
-}
-
 impl<'a> Tracked<'a> {
     /// Before the first token of a text that starts at a place, in a context, which does not allocate. The language of the
     /// settings, and whether the context is module code, also say what is expected behind tokens.
@@ -101,7 +83,7 @@ impl<'a> Tracked<'a> {
         ensures shows { IfOk result (λ t. tracked_state t ≡ tracked_of (entered settings.now context record { start = start.0; text = chars source.now; at = 0 })) }
         ensures free { IsOk result }
     {
-        let lexer = begun(alloc, settings, context, source, start)?;
+        let lexer = enter(alloc, settings, context, source, start)?;
         let decider = Decider::new(alloc, settings, &context, Slashes::ByRole);
         Ok(Tracked {
             lexer,
@@ -138,8 +120,10 @@ impl<'a> Tracked<'a> {
     pub fn set_ctx(&mut self, context: Context) -> Result<(), AllocError>
         requires { context.«module» ≡ self.old.lexer.context.«module» }
         ensures shows { (s : Session) → tracked_of s ≡ tracked_state self.old → OnOk result (tracked_state self.new ≡ tracked_of (act_on s (Step.SetCtx context))) }
+        ensures ok { OnOk result (tracked_state self.new ≡ record (tracked_state self.old) { lexer = state_in context (lexer_state self.old.lexer) }) }
         ensures err { OnErr result (tracked_state self.new ≡ tracked_state self.old) }
         ensures outside { context.«module» ≡ false → IsOk result }
+        ensures none_waiting { self.old.lexer.errors.waiting ≡ [] → IsOk result }
     {
         self.lexer.set_ctx(context)
     }

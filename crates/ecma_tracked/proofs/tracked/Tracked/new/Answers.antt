@@ -16,4 +16,4 @@ returns-clause-shows c =
     shows-all begin (lexer_state c.in_ok-lexer.lexer) (known_to c.new-decider.result) false c.in_ok-lexer.ensures.shows (c.new-decider.ensures.decides begin refl refl refl).follows refl
 
 pub returns-in_err-lexer-clause-free : goal.returns-in_err-lexer-clause-free
-returns-in_err-lexer-clause-free c = absurd (never (subst IsOk c.in_err-lexer.was c.begun.ensures.free))
+returns-in_err-lexer-clause-free c = absurd (never (subst IsOk c.in_err-lexer.was c.enter.ensures.free))

@@ -4,7 +4,7 @@ use Rattle.ecma_place.specs.Cursor.{Cursor}
 use Rattle.ecma_state.specs.Run.{start_of, state_in}
 use Rattle.ecma_state.specs.Session.{state_of}
 use Rattle.ecma_slashes.proofs.TokenLemmas.{never}
-use Rattle.ecma_tracked.proofs.tracked.begun.Goals as goal
+use Rattle.ecma_slashes.proofs.entry.enter.Goals as goal
 
 pub returns-clause-shows : goal.returns-clause-shows
 returns-clause-shows c =
