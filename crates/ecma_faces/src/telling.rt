@@ -1,5 +1,5 @@
 //! What is told of a text.
-ghost use Rattle.std.specs.Prelude.{◌≡◌, ◌++◌, ◌<◌, ◌^◌, List, None, [], false, length, true, ℕ, OnOk};
+ghost use Rattle.std.specs.Prelude.{◌≡◌, ◌++◌, ◌<◌, ◌^◌, List, None, false, length, true, ℕ, OnOk};
 ghost use Rattle.std.specs.Io.KnownBytes.{Appends};
 ghost use Rattle.std.specs.Str.{chars};
 ghost use Rattle.ecma_reader.specs.Readers.{tokens_by};
@@ -125,9 +125,8 @@ pub fn tell<'a, W: Write>(
         → OnOk result (OfFaults named.entry look name text (errors_told (read_to (with_comments look.asked.face) named.entry look text)) report.old.faults.items report.new.faults.items) }
     ensures unmet { (look : Look) (name text : List ℕ) → IsOf look name text report.old → tells_faults look.asked.face ≡ false
         → OnOk result (OfUnmet named.entry report.old.faults.items report.new.faults.items) }
-    // Nothing is held any more.
-    ensures none { OnOk result (report.new.out.items ≡ []) }
 {
     write_face(report, named, out)?;
-    report.flush(out)
+    report.flush(out)?;
+    Ok(())
 }
