@@ -14,7 +14,7 @@ fn write_flags(out: &mut String, lexer: &Lexer) -> Result<(), AllocError> {
 }
 
 /// Writes the flags of the code that is read.
-fn write_code(out: &mut String, lexer: &Lexer) -> Result<(), AllocError> {
+pub fn write_code(out: &mut String, lexer: &Lexer) -> Result<(), AllocError> {
     let code = lexer.ctx();
     write_note(out, "module")?;
     write!(out, " {}, strict {}", code.module, code.strict)?;

@@ -1,27 +1,51 @@
 //! Buffers of comments.
-use super::texts::assert_text;
+use super::rows::assert_text;
 use ecma_span::{Atom, BytePos, Comment, CommentKind, Span};
 use ecma_state::attachment::Around;
 use ecma_state::{BufferedComment, BufferedCommentKind, CommentsBuffer};
-use listing::listing::{write_comment, write_comments, write_note};
+use listing::listing::{write_comments, write_note};
 use listing::store::Store;
 use std::alloc::{AllocError, Global};
 use std::process::Abort;
 use std::test::Fail;
 
-/// A comment that stands there.
+/// A comment of a gap: its kind, where it stands, and whether it is for the next token.
+type Found = (CommentKind, u32, u32, bool);
+
+/// What is done with a buffer, or written of it.
+#[derive(Clone, Copy)]
+enum Deed {
+    /// Adds a block that belongs to a token at that place, and where it stands.
+    Trailing(u32, u32, u32),
+    Leading(u32, u32, u32),
+    /// Adds one that waits for its token.
+    Wait(u32, u32, u32),
+    /// Attaches the comments between the end of a token and the start of the next.
+    Attach(u32, Option<u32>, &'static [Found]),
+    /// Writes the comments that have their token, and takes them.
+    Taken,
+    /// The same of those that wait.
+    Waiting,
+    /// Writes both of a copy.
+    Copied,
+    /// Gives the store room for so many.
+    Room(usize),
+    /// Hands the comments over, and writes what the store has then.
+    Hand,
+    Note(&'static str),
+}
+
+use CommentKind::{Block, Line};
+use Deed::{Attach, Copied, Hand, Leading, Note, Room, Taken, Trailing, Wait, Waiting};
+
 fn comment(kind: CommentKind, lo: u32, hi: u32) -> Comment<'static> {
     Comment {
         kind,
-        span: Span {
-            lo: BytePos(lo),
-            hi: BytePos(hi),
-        },
+        span: Span::new(BytePos(lo), BytePos(hi)),
         text: Atom::from("t"),
     }
 }
 
-/// A block comment that belongs to a token at that place.
 fn block(kind: BufferedCommentKind, pos: u32, lo: u32, hi: u32) -> BufferedComment<'static> {
     BufferedComment {
         kind,
@@ -34,131 +58,6 @@ fn leading(pos: u32, lo: u32, hi: u32) -> BufferedComment<'static> {
     block(BufferedCommentKind::Leading, pos, lo, hi)
 }
 
-fn trailing(pos: u32, lo: u32, hi: u32) -> BufferedComment<'static> {
-    block(BufferedCommentKind::Trailing, pos, lo, hi)
-}
-
-/// Takes the comments that have their token, and writes them.
-fn write_taken(out: &mut String, buffer: &mut CommentsBuffer) -> Result<(), AllocError> {
-    write_comments(out, &buffer.take_comments())
-}
-
-/// Takes the comments that wait, and writes them.
-fn write_waiting(out: &mut String, buffer: &mut CommentsBuffer) -> Result<(), AllocError> {
-    write_comments(out, &buffer.take_pending_leading())
-}
-
-fn write_in_order(
-    out: &mut String,
-    buffer: &mut CommentsBuffer<'static>,
-) -> Result<(), AllocError> {
-    buffer.push(trailing(3, 4, 9))?;
-    buffer.push(leading(20, 10, 15))?;
-    write_taken(out, buffer)?;
-    write_note(out, "again")?;
-    write_taken(out, buffer)
-}
-
-#[test]
-fn comments_are_taken_in_order(rt: HostRuntime) -> Result<(), Fail> {
-    let alloc = rt.alloc();
-    let mut out = String::new(alloc);
-    write_in_order(&mut out, &mut CommentsBuffer::new(alloc))?;
-    assert_text(
-        &rt,
-        out.as_str(),
-        "trailing 3 4..9 Block [t]; leading 20 10..15 Block [t]; again",
-    );
-    Ok(())
-}
-
-fn write_waiting_first(
-    out: &mut String,
-    buffer: &mut CommentsBuffer<'static>,
-) -> Result<(), AllocError> {
-    buffer.push_pending_leading(leading(0, 1, 5))?;
-    buffer.push(trailing(6, 7, 11))?;
-    buffer.push_pending_leading(leading(0, 12, 16))?;
-    write_waiting(out, buffer)?;
-    write_note(out, "again")?;
-    write_waiting(out, buffer)?;
-    write_taken(out, buffer)
-}
-
-#[test]
-fn waiting_comments_are_taken_by_themselves(rt: HostRuntime) -> Result<(), Fail> {
-    let alloc = rt.alloc();
-    let mut out = String::new(alloc);
-    write_waiting_first(&mut out, &mut CommentsBuffer::new(alloc))?;
-    assert_text(
-        &rt,
-        out.as_str(),
-        "leading 0 1..5 Block [t]; leading 0 12..16 Block [t]; again; trailing 6 7..11 Block [t]",
-    );
-    Ok(())
-}
-
-fn write_copy(alloc: Global, out: &mut String, copied: &BufferedComment) -> Result<(), AllocError> {
-    write_comment(out, &copied.copy(alloc)?)
-}
-
-#[test]
-fn a_copied_comment_is_the_same(rt: HostRuntime) -> Result<(), Fail> {
-    let alloc = rt.alloc();
-    let mut out = String::new(alloc);
-    write_copy(alloc, &mut out, &trailing(3, 4, 9))?;
-    assert_text(&rt, out.as_str(), "trailing 3 4..9 Block [t]");
-    Ok(())
-}
-
-/// A comment of a gap, and whether it is for the next token.
-type Found = (CommentKind, u32, u32, bool);
-
-/// The end of the token before, the start of the next, the comments between them in a text from place 0 on, and how they
-/// are attached.
-type Read = (u32, Option<u32>, &'static [Found], &'static str);
-
-const READS: &[Read] = &[
-    // `/**/a`
-    (
-        0,
-        Some(4),
-        &[(CommentKind::Block, 0, 4, true)],
-        "leading 4 0..4 Block [t]",
-    ),
-    // `f() /*a*/ //b`
-    (
-        3,
-        None,
-        &[
-            (CommentKind::Block, 4, 9, true),
-            (CommentKind::Line, 10, 13, false),
-        ],
-        "trailing 3 10..13 Line [t]; trailing 3 4..9 Block [t]",
-    ),
-    // `a; /*b*/ c`
-    (
-        2,
-        Some(9),
-        &[(CommentKind::Block, 3, 8, false)],
-        "trailing 2 3..8 Block [t]",
-    ),
-    // `/*a*/`
-    (
-        0,
-        None,
-        &[(CommentKind::Block, 0, 5, true)],
-        "leading 0 0..5 Block [t]",
-    ),
-    // `#!x`, LF, `//c`
-    (
-        3,
-        None,
-        &[(CommentKind::Line, 4, 7, true)],
-        "trailing 3 4..7 Line [t]",
-    ),
-];
-
 /// These comments of one read.
 fn gathered(alloc: Global, found: &[Found]) -> Result<Vec<(Comment<'static>, bool)>, AllocError> {
     let mut comments = Vec::new(alloc);
@@ -168,59 +67,26 @@ fn gathered(alloc: Global, found: &[Found]) -> Result<Vec<(Comment<'static>, boo
     Ok(comments)
 }
 
-/// A buffer that took in the comments of one read.
-fn attached(
+fn attach(
     alloc: Global,
-    around: Around,
+    buffer: &mut CommentsBuffer<'static>,
+    (end, next): (u32, Option<u32>),
     found: &[Found],
-) -> Result<CommentsBuffer<'static>, AllocError> {
-    let comments = gathered(alloc, found)?;
-    let mut buffer = CommentsBuffer::new(alloc);
-    buffer.attach(around, comments, Vec::new(alloc))?;
-    Ok(buffer)
-}
-
-/// Writes the comments that a copy of the buffer has, and those that wait.
-fn write_copied(out: &mut String, buffer: &mut CommentsBuffer) -> Result<(), AllocError> {
-    write_taken(out, &mut buffer.copy()?)?;
-    write_waiting(out, buffer)
-}
-
-fn attached_listing(alloc: Global, around: Around, found: &[Found]) -> Result<String, AllocError> {
-    let mut out = String::new(alloc);
-    write_copied(&mut out, &mut attached(alloc, around, found)?)?;
-    Ok(out)
-}
-
-fn assert_attached(rt: &impl Abort, alloc: Global, read: &Read) -> Result<(), Fail> {
-    let (end, next, found, expected) = read;
+) -> Result<(), AllocError> {
     let around = Around {
         start: BytePos(0),
-        end: BytePos(*end),
+        end: BytePos(end),
         next: next.map(BytePos),
     };
-    let listing = attached_listing(alloc, around, found)?;
-    assert_text(rt, listing.as_str(), expected);
-    Ok(())
+    let comments = gathered(alloc, found)?;
+    buffer.attach(around, comments, Vec::new(alloc))
 }
 
-#[test]
-fn comments_of_a_read_find_their_tokens(rt: HostRuntime) -> Result<(), Fail> {
-    for read in READS {
-        assert_attached(&rt, rt.alloc(), read)?;
-    }
-    Ok(())
+fn write_copied(out: &mut String, mut copy: CommentsBuffer) -> Result<(), AllocError> {
+    write_comments(out, &copy.take_comments())?;
+    write_comments(out, &copy.take_pending_leading())
 }
 
-/// Adds three comments, and one that waits.
-fn push_three(buffer: &mut CommentsBuffer<'static>) -> Result<(), AllocError> {
-    buffer.push(trailing(3, 4, 9))?;
-    buffer.push(leading(20, 10, 15))?;
-    buffer.push(trailing(25, 26, 31))?;
-    buffer.push_pending_leading(leading(40, 32, 37))
-}
-
-/// Hands the comments over, and writes what the store has then.
 fn write_handed(
     out: &mut String,
     buffer: &mut CommentsBuffer<'static>,
@@ -231,67 +97,182 @@ fn write_handed(
     write_comments(out, store.given.as_slice())
 }
 
-/// Writes what the buffer has, and leaves nothing in it.
-fn write_left(out: &mut String, buffer: &mut CommentsBuffer<'static>) -> Result<(), AllocError> {
-    write_note(out, "left")?;
-    write_taken(out, buffer)?;
-    write_waiting(out, buffer)
-}
-
-fn write_handed_twice(
+fn act(
+    alloc: Global,
     out: &mut String,
     buffer: &mut CommentsBuffer<'static>,
     store: &mut Store<'static>,
+    deed: Deed,
 ) -> Result<(), AllocError> {
-    push_three(buffer)?;
-    write_handed(out, buffer, store)?;
-    write_handed(out, buffer, store)?;
-    write_left(out, buffer)
+    match deed {
+        Trailing(pos, lo, hi) => { buffer.push(block(BufferedCommentKind::Trailing, pos, lo, hi)) }
+        Leading(pos, lo, hi) => buffer.push(leading(pos, lo, hi)),
+        Wait(pos, lo, hi) => buffer.push_pending_leading(leading(pos, lo, hi)),
+        Attach(end, next, found) => attach(alloc, buffer, (end, next), found),
+        Taken => write_comments(out, &buffer.take_comments()),
+        Waiting => write_comments(out, &buffer.take_pending_leading()),
+        Copied => write_copied(out, buffer.copy()?),
+        Room(room) => {
+            store.room = room;
+            Ok(())
+        }
+        Hand => write_handed(out, buffer, store),
+        Note(words) => write_note(out, words),
+    }
 }
 
-#[test]
-fn comments_are_handed_over_once_and_in_order(rt: HostRuntime) -> Result<(), Fail> {
-    let alloc = rt.alloc();
-    let mut out = String::new(alloc);
-    let mut store = Store::new(alloc, 9);
-    write_handed_twice(&mut out, &mut CommentsBuffer::new(alloc), &mut store)?;
-    // What waits is not handed over.
-    assert_text(
-        &rt,
-        out.as_str(),
-        "handed; trailing 3 4..9 Block [t]; leading 20 10..15 Block [t]; trailing 25 26..31 Block [t]; \
-         handed; trailing 3 4..9 Block [t]; leading 20 10..15 Block [t]; trailing 25 26..31 Block [t]; \
-         left; leading 40 32..37 Block [t]",
-    );
+fn act_all(
+    alloc: Global,
+    out: &mut String,
+    buffer: &mut CommentsBuffer<'static>,
+    deeds: &[Deed],
+) -> Result<(), AllocError> {
+    let mut store = Store::new(alloc, 0);
+    for deed in deeds {
+        act(alloc, out, buffer, &mut store, *deed)?;
+    }
     Ok(())
 }
 
-fn write_refused_first(
-    out: &mut String,
-    buffer: &mut CommentsBuffer<'static>,
-    store: &mut Store<'static>,
-) -> Result<(), AllocError> {
-    push_three(buffer)?;
-    write_handed(out, buffer, store)?;
-    write_left(out, &mut buffer.copy()?)?;
-    store.room = 3;
-    write_handed(out, buffer, store)?;
-    write_left(out, buffer)
+fn acted(alloc: Global, deeds: &[Deed]) -> Result<String, AllocError> {
+    let mut out = String::new(alloc);
+    act_all(alloc, &mut out, &mut CommentsBuffer::new(alloc), deeds)?;
+    Ok(out)
 }
 
+/// What is done, and what that writes.
+type Row = (&'static [Deed], &'static str);
+
+fn assert_rows(rt: &impl Abort, alloc: Global, rows: &[Row]) -> Result<(), Fail> {
+    for (deeds, expected) in rows {
+        assert_text(rt, acted(alloc, deeds)?.as_str(), expected);
+    }
+    Ok(())
+}
+
+const KEPT: &[Row] = &[
+    // In order, and once.
+    (
+        &[
+            Trailing(3, 4, 9),
+            Leading(20, 10, 15),
+            Taken,
+            Note("again"),
+            Taken,
+        ],
+        "trailing 3 4..9 Block [t]; leading 20 10..15 Block [t]; again",
+    ),
+    // Those that wait are taken by themselves.
+    (
+        &[
+            Wait(0, 1, 5),
+            Trailing(6, 7, 11),
+            Wait(0, 12, 16),
+            Waiting,
+            Note("again"),
+            Waiting,
+            Taken,
+        ],
+        "leading 0 1..5 Block [t]; leading 0 12..16 Block [t]; again; trailing 6 7..11 Block [t]",
+    ),
+    (
+        &[
+            Trailing(3, 4, 9),
+            Wait(0, 10, 15),
+            Copied,
+            Note("original"),
+            Taken,
+            Waiting,
+        ],
+        "trailing 3 4..9 Block [t]; leading 0 10..15 Block [t]; \
+         original; trailing 3 4..9 Block [t]; leading 0 10..15 Block [t]",
+    ),
+];
+
 #[test]
-fn comments_from_a_refused_one_on_are_kept(rt: HostRuntime) -> Result<(), Fail> {
-    let alloc = rt.alloc();
-    let mut out = String::new(alloc);
-    let mut store = Store::new(alloc, 1);
-    write_refused_first(&mut out, &mut CommentsBuffer::new(alloc), &mut store)?;
-    assert_text(
-        &rt,
-        out.as_str(),
+fn comments_are_kept_until_they_are_taken(rt: HostRuntime) -> Result<(), Fail> {
+    assert_rows(&rt, rt.alloc(), KEPT)
+}
+
+/// The end of the token before, the start of the next, and the comments between them in a text from place 0 on.
+const READS: &[Row] = &[
+    // `/**/a`
+    (
+        &[Attach(0, Some(4), &[(Block, 0, 4, true)]), Copied],
+        "leading 4 0..4 Block [t]",
+    ),
+    // `f() /*a*/ //b`
+    (
+        &[
+            Attach(3, None, &[(Block, 4, 9, true), (Line, 10, 13, false)]),
+            Copied,
+        ],
+        "trailing 3 10..13 Line [t]; trailing 3 4..9 Block [t]",
+    ),
+    // `a; /*b*/ c`
+    (
+        &[Attach(2, Some(9), &[(Block, 3, 8, false)]), Copied],
+        "trailing 2 3..8 Block [t]",
+    ),
+    // `/*a*/`
+    (
+        &[Attach(0, None, &[(Block, 0, 5, true)]), Copied],
+        "leading 0 0..5 Block [t]",
+    ),
+    // `#!x`, LF, `//c`
+    (
+        &[Attach(3, None, &[(Line, 4, 7, true)]), Copied],
+        "trailing 3 4..7 Line [t]",
+    ),
+];
+
+#[test]
+fn comments_of_a_read_find_their_tokens(rt: HostRuntime) -> Result<(), Fail> {
+    assert_rows(&rt, rt.alloc(), READS)
+}
+
+/// Three comments, and one that waits, which is not handed over.
+const HANDED: &[Row] = &[
+    (
+        &[
+            Trailing(3, 4, 9),
+            Leading(20, 10, 15),
+            Trailing(25, 26, 31),
+            Wait(40, 32, 37),
+            Room(9),
+            Hand,
+            Hand,
+            Note("left"),
+            Copied,
+        ],
+        "handed; trailing 3 4..9 Block [t]; leading 20 10..15 Block [t]; trailing 25 26..31 Block [t]; \
+         handed; trailing 3 4..9 Block [t]; leading 20 10..15 Block [t]; trailing 25 26..31 Block [t]; \
+         left; leading 40 32..37 Block [t]",
+    ),
+    // Comments from a refused one on are kept.
+    (
+        &[
+            Trailing(3, 4, 9),
+            Leading(20, 10, 15),
+            Trailing(25, 26, 31),
+            Wait(40, 32, 37),
+            Room(1),
+            Hand,
+            Note("left"),
+            Copied,
+            Room(3),
+            Hand,
+            Note("left"),
+            Copied,
+        ],
         "refused; trailing 3 4..9 Block [t]; \
          left; leading 20 10..15 Block [t]; trailing 25 26..31 Block [t]; leading 40 32..37 Block [t]; \
          handed; trailing 3 4..9 Block [t]; leading 20 10..15 Block [t]; trailing 25 26..31 Block [t]; \
          left; leading 40 32..37 Block [t]",
-    );
-    Ok(())
+    ),
+];
+
+#[test]
+fn comments_are_handed_over_once_and_in_order(rt: HostRuntime) -> Result<(), Fail> {
+    assert_rows(&rt, rt.alloc(), HANDED)
 }

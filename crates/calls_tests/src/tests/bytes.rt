@@ -1,8 +1,8 @@
 //! Checkpoints as bytes.
-use super::going::checkpoint_behind;
+use acting::doing::read_times;
 use ecma_stored::{decode, encode};
-use ecma_stream::Checkpoint;
-use listing::listing::{FROM_SEVEN, PLAIN, Settings};
+use ecma_stream::{Checkpoint, Lexer};
+use listing::listing::{FROM_SEVEN, PLAIN, Settings, opened};
 use std::alloc::{AllocError, Global};
 use std::process::Abort;
 use std::test::Fail;
@@ -32,6 +32,21 @@ const ROWS: &[Row] = &[
     (PLAIN, "(a", 1, 90, 5),
     (PLAIN, "(a", 1, 91, 0),
 ];
+
+fn behind(lexer: &mut Lexer, reads: usize) -> Result<Checkpoint, AllocError> {
+    read_times(lexer, reads)?;
+    lexer.checkpoint()
+}
+
+/// The checkpoint behind so many tokens of a text.
+pub fn checkpoint_behind(
+    alloc: Global,
+    settings: Settings,
+    text: &str,
+    reads: usize,
+) -> Result<Checkpoint, AllocError> {
+    behind(&mut opened(alloc, settings, text)?, reads)
+}
 
 fn stored(
     alloc: Global,

@@ -1,0 +1,35 @@
+//! What the tests share: rows of commands.
+use acting::acting::acted;
+use acting::command::Command;
+use listing::listing::Settings;
+use std::alloc::{AllocError, Global};
+use std::process::Abort;
+use std::test::Fail;
+
+/// What a text is read by, the text, what is done with its lexer, and what that writes.
+pub type Row = (Settings, &'static str, &'static [Command], &'static str);
+
+/// The texts are the same. Here alone, as it brings printing into a proof.
+pub fn assert_text(rt: &impl Abort, found: &str, expected: &str) {
+    assert_eq!(rt; found, expected);
+}
+
+/// The commands write this.
+pub fn assert_acted(
+    rt: &impl Abort,
+    alloc: Global,
+    (settings, text): (Settings, &str),
+    commands: &[Command],
+    expected: &str,
+) -> Result<(), AllocError> {
+    let found = acted(alloc, settings, text, commands)?;
+    assert_text(rt, found.as_str(), expected);
+    Ok(())
+}
+
+pub fn assert_rows(rt: &impl Abort, alloc: Global, rows: &[Row]) -> Result<(), Fail> {
+    for (settings, text, commands, expected) in rows {
+        assert_acted(rt, alloc, (*settings, text), commands, expected)?;
+    }
+    Ok(())
+}

@@ -1,5 +1,0 @@
-//! Tests of going back to checkpoints.
-#![tactic(auto)]
-
-#[cfg(test)]
-mod tests;

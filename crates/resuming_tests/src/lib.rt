@@ -1,5 +1,0 @@
-//! Tests of going on from checkpoints, and of stored ones.
-#![tactic(auto)]
-
-#[cfg(test)]
-mod tests;
