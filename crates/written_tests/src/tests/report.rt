@@ -8,6 +8,7 @@ use ecma_span::{BytePos, Span};
 use ecma_stdio::push_escaped;
 use serde_json::json;
 use std::alloc::{AllocError, Global};
+use std::process::Abort;
 use std::test::Fail;
 
 /// The text that is reported of, and a span of it.
@@ -224,18 +225,28 @@ fn repeated(alloc: Global, part: &str, count: usize) -> Result<String, AllocErro
     Ok(text)
 }
 
+fn assert_reported(rt: &impl Abort, alloc: Global, text: &str) -> Result<(), AllocError> {
+    for (json, lines, names) in MODES {
+        assert!(rt;
+            are_reported(alloc, asked(*json, *lines), *names, text)?,
+            "{text:?} {json} {lines} {names}"
+        );
+    }
+    Ok(())
+}
+
+/// This byte of ASCII among others.
+fn text_with(alloc: Global, byte: u8) -> Result<String, AllocError> {
+    let mut text = String::from_str(alloc, "a")?;
+    text.push(char::from(byte))?;
+    text.push_str("\u{e9}b")?;
+    Ok(text)
+}
+
 #[test]
 fn rows_of_each_byte_are_as_trees_write_them(rt: HostRuntime) -> Result<(), Fail> {
     for byte in 0..128_u8 {
-        let mut text = String::from_str(rt.alloc(), "a")?;
-        text.push(char::from(byte))?;
-        text.push_str("\u{e9}b")?;
-        for (json, lines, names) in MODES {
-            assert!(rt;
-                are_reported(rt.alloc(), asked(*json, *lines), *names, text.as_str())?,
-                "{byte} {json} {lines} {names}"
-            );
-        }
+        assert_reported(&rt, rt.alloc(), text_with(rt.alloc(), byte)?.as_str())?;
     }
     Ok(())
 }
@@ -258,13 +269,11 @@ const TEXTS: &[(&str, usize)] = &[
 #[test]
 fn rows_of_texts_are_as_trees_write_them(rt: HostRuntime) -> Result<(), Fail> {
     for (part, count) in TEXTS {
-        let text = repeated(rt.alloc(), part, *count)?;
-        for (json, lines, names) in MODES {
-            assert!(rt;
-                are_reported(rt.alloc(), asked(*json, *lines), *names, text.as_str())?,
-                "{part} {json} {lines}"
-            );
-        }
+        assert_reported(
+            &rt,
+            rt.alloc(),
+            repeated(rt.alloc(), part, *count)?.as_str(),
+        )?;
     }
     Ok(())
 }
@@ -444,21 +453,12 @@ fn are_placed(alloc: Global, asked: Asked, places: &[u32]) -> Result<bool, Alloc
 #[test]
 fn rows_out_of_order_have_their_lines(rt: HostRuntime) -> Result<(), Fail> {
     for (order, places) in ORDERS {
-        assert!(rt;
-            are_placed(rt.alloc(), asked(false, true), places)?,
-            "{order}"
-        );
-    }
-    Ok(())
-}
-
-#[test]
-fn objects_out_of_order_have_their_lines(rt: HostRuntime) -> Result<(), Fail> {
-    for (order, places) in ORDERS {
-        assert!(rt;
-            are_placed(rt.alloc(), asked(true, false), places)?,
-            "{order}"
-        );
+        for json in [false, true] {
+            assert!(rt;
+                are_placed(rt.alloc(), asked(json, !json), places)?,
+                "{order} {json}"
+            );
+        }
     }
     Ok(())
 }

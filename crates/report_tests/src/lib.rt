@@ -1,5 +1,0 @@
-//! Tests of `ecma_report`.
-#![tactic(auto)]
-
-#[cfg(test)]
-mod tests;

@@ -1,3 +1,0 @@
-//! Rows of what is reported.
-
-mod report;

@@ -1,5 +1,0 @@
-//! Tests of `ecma_rows`.
-#![tactic(auto)]
-
-#[cfg(test)]
-mod tests;
