@@ -41,7 +41,10 @@ use Deed::{Attach, Copied, Hand, Leading, Note, Room, Taken, Trailing, Wait, Wai
 fn comment(kind: CommentKind, lo: u32, hi: u32) -> Comment<'static> {
     Comment {
         kind,
-        span: Span::new(BytePos(lo), BytePos(hi)),
+        span: Span {
+            lo: BytePos(lo),
+            hi: BytePos(hi),
+        },
         text: Atom::from("t"),
     }
 }
