@@ -2,5 +2,6 @@
 mod exports;
 mod imports;
 mod reading;
+mod rows;
 mod shown;
 mod typescript;

@@ -1,5 +1,6 @@
 //! Rows of tracked lexers: what they read and expect, copies, and going back; and of tracks: slashes, and brackets within
 //! brackets.
+mod acting;
 mod back;
 mod copies;
 mod depth;
@@ -7,3 +8,4 @@ mod reading;
 mod refusals;
 mod rows;
 mod slashes;
+mod tracking;

@@ -1,9 +1,7 @@
 //! What texts export. What is expected is what the page of es-module-lexer says of its fields, and ECMA-262, 16.2.3 and 14.3.3.
-use crate::tests::reading::module;
-use crate::tests::shown::{Row, assert_row, exports};
-use listing::listing::{MODULE, Settings};
-use std::alloc::{AllocError, Global};
-use std::process::Abort;
+use super::rows::{Row, assert_rows};
+use super::shown::Told::{Exports, Flags, Owned};
+use listing::listing::MODULE;
 use std::test::Fail;
 
 const CLAUSES: &[Row] = &[
@@ -97,106 +95,59 @@ const PATTERNS: &[Row] = &[
     ("export let [a = b\n, c] = d", "a=a, c=c"),
 ];
 
-fn shown(alloc: Global, settings: Settings, row: Row) -> Result<String, AllocError> {
-    let (text, _) = row;
-    exports(alloc, text, &module(alloc, settings, text)?)
-}
+const FLAGS: &[Row] = &[
+    ("", "facade"),
+    ("import \"a\"; export * from \"b\";", "facade module"),
+    (
+        "export * from 'external';\nimport * as ns from 'external2';\nexport { a as b } from 'external3';\nexport { ns };",
+        "facade module",
+    ),
+    ("export { a }", "facade module"),
+    ("export let a", "module"),
+    ("export default a", "module"),
+    ("a", ""),
+    ("import(\"a\")", ""),
+    ("import.meta", "module"),
+    ("{}", ""),
+    (";", "facade"),
+    ("#!/usr/bin/env node\nimport \"a\"", "facade module"),
+    ("import \"a\" with { b: \"c\" }", "facade module"),
+    ("import a b", ""),
+];
 
-pub fn check_exports(
-    rt: &impl Abort,
-    alloc: Global,
-    settings: Settings,
-    rows: &[Row],
-) -> Result<(), Fail> {
-    for row in rows {
-        assert_row(rt, row, shown(alloc, settings, *row)?.as_str());
-    }
-    Ok(())
-}
+const OWNED: &[Row] = &[
+    ("export let a, b; export { c, d as e } from \"f\"", "2 2"),
+    ("export { a }; export * as b from \"c\"", "1 1"),
+    ("export { a }; export * from \"c\"", "1 0"),
+    ("export { a }; import { b } from \"c\"; export { d }", "1 0"),
+];
 
 #[test]
 fn names_of_clauses_are_told(rt: HostRuntime) -> Result<(), Fail> {
-    check_exports(&rt, rt.alloc(), MODULE, CLAUSES)
+    assert_rows(&rt, rt.alloc(), MODULE, Exports, CLAUSES)
 }
 
 #[test]
 fn what_is_declared_is_told(rt: HostRuntime) -> Result<(), Fail> {
-    check_exports(&rt, rt.alloc(), MODULE, DECLARATIONS)
+    assert_rows(&rt, rt.alloc(), MODULE, Exports, DECLARATIONS)
 }
 
 #[test]
 fn variables_are_told(rt: HostRuntime) -> Result<(), Fail> {
-    check_exports(&rt, rt.alloc(), MODULE, VARIABLES)
+    assert_rows(&rt, rt.alloc(), MODULE, Exports, VARIABLES)
 }
 
 #[test]
 fn names_of_patterns_are_told(rt: HostRuntime) -> Result<(), Fail> {
-    check_exports(&rt, rt.alloc(), MODULE, PATTERNS)
-}
-
-/// A text, whether it has nothing but imports and exports that declare nothing, and whether it has any.
-type Flags = (&'static str, bool, bool);
-
-const FLAGS: &[Flags] = &[
-    ("", true, false),
-    ("import \"a\"; export * from \"b\";", true, true),
-    (
-        "export * from 'external';\nimport * as ns from 'external2';\nexport { a as b } from 'external3';\nexport { ns };",
-        true,
-        true,
-    ),
-    ("export { a }", true, true),
-    ("export let a", false, true),
-    ("export default a", false, true),
-    ("a", false, false),
-    ("import(\"a\")", false, false),
-    ("import.meta", false, true),
-    ("{}", false, false),
-    (";", true, false),
-    ("#!/usr/bin/env node\nimport \"a\"", true, true),
-    ("import \"a\" with { b: \"c\" }", true, true),
-    ("import a b", false, false),
-];
-
-/// Whether a text has nothing but imports and exports, and whether it has any.
-fn flags_of(alloc: Global, text: &str) -> Result<(bool, bool), AllocError> {
-    let module = module(alloc, MODULE, text)?;
-    Ok((module.is_facade, module.has_module_syntax))
+    assert_rows(&rt, rt.alloc(), MODULE, Exports, PATTERNS)
 }
 
 #[test]
 fn facades_and_module_syntax_are_told(rt: HostRuntime) -> Result<(), Fail> {
-    for row in FLAGS {
-        let found = flags_of(rt.alloc(), row.0)?;
-        assert!(&rt; found == (row.1, row.2), "in {}", row.0);
-    }
-    Ok(())
-}
-
-/// A text, the row of its last import, and which rows of exports that has: the number of the first, and how many.
-type Owned = (&'static str, usize, usize);
-
-const OWNED: &[Owned] = &[
-    ("export let a, b; export { c, d as e } from \"f\"", 2, 2),
-    ("export { a }; export * as b from \"c\"", 1, 1),
-    ("export { a }; export * from \"c\"", 1, 0),
-    ("export { a }; import { b } from \"c\"; export { d }", 1, 0),
-];
-
-/// Which rows of exports the last import has.
-fn owned(alloc: Global, text: &str) -> Result<(usize, usize), AllocError> {
-    let module = module(alloc, MODULE, text)?;
-    Ok(match module.imports.last() {
-        Some(import) => (import.first_export, import.exports),
-        None => (0, 0),
-    })
+    assert_rows(&rt, rt.alloc(), MODULE, Flags, FLAGS)
 }
 
 #[test]
 fn exports_of_imports_are_told(rt: HostRuntime) -> Result<(), Fail> {
-    for row in OWNED {
-        let found = owned(rt.alloc(), row.0)?;
-        assert!(&rt; found == (row.1, row.2), "in {}", row.0);
-    }
-    Ok(())
+    assert_rows(&rt, rt.alloc(), MODULE, Owned, OWNED)
 }

@@ -1,10 +1,8 @@
 //! What texts import. What is expected is what the page of es-module-lexer says of its fields, and ECMA-262, 16.2.2, 13.3.10 and
 //! 13.3.12.
-use crate::tests::reading::{module, with_require};
-use crate::tests::shown::{Row, assert_row, imports};
+use super::rows::{Row, assert_rows};
+use super::shown::Told::{Imports, Requires};
 use listing::listing::MODULE;
-use std::alloc::{AllocError, Global};
-use std::process::Abort;
 use std::test::Fail;
 
 const DECLARATIONS: &[Row] = &[
@@ -191,52 +189,32 @@ const REQUIRES: &[Row] = &[
     ),
 ];
 
-fn shown(alloc: Global, row: Row) -> Result<String, AllocError> {
-    let (text, _) = row;
-    imports(alloc, text, &module(alloc, MODULE, text)?)
-}
-
-fn check(rt: &impl Abort, alloc: Global, rows: &[Row]) -> Result<(), Fail> {
-    for row in rows {
-        assert_row(rt, row, shown(alloc, *row)?.as_str());
-    }
-    Ok(())
-}
-
 #[test]
 fn declarations_are_told(rt: HostRuntime) -> Result<(), Fail> {
-    check(&rt, rt.alloc(), DECLARATIONS)
+    assert_rows(&rt, rt.alloc(), MODULE, Imports, DECLARATIONS)
 }
 
 #[test]
 fn attributes_are_told(rt: HostRuntime) -> Result<(), Fail> {
-    check(&rt, rt.alloc(), ATTRIBUTES)
+    assert_rows(&rt, rt.alloc(), MODULE, Imports, ATTRIBUTES)
 }
 
 #[test]
 fn reexports_are_told(rt: HostRuntime) -> Result<(), Fail> {
-    check(&rt, rt.alloc(), REEXPORTS)
+    assert_rows(&rt, rt.alloc(), MODULE, Imports, REEXPORTS)
 }
 
 #[test]
 fn calls_are_told(rt: HostRuntime) -> Result<(), Fail> {
-    check(&rt, rt.alloc(), CALLS)
+    assert_rows(&rt, rt.alloc(), MODULE, Imports, CALLS)
 }
 
 #[test]
 fn nothing_else_is_told(rt: HostRuntime) -> Result<(), Fail> {
-    check(&rt, rt.alloc(), NO_IMPORTS)
-}
-
-fn shown_with_require(alloc: Global, row: Row) -> Result<String, AllocError> {
-    let (text, _) = row;
-    imports(alloc, text, &with_require(alloc, text)?)
+    assert_rows(&rt, rt.alloc(), MODULE, Imports, NO_IMPORTS)
 }
 
 #[test]
 fn requires_of_commonjs_are_told(rt: HostRuntime) -> Result<(), Fail> {
-    for row in REQUIRES {
-        assert_row(&rt, row, shown_with_require(rt.alloc(), *row)?.as_str());
-    }
-    Ok(())
+    assert_rows(&rt, rt.alloc(), MODULE, Requires, REQUIRES)
 }

@@ -2,14 +2,11 @@
 use ecma_modules::{Module, ModuleOptions, module_of};
 use ecma_state::Kept;
 use ecma_stream::{Lexer, Tokens};
-use listing::listing::{MODULE, Settings, opened, set_flags};
+use listing::listing::{Settings, opened, set_flags};
 use std::alloc::{AllocError, Global};
 
 /// More tokens than any row has.
 const TOKENS: usize = 200;
-
-/// TypeScript, as a module.
-pub const MODULE_TS: Settings = Settings { ts: true, ..MODULE };
 
 /// What is kept of the next token.
 fn next_kept(lexer: &mut Lexer) -> Result<Option<Kept>, AllocError> {
@@ -42,22 +39,17 @@ fn tokens(alloc: Global, settings: Settings, text: &str) -> Result<Vec<Kept>, Al
     Ok(kept)
 }
 
-/// What a text imports and exports.
-pub fn module(alloc: Global, settings: Settings, text: &str) -> Result<Module, AllocError> {
+/// What a text imports and exports, with rows of `require(..)` or without.
+pub fn module(
+    alloc: Global,
+    settings: Settings,
+    commonjs: bool,
+    text: &str,
+) -> Result<Module, AllocError> {
     let kept = tokens(alloc, settings, text)?;
     let options = ModuleOptions {
         typescript: settings.ts,
-        commonjs: false,
-    };
-    module_of(alloc, options, &kept)
-}
-
-/// The same, with rows of `require(..)`.
-pub fn with_require(alloc: Global, text: &str) -> Result<Module, AllocError> {
-    let kept = tokens(alloc, MODULE, text)?;
-    let options = ModuleOptions {
-        typescript: false,
-        commonjs: true,
+        commonjs,
     };
     module_of(alloc, options, &kept)
 }

@@ -1,15 +1,21 @@
-//! Rows as they are written in tables.
+//! What is told of a text, as it is written in tables.
 use ecma_modules::{Export, Form, Import, Module, Phase};
 use ecma_span::Span;
 use std::alloc::{AllocError, Global};
-use std::process::Abort;
 
-/// A text, and the rows that are told of it.
-pub type Row = (&'static str, &'static str);
-
-/// What is told of a text is what its row says. Here alone, as it brings printing into a proof.
-pub fn assert_row(rt: &impl Abort, row: &Row, found: &str) {
-    assert_eq!(rt; found, row.1, "in {}", row.0);
+/// What is written of a text.
+#[derive(Clone, Copy)]
+pub enum Told {
+    /// Each import: its form, specifier, statement, first argument and attributes.
+    Imports,
+    /// The same, where each `require(..)` is one too.
+    Requires,
+    /// Each export: its name, and behind `=` the name in the module.
+    Exports,
+    /// `facade` where it has nothing but imports and exports that declare nothing, and `module` where it has any.
+    Flags,
+    /// Which exports the last import has: the number of the first, and how many.
+    Owned,
 }
 
 fn text_at(text: &str, span: Span) -> &str {
@@ -77,26 +83,54 @@ fn push_export(out: &mut String, text: &str, row: &Export) -> Result<(), AllocEr
     push_part(out, "=", text, row.local)
 }
 
-/// The rows of imports: each with its form, specifier, statement, first argument and attributes.
-pub fn imports(alloc: Global, text: &str, module: &Module) -> Result<String, AllocError> {
-    let mut out = String::new(alloc);
+fn push_imports(out: &mut String, text: &str, module: &Module) -> Result<(), AllocError> {
     'rows: for row in module.imports.iter() {
         if !out.is_empty() {
             out.push_str(" || ")?;
         }
-        push_import(&mut out, text, row)?;
+        push_import(out, text, row)?;
     }
-    Ok(out)
+    Ok(())
 }
 
-/// The rows of exports: each with its name, and behind `=` the name in the module.
-pub fn exports(alloc: Global, text: &str, module: &Module) -> Result<String, AllocError> {
-    let mut out = String::new(alloc);
+fn push_exports(out: &mut String, text: &str, module: &Module) -> Result<(), AllocError> {
     'rows: for row in module.exports.iter() {
         if !out.is_empty() {
             out.push_str(", ")?;
         }
-        push_export(&mut out, text, row)?;
+        push_export(out, text, row)?;
     }
+    Ok(())
+}
+
+fn flags(module: &Module) -> &'static str {
+    match (module.is_facade, module.has_module_syntax) {
+        (true, true) => "facade module",
+        (true, false) => "facade",
+        (false, true) => "module",
+        (false, false) => "",
+    }
+}
+
+fn push_owned(out: &mut String, module: &Module) -> Result<(), AllocError> {
+    match module.imports.last() {
+        Some(import) => write!(out, "{} {}", import.first_export, import.exports),
+        None => Ok(()),
+    }
+}
+
+fn push_told(out: &mut String, text: &str, module: &Module, told: Told) -> Result<(), AllocError> {
+    match told {
+        Told::Imports | Told::Requires => push_imports(out, text, module),
+        Told::Exports => push_exports(out, text, module),
+        Told::Flags => out.push_str(flags(module)),
+        Told::Owned => push_owned(out, module),
+    }
+}
+
+/// What is told of a text.
+pub fn shown(alloc: Global, text: &str, module: &Module, told: Told) -> Result<String, AllocError> {
+    let mut out = String::new(alloc);
+    push_told(&mut out, text, module, told)?;
     Ok(out)
 }

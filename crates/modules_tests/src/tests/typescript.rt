@@ -1,10 +1,11 @@
 //! What texts of TypeScript import and export. What is expected is what TypeScript's grammar says.
-use crate::tests::exports::check_exports;
-use crate::tests::reading::{MODULE_TS, module};
-use crate::tests::shown::{Row, assert_row, imports};
-use std::alloc::{AllocError, Global};
-use std::process::Abort;
+use super::rows::{Row, assert_rows};
+use super::shown::Told::{Exports, Imports};
+use listing::listing::{MODULE, Settings};
 use std::test::Fail;
+
+/// TypeScript, as a module.
+const MODULE_TS: Settings = Settings { ts: true, ..MODULE };
 
 const IMPORTS: &[Row] = &[
     (
@@ -129,25 +130,17 @@ const DECLARATIONS: &[Row] = &[
     ("export default class implements A {}", "default"),
 ];
 
-fn shown(alloc: Global, row: Row) -> Result<String, AllocError> {
-    let (text, _) = row;
-    imports(alloc, text, &module(alloc, MODULE_TS, text)?)
-}
-
 #[test]
 fn imports_of_typescript_are_told(rt: HostRuntime) -> Result<(), Fail> {
-    for row in IMPORTS {
-        assert_row(&rt, row, shown(rt.alloc(), *row)?.as_str());
-    }
-    Ok(())
+    assert_rows(&rt, rt.alloc(), MODULE_TS, Imports, IMPORTS)
 }
 
 #[test]
 fn names_of_typescript_are_told(rt: HostRuntime) -> Result<(), Fail> {
-    check_exports(&rt, rt.alloc(), MODULE_TS, NAMES)
+    assert_rows(&rt, rt.alloc(), MODULE_TS, Exports, NAMES)
 }
 
 #[test]
 fn declarations_of_typescript_are_told(rt: HostRuntime) -> Result<(), Fail> {
-    check_exports(&rt, rt.alloc(), MODULE_TS, DECLARATIONS)
+    assert_rows(&rt, rt.alloc(), MODULE_TS, Exports, DECLARATIONS)
 }

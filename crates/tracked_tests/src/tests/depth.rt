@@ -25,19 +25,13 @@ fn opened(alloc: Global, count: usize) -> Result<Track, AllocError> {
     Ok(track)
 }
 
-/// Whether a slash begins a regular expression behind an operand, so many right parentheses, and a semicolon.
-fn closed(track: &mut Track, count: usize) -> Result<(bool, bool), AllocError> {
+/// Behind an operand and so many right parentheses a slash divides, and behind a semicolon it begins a regular expression.
+fn assert_closed(rt: &impl Abort, track: &mut Track, count: usize) -> Result<(), AllocError> {
     step_times(track, TokenKind::Num, 1)?;
     step_times(track, TokenKind::RParen, count)?;
-    let behind_group = track.expects_operand(false);
+    assert!(rt; !track.expects_operand(false));
     step_times(track, TokenKind::Semi, 1)?;
-    Ok((behind_group, track.expects_operand(false)))
-}
-
-/// Behind so many right parentheses a slash divides, and behind the semicolon it begins a regular expression.
-fn assert_closed(rt: &impl Abort, track: &mut Track, count: usize) -> Result<(), AllocError> {
-    let found = closed(track, count)?;
-    assert!(rt; found == (false, true));
+    assert!(rt; track.expects_operand(false));
     Ok(())
 }
 

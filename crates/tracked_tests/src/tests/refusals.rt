@@ -1,6 +1,6 @@
 //! What a refusal of memory leaves: this passes whichever request for memory is refused, one in each run
 //! (`rt try --test --fail-alloc N`).
-use super::rows::opened;
+use super::tracking::{next_span, opened};
 use ecma_tracked::{Tracked, TrackedCheckpoint};
 use listing::listing::{COLLECTING, PLAIN, Settings, TS};
 use std::alloc::{AllocError, Global};
@@ -39,14 +39,10 @@ fn went_back<'a>(tracked: &mut Tracked<'a>, here: &TrackedCheckpoint) -> Result<
     }
 }
 
-/// Reads a token, which is dropped here, and says where it begins; behind the end the greatest place.
+/// Reads a token, and says where it begins; behind the end the greatest place.
 fn read_place(tracked: &mut Tracked) -> Result<u32, AllocError> {
-    match tracked.read()? {
-        Some(token) => {
-            let place = token.span.lo.0;
-            drop(token);
-            Ok(place)
-        }
+    match next_span(tracked)? {
+        Some(span) => Ok(span.lo.0),
         None => Ok(u32::MAX),
     }
 }
@@ -59,17 +55,13 @@ fn read_again(tracked: &mut Tracked, here: &TrackedCheckpoint) -> Result<u32, Al
     read_place(tracked)
 }
 
-fn read_from(tracked: &mut Tracked, here: &TrackedCheckpoint) -> Result<u32, AllocError> {
-    match read_place(tracked) {
-        Ok(place) => Ok(place),
-        Err(_) => read_again(tracked, here),
-    }
-}
-
 /// Where the next token begins; where memory is refused, that which is read behind the checkpoint of before.
 fn next_place(tracked: &mut Tracked) -> Result<u32, AllocError> {
     let here = saved(tracked)?;
-    read_from(tracked, &here)
+    match read_place(tracked) {
+        Ok(place) => Ok(place),
+        Err(_) => read_again(tracked, &here),
+    }
 }
 
 /// A thousand for each token, with the place of the last.

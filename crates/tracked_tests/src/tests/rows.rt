@@ -1,96 +1,73 @@
-//! What the texts of rows are read by, and how the tokens are written that are read.
-use ecma_place::{BytePos, Span, StringInput};
-use ecma_state::Settings;
-use ecma_tracked::Tracked;
-use listing::listing::{Settings as Row, flags, syntax};
+//! What the tests share: rows of texts, and what commands write of them.
+use super::acting::Command::{self, Write, WriteAll};
+use super::acting::acted;
+use listing::listing::{COLLECTING, MODULE, PLAIN, Settings, TS};
 use std::alloc::{AllocError, Global};
 use std::process::Abort;
+use std::test::Fail;
 
-/// More tokens than any row has.
-pub const TOKENS: usize = 60;
+/// What a text is read by, the text, and what is written of it: mostly its tokens with a space between them.
+pub type Row = (Settings, &'static str, &'static str);
 
-/// Before the first token of a text.
-pub fn opened<'a>(alloc: Global, settings: Row, text: &'a str) -> Result<Tracked<'a>, AllocError> {
-    let start = BytePos(0);
-    if !StringInput::fits(text, start) {
-        return Err(AllocError);
-    }
-    let read_by = Settings {
-        syntax: syntax(settings),
-        target: settings.target,
-        comments: settings.collects_comments,
-        numbers: settings.numbers,
-    };
-    Tracked::new(alloc, &read_by, flags(settings), text, start)
+/// What was found in a text is this. Here alone, as it brings printing into a proof.
+pub fn assert_found(rt: &impl Abort, text: &str, found: &str, expected: &str) {
+    assert_eq!(rt; found, expected, "in {text}");
 }
 
-/// The texts are the same. Here alone, as it brings printing into a proof.
-pub fn assert_text(rt: &impl Abort, found: &str, expected: &str) {
-    assert_eq!(rt; found, expected);
-}
-
-/// Reads a token, which is dropped here, and says where it stands.
-fn next_span(tracked: &mut Tracked) -> Result<Option<Span>, AllocError> {
-    match tracked.read()? {
-        Some(token) => {
-            let span = token.span;
-            drop(token);
-            Ok(Some(span))
-        }
-        None => Ok(None),
-    }
-}
-
-/// Reads a token; whether there was one.
-pub fn pass(tracked: &mut Tracked) -> Result<bool, AllocError> {
-    Ok(next_span(tracked)?.is_some())
-}
-
-/// Reads so many tokens.
-pub fn pass_some(tracked: &mut Tracked, count: usize) -> Result<(), AllocError> {
-    for _ in 0..count {
-        pass(tracked)?;
-    }
-    Ok(())
-}
-
-/// Writes what stands there in the text, behind a space where something was written.
-pub fn write_span(out: &mut String, text: &str, span: Span) -> Result<(), AllocError> {
-    if !out.is_empty() {
-        out.push(' ')?;
-    }
-    let found = text.get(span.lo.0 as usize..span.hi.0 as usize);
-    out.push_str(found.unwrap_or("outside"))
-}
-
-/// Writes so many tokens, or all up to the end.
-pub fn write_some(
-    out: &mut String,
-    text: &str,
-    tracked: &mut Tracked,
-    count: usize,
-) -> Result<(), AllocError> {
-    for _ in 0..count {
-        let Some(span) = next_span(tracked)? else {
-            break;
-        };
-        write_span(out, text, span)?;
-    }
-    Ok(())
-}
-
-fn write_tokens(
+/// The commands write this.
+pub fn assert_acted(
+    rt: &impl Abort,
     alloc: Global,
-    out: &mut String,
-    settings: Row,
-    text: &str,
+    (settings, text): (Settings, &str),
+    commands: &[Command],
+    expected: &str,
 ) -> Result<(), AllocError> {
-    write_some(out, text, &mut opened(alloc, settings, text)?, TOKENS)
+    let found = acted(alloc, settings, text, commands)?;
+    assert_found(rt, text, found.as_str(), expected);
+    Ok(())
 }
 
-/// The tokens of a text.
-pub fn tokens(alloc: Global, settings: Row, text: &str) -> Result<String, AllocError> {
-    let mut out = String::new(alloc);
-    write_tokens(alloc, &mut out, settings, text)?;
-    Ok(out)
+/// The commands write of each text what its row has.
+pub fn assert_rows(
+    rt: &impl Abort,
+    alloc: Global,
+    rows: &[Row],
+    commands: &[Command],
+) -> Result<(), Fail> {
+    for (settings, text, expected) in rows {
+        assert_acted(rt, alloc, (*settings, text), commands, expected)?;
+    }
+    Ok(())
+}
+
+const TEXTS: &[Row] = &[
+    (TS, "x! / y / z", "x ! / y / z"),
+    (PLAIN, "a ? (b) : /re/g / c", "a ? ( b ) : /re/g / c"),
+    (PLAIN, "`a${/b/}c` / d", "` a ${ /b/ } c ` / d"),
+    (PLAIN, "x = {} / 2; {} /r/", "x = { } / 2 ; { } /r/"),
+    (PLAIN, "if (a / b) /r/.x", "if ( a / b ) /r/ . x"),
+    (COLLECTING, "/*a*/ b /*c*/ / /*d*/ e", "b / e"),
+    (PLAIN, "a = 0_1 / /b", "a = 0_1 / /b"),
+    (MODULE, "import \"a\"\n/r/", "import \"a\" /r/"),
+];
+
+/// More than the tokens of each of the texts.
+pub const MOST: usize = 16;
+
+/// The commands with so many tokens written before them, and the others behind them.
+fn amid(alloc: Global, before: usize, commands: &[Command]) -> Result<Vec<Command>, AllocError> {
+    let mut all = Vec::new(alloc);
+    all.push(Write(before))?;
+    all.extend_from_slice(commands)?;
+    all.push(WriteAll)?;
+    Ok(all)
+}
+
+/// The texts have their tokens, also where the commands are done in between, behind however many of them.
+pub fn assert_unchanged(rt: &impl Abort, alloc: Global, commands: &[Command]) -> Result<(), Fail> {
+    for before in 0..MOST {
+        let all = amid(alloc, before, commands)?;
+        assert_rows(rt, alloc, TEXTS, &all)?;
+    }
+    Ok(())
 }

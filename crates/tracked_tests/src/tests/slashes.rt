@@ -1,5 +1,6 @@
 //! Which slashes of a text begin regular expressions. What is expected is what ECMA-262 and TypeScript's grammar say, as
 //! their parsers do.
+use super::rows::assert_found;
 use ecma_roles::{Part, Track};
 use ecma_stream::{Lexer, Tokens};
 use ecma_token::Token;
@@ -343,14 +344,9 @@ fn slashes(alloc: Global, settings: Settings, text: &str) -> Result<String, Allo
     Ok(out)
 }
 
-/// What was found in a text is what its row says. Here alone, as it brings printing into a proof.
-fn assert_found(rt: &impl Abort, row: &Row, found: &str) {
-    assert_eq!(rt; found, row.1, "in {}", row.0);
-}
-
 fn check(rt: &impl Abort, alloc: Global, settings: Settings, rows: &[Row]) -> Result<(), Fail> {
-    for row in rows {
-        assert_found(rt, row, slashes(alloc, settings, row.0)?.as_str());
+    for (text, expected) in rows {
+        assert_found(rt, text, slashes(alloc, settings, text)?.as_str(), expected);
     }
     Ok(())
 }
