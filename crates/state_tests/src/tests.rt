@@ -3,4 +3,3 @@ mod comment_lists;
 mod contexts;
 mod deep_contexts;
 mod error_lists;
-mod states;

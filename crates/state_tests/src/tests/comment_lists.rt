@@ -1,11 +1,13 @@
 //! Long lists of comments, of which a buffer and its copies share most, beside plain lists of numbers.
-ghost use Rattle.std.specs.Prelude.{◌≡◌, [], ◌∷◌, ◌++◌, OnOk, OnErr, IfErr, map};
+ghost use Rattle.std.specs.Prelude.{map};
 ghost use Rattle.ecma_state.specs.HandOver.{added_of};
 
+use ecma_comments::CommentList;
 use ecma_span::{Atom, BytePos, Comment, CommentKind, Comments, Span};
 use ecma_state::{BufferedComment, BufferedCommentKind, CommentsBuffer};
 use std::alloc::{AllocError, Global};
 use std::mem;
+use std::process::Abort;
 use std::test::Fail;
 
 /// Whether the comment of a number leads its token.
@@ -74,52 +76,34 @@ fn are_of(found: &[BufferedComment], numbers: &[u32], owning: Option<u32>) -> bo
     found.len() == numbers.len()
 }
 
-/// A store with room for so many comments.
+/// A store that is full at so many comments.
 #[derive(Drop)]
 struct Store<'a> {
-    given: Vec<BufferedComment<'a>>,
+    given: CommentList<'a>,
     room: usize,
 }
 
 impl<'a> Store<'a> {
-    fn new(alloc: Global, room: usize) -> Store<'a> {
-        Store {
-            given: Vec::new(alloc),
-            room,
-        }
-    }
-
-    fn add(&mut self, buffered: BufferedComment<'a>) -> Result<(), Comment<'a>>
-        ensures ok { OnOk result (self.new.given.items ≡ self.old.given.items ++ buffered.entry ∷ []) }
-        ensures err { OnErr result (self.new.given.items ≡ self.old.given.items) }
-        ensures back { IfErr result (λ c. c ≡ buffered.entry.comment) }
-    {
-        if self.given.len() >= self.room {
-            return Err(buffered.comment);
-        }
-        self.given
-            .push(buffered)
-            .map_err(|failed| failed.value.comment)
+    fn is_full(&self) -> bool {
+        self.given.as_slice().len() >= self.room
     }
 }
 
 impl<'a> Comments<'a> for Store<'a> {
-    ghost added = { λ s. map added_of s.given.items };
+    ghost added = { λ s. map added_of s.given };
 
     fn add_leading(&mut self, pos: BytePos, comment: Comment<'a>) -> Result<(), Comment<'a>> {
-        self.add(BufferedComment {
-            kind: BufferedCommentKind::Leading,
-            pos,
-            comment,
-        })
+        if self.is_full() {
+            return Err(comment);
+        }
+        self.given.add_leading(pos, comment)
     }
 
     fn add_trailing(&mut self, pos: BytePos, comment: Comment<'a>) -> Result<(), Comment<'a>> {
-        self.add(BufferedComment {
-            kind: BufferedCommentKind::Trailing,
-            pos,
-            comment,
-        })
+        if self.is_full() {
+            return Err(comment);
+        }
+        self.given.add_trailing(pos, comment)
     }
 }
 
@@ -133,26 +117,13 @@ struct Both {
 }
 
 impl Both {
-    fn new(alloc: Global, owning: Option<u32>) -> Both {
-        Both {
-            buffer: CommentsBuffer::new(alloc),
-            numbers: Vec::new(alloc),
-            owning,
-        }
-    }
-
-    /// Adds the comment of a number.
-    fn push_one(&mut self, number: u32) -> Result<(), AllocError> {
-        let alloc = *self.numbers.allocator();
-        self.numbers.push(number)?;
-        self.buffer
-            .push(comment(alloc, number, self.owning == Some(number))?)
-    }
-
     /// Adds so many comments, with the numbers from one on.
     fn push(&mut self, from: u32, count: u32) -> Result<(), AllocError> {
+        let alloc = *self.numbers.allocator();
         for number in from..from.saturating_add(count) {
-            self.push_one(number)?;
+            self.numbers.push(number)?;
+            self.buffer
+                .push(comment(alloc, number, self.owning == Some(number))?)?;
         }
         Ok(())
     }
@@ -173,25 +144,18 @@ impl Both {
         are
     }
 
-    /// Takes the first numbers, so many of them at most. The others stay.
-    fn take_first(&mut self, room: usize) -> Result<Vec<u32>, AllocError> {
-        let others = self.numbers.split_off(room.min(self.numbers.len()))?;
-        Ok(mem::replace(&mut self.numbers, others))
-    }
-
     /// Hands the comments over to a store with room for so many, and says whether it gets those of the first numbers, and
     /// all where no others stay.
-    fn gives(&mut self, room: usize, first: &[u32]) -> bool {
-        let mut store = Store::new(*self.numbers.allocator(), room);
-        let handed = self.buffer.hand_over(&mut store);
-        handed.is_ok() == self.numbers.is_empty() && are_of(&store.given, first, self.owning)
-    }
-
-    /// Hands the comments over to a store with room for so many, and says whether it gets those of the first numbers.
-    /// The others stay.
     fn hands_over(&mut self, room: usize) -> Result<bool, AllocError> {
-        let first = self.take_first(room)?;
-        Ok(self.gives(room, &first))
+        let others = self.numbers.split_off(room.min(self.numbers.len()))?;
+        let first = mem::replace(&mut self.numbers, others);
+        let mut store = Store {
+            given: CommentList::new(*first.allocator()),
+            room,
+        };
+        let handed = self.buffer.hand_over(&mut store).is_ok();
+        let given = are_of(store.given.as_slice(), &first, self.owning);
+        Ok(given && handed == self.numbers.is_empty())
     }
 }
 
@@ -235,137 +199,167 @@ const ROWS: &[Row] = &[
     (127, 70, 70, Some(2001)),
 ];
 
-/// Adds comments to a buffer and to its copy, as a row says.
-fn go_on(buffer: &mut Both, copy: &mut Both, row: &Row) -> Result<(), AllocError> {
-    buffer.push(1000, row.1)?;
-    copy.push(2000, row.2)
+/// What is done with a buffer. The first has the number 0, and a copy the next that is free.
+#[derive(Clone, Copy)]
+enum Deed {
+    /// Adds the comments that the row has before the copy.
+    Begin,
+    Copy,
+    /// Adds those that the row has behind it, as to the buffer.
+    GoOn,
+    /// Adds them as to the copy.
+    GoOnAsCopy,
+    /// Adds comments with the numbers from one on, so many.
+    Push(u32, u32),
+    /// Takes its comments, which are those of the numbers.
+    Take,
+    /// Hands over to a store with room for so many, which gets the comments of the first numbers. The others stay.
+    Hand(usize),
+    /// Drops it, and those that were made behind it.
+    Drop,
 }
 
-/// Fills a buffer as a row says, and makes the copy.
-fn filled(buffer: &mut Both, row: &Row) -> Result<Both, AllocError> {
-    buffer.push(0, row.0)?;
-    let mut copy = buffer.copy()?;
-    go_on(buffer, &mut copy, row)?;
-    Ok(copy)
+type Command = (usize, Deed);
+
+/// Does what is done with a buffer, and says whether it has its comments where these are taken or handed over.
+fn is_done(all: &mut Vec<Both>, row: &Row, (number, deed): Command) -> Result<bool, AllocError> {
+    let Some(both) = all.get_mut(number) else {
+        return Ok(false);
+    };
+    match deed {
+        Deed::Take => return Ok(both.takes()),
+        Deed::Hand(room) => return both.hands_over(room),
+        Deed::Begin => both.push(0, row.0)?,
+        Deed::GoOn => both.push(1000, row.1)?,
+        Deed::GoOnAsCopy => both.push(2000, row.2)?,
+        Deed::Push(from, count) => both.push(from, count)?,
+        Deed::Copy => {
+            let copy = both.copy()?;
+            all.push(copy)?;
+        }
+        Deed::Drop => all.truncate(number),
+    }
+    Ok(true)
 }
 
-/// Takes the comments of one and then of the other, and says whether they are those of the numbers.
-fn take_both(first: &mut Both, second: &mut Both) -> bool {
-    let first_takes = first.takes();
-    second.takes() && first_takes
+/// Whether all is done, and each buffer has its comments.
+fn are_done(all: &mut Vec<Both>, row: &Row, commands: &[Command]) -> Result<bool, AllocError> {
+    let alloc = *all.allocator();
+    all.clear();
+    all.push(Both {
+        buffer: CommentsBuffer::new(alloc),
+        numbers: Vec::new(alloc),
+        owning: row.3,
+    })?;
+    for command in commands {
+        if !is_done(all, row, *command)? {
+            return Ok(false);
+        }
+    }
+    Ok(true)
 }
 
-/// Whether both have their comments, where those of the copy are taken first or last.
-fn are_taken_of(buffer: &mut Both, row: &Row, copy_first: bool) -> Result<bool, AllocError> {
-    let mut copy = filled(buffer, row)?;
-    Ok(if copy_first {
-        take_both(&mut copy, buffer)
-    } else {
-        take_both(buffer, &mut copy)
-    })
+fn assert_rows(rt: &impl Abort, alloc: Global, commands: &[Command]) -> Result<(), Fail> {
+    let mut all = Vec::new(alloc);
+    for row in ROWS {
+        assert!(rt; are_done(&mut all, row, commands)?);
+    }
+    Ok(())
 }
 
-fn are_taken(alloc: Global, row: &Row, copy_first: bool) -> Result<bool, AllocError> {
-    are_taken_of(&mut Both::new(alloc, row.3), row, copy_first)
-}
+/// The comments of the copy are taken first, or last.
+const COPY_FIRST: &[Command] = &[
+    (0, Deed::Begin),
+    (0, Deed::Copy),
+    (0, Deed::GoOn),
+    (1, Deed::GoOnAsCopy),
+    (1, Deed::Take),
+    (0, Deed::Take),
+];
+
+const COPY_LAST: &[Command] = &[
+    (0, Deed::Begin),
+    (0, Deed::Copy),
+    (0, Deed::GoOn),
+    (1, Deed::GoOnAsCopy),
+    (0, Deed::Take),
+    (1, Deed::Take),
+];
 
 #[test]
 fn a_buffer_and_its_copy_have_their_own_comments(rt: HostRuntime) -> Result<(), Fail> {
-    for row in ROWS {
-        assert!(rt; are_taken(rt.alloc(), row, true)?);
-        assert!(rt; are_taken(rt.alloc(), row, false)?);
-    }
-    Ok(())
+    assert_rows(&rt, rt.alloc(), COPY_FIRST)?;
+    assert_rows(&rt, rt.alloc(), COPY_LAST)
 }
 
-/// Whether a copy of the copy has its comments, and then the copy has, to which one was added since.
-fn are_taken_of_copies(copy: &mut Both) -> Result<bool, AllocError> {
-    let mut second = copy.copy()?;
-    are_taken_behind(copy, &mut second)
-}
-
-fn are_taken_behind(copy: &mut Both, second: &mut Both) -> Result<bool, AllocError> {
-    copy.push(3000, 1)?;
-    second.push(4000, 65)?;
-    Ok(take_both(second, copy))
-}
-
-fn are_taken_of_copy(buffer: &mut Both, row: &Row) -> Result<bool, AllocError> {
-    let mut copy = filled(buffer, row)?;
-    are_taken_of_copies(&mut copy)
-}
-
-fn are_taken_in_turn(buffer: &mut Both, row: &Row) -> Result<bool, AllocError> {
-    let are = are_taken_of_copy(buffer, row)?;
-    Ok(buffer.takes() && are)
-}
-
-/// Whether a copy of the copy, the copy and the buffer have their comments.
-fn are_taken_of_three(alloc: Global, row: &Row) -> Result<bool, AllocError> {
-    are_taken_in_turn(&mut Both::new(alloc, row.3), row)
-}
+/// A copy of the copy has its comments, and then the copy has, to which one was added since, and the buffer.
+const THREE: &[Command] = &[
+    (0, Deed::Begin),
+    (0, Deed::Copy),
+    (0, Deed::GoOn),
+    (1, Deed::GoOnAsCopy),
+    (1, Deed::Copy),
+    (1, Deed::Push(3000, 1)),
+    (2, Deed::Push(4000, 65)),
+    (2, Deed::Take),
+    (1, Deed::Take),
+    (1, Deed::Drop),
+    (0, Deed::Take),
+];
 
 #[test]
 fn a_copy_of_a_copy_has_its_own_comments(rt: HostRuntime) -> Result<(), Fail> {
-    for row in ROWS {
-        assert!(rt; are_taken_of_three(rt.alloc(), row)?);
-    }
-    Ok(())
+    assert_rows(&rt, rt.alloc(), THREE)
 }
 
-/// Whether what was taken is gone, and the buffer and its copy then have their comments as new ones would.
-fn begins_anew(buffer: &mut Both, row: &Row) -> Result<bool, AllocError> {
-    let are = buffer.takes() && buffer.takes();
-    Ok(are_taken_of(buffer, row, false)? && are)
-}
-
-fn begin_anew(buffer: &mut Both, copy: &mut Both, row: &Row) -> Result<bool, AllocError> {
-    Ok(begins_anew(buffer, row)? && begins_anew(copy, row)?)
-}
-
-fn are_taken_twice(buffer: &mut Both, row: &Row) -> Result<bool, AllocError> {
-    let mut copy = filled(buffer, row)?;
-    begin_anew(buffer, &mut copy, row)
-}
-
-fn is_taken_twice(alloc: Global, row: &Row) -> Result<bool, AllocError> {
-    are_taken_twice(&mut Both::new(alloc, row.3), row)
-}
+/// What was taken is gone, and the buffer and its copy then have their comments as new ones would.
+const TWICE: &[Command] = &[
+    (0, Deed::Begin),
+    (0, Deed::Copy),
+    (0, Deed::GoOn),
+    (1, Deed::GoOnAsCopy),
+    (0, Deed::Take),
+    (0, Deed::Take),
+    (0, Deed::Begin),
+    (0, Deed::Copy),
+    (0, Deed::GoOn),
+    (2, Deed::GoOnAsCopy),
+    (0, Deed::Take),
+    (2, Deed::Take),
+    (2, Deed::Drop),
+    (1, Deed::Take),
+    (1, Deed::Take),
+    (1, Deed::Begin),
+    (1, Deed::Copy),
+    (1, Deed::GoOn),
+    (2, Deed::GoOnAsCopy),
+    (1, Deed::Take),
+    (2, Deed::Take),
+];
 
 #[test]
 fn a_buffer_begins_anew_when_its_comments_are_taken(rt: HostRuntime) -> Result<(), Fail> {
-    for row in ROWS {
-        assert!(rt; is_taken_twice(rt.alloc(), row)?);
-    }
-    Ok(())
+    assert_rows(&rt, rt.alloc(), TWICE)
 }
 
-/// Whether a store that is full at 100 comments gets the first, and another the rest with those that were added since.
-fn is_handed_over(buffer: &mut Both) -> Result<bool, AllocError> {
-    let first = buffer.hands_over(100)?;
-    buffer.push(5000, 130)?;
-    let others = buffer.hands_over(1000)?;
-    Ok(buffer.takes() && first && others)
-}
-
-fn is_handed_over_by_copy(buffer: &mut Both, row: &Row) -> Result<bool, AllocError> {
-    let mut copy = filled(buffer, row)?;
-    is_handed_over(&mut copy)
-}
-
-fn both_are_handed_over(buffer: &mut Both, row: &Row) -> Result<bool, AllocError> {
-    let of_copy = is_handed_over_by_copy(buffer, row)?;
-    Ok(is_handed_over(buffer)? && of_copy)
-}
-
-fn are_handed_over(alloc: Global, row: &Row) -> Result<bool, AllocError> {
-    both_are_handed_over(&mut Both::new(alloc, row.3), row)
-}
+/// Of each, a store that is full at 100 comments gets the first, and another the rest with those that were added since.
+const HANDED: &[Command] = &[
+    (0, Deed::Begin),
+    (0, Deed::Copy),
+    (0, Deed::GoOn),
+    (1, Deed::GoOnAsCopy),
+    (1, Deed::Hand(100)),
+    (1, Deed::Push(5000, 130)),
+    (1, Deed::Hand(1000)),
+    (1, Deed::Take),
+    (1, Deed::Drop),
+    (0, Deed::Hand(100)),
+    (0, Deed::Push(5000, 130)),
+    (0, Deed::Hand(1000)),
+    (0, Deed::Take),
+];
 
 #[test]
 fn comments_are_handed_over_in_order_from_both(rt: HostRuntime) -> Result<(), Fail> {
-    for row in ROWS {
-        assert!(rt; are_handed_over(rt.alloc(), row)?);
-    }
-    Ok(())
+    assert_rows(&rt, rt.alloc(), HANDED)
 }

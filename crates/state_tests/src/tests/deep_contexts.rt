@@ -1,4 +1,4 @@
-//! Stacks of contexts that share what they have above 128, beside plain lists.
+//! Stacks of contexts, which share what they have above 128, beside plain lists.
 use ecma_state::{TokenContext, TokenContexts};
 use std::alloc::{AllocError, Global};
 use std::process::Abort;
@@ -23,17 +23,10 @@ struct Beside {
 }
 
 impl Beside {
-    fn new(alloc: Global) -> Beside {
-        Beside {
-            stack: TokenContexts::new(alloc),
-            list: Vec::new(alloc),
-        }
-    }
-
-    fn copy(&self, alloc: Global) -> Result<Beside, AllocError> {
+    fn copy(&self) -> Result<Beside, AllocError> {
         Ok(Beside {
             stack: self.stack.copy()?,
-            list: Vec::from_slice(alloc, self.list.as_slice())?,
+            list: self.list.clone()?,
         })
     }
 
@@ -46,94 +39,71 @@ impl Beside {
         };
         assert!(rt; self.stack.len() == self.list.len());
         assert!(rt; self.stack.is_empty() == self.list.is_empty());
-        assert!(rt; self.stack.current() == current);
-        assert!(rt; self.stack.around_current() == around);
-    }
-
-    fn rise(&mut self, rt: &impl Abort, depth: usize, round: usize) -> Result<(), AllocError> {
-        for at in self.list.len()..depth {
-            self.stack.push(in_turn(at, round))?;
-            self.list.push(in_turn(at, round)).map_err(|_| AllocError)?;
-            self.assert_same(rt);
-        }
-        Ok(())
-    }
-
-    fn sink(&mut self, rt: &impl Abort, depth: usize) {
-        for _ in depth..self.list.len() {
-            assert!(rt; self.stack.pop() == self.list.pop());
-            self.assert_same(rt);
-        }
+        assert!(rt; (self.stack.around_current(), self.stack.current()) == (around, current));
     }
 
     /// Goes up or down to this depth.
     fn go_to(&mut self, rt: &impl Abort, depth: usize, round: usize) -> Result<(), AllocError> {
-        self.rise(rt, depth, round)?;
-        self.sink(rt, depth);
+        for at in self.list.len()..depth {
+            self.stack.push(in_turn(at, round))?;
+            self.list.push(in_turn(at, round))?;
+            self.assert_same(rt);
+        }
+        for _ in depth..self.list.len() {
+            assert!(rt; self.stack.pop() == self.list.pop());
+            self.assert_same(rt);
+        }
         Ok(())
     }
 }
 
-fn add_copy(alloc: Global, copies: &mut Vec<Beside>, beside: &Beside) -> Result<(), AllocError> {
-    copies.push(beside.copy(alloc)?).map_err(|_| AllocError)
-}
-
-fn add_copies(
-    rt: &impl Abort,
-    alloc: Global,
-    copies: &mut Vec<Beside>,
-    depths: &[usize],
-) -> Result<(), AllocError> {
-    let mut beside = Beside::new(alloc);
-    for (round, depth) in depths.iter().enumerate() {
-        beside.go_to(rt, *depth, round)?;
-        add_copy(alloc, copies, &beside)?;
-    }
-    Ok(())
-}
-
-/// A copy of a stack at each of these depths, between which it goes up and down.
-fn copies(rt: &impl Abort, alloc: Global, depths: &[usize]) -> Result<Vec<Beside>, AllocError> {
-    let mut copies = Vec::new(alloc);
-    add_copies(rt, alloc, &mut copies, depths)?;
-    Ok(copies)
-}
-
-/// Takes a copy and a copy of it up and down, in turn.
-fn go_in_turn(
+/// Takes a copy and a copy of it up and down, in turn, until nothing can be taken off.
+fn go_on(
     rt: &impl Abort,
     copy: &mut Beside,
     other: &mut Beside,
     round: usize,
 ) -> Result<(), AllocError> {
-    other.go_to(rt, 330, round)?;
-    copy.go_to(rt, 0, round)?;
-    other.go_to(rt, 0, round)
-}
-
-fn go_with_copy(
-    rt: &impl Abort,
-    alloc: Global,
-    copy: &mut Beside,
-    round: usize,
-) -> Result<(), AllocError> {
     copy.assert_same(rt);
     copy.go_to(rt, 200, round)?;
-    let mut other = copy.copy(alloc)?;
-    go_in_turn(rt, copy, &mut other, round)
+    *other = copy.copy()?;
+    other.go_to(rt, 330, round)?;
+    copy.go_to(rt, 0, round)?;
+    other.go_to(rt, 0, round)?;
+    assert!(rt; (copy.stack.pop(), other.stack.pop()) == (None, None));
+    Ok(())
 }
 
-fn go_on(rt: &impl Abort, alloc: Global, copy: Beside, round: usize) -> Result<(), AllocError> {
-    let mut copy = copy;
-    go_with_copy(rt, alloc, &mut copy, round)
+/// Makes a copy of a stack at each of these depths, between which it goes up and down, and has each go on by itself.
+fn go_on_by_themselves(
+    rt: &impl Abort,
+    beside: &mut Beside,
+    copies: &mut Vec<Beside>,
+    depths: &[usize],
+) -> Result<(), AllocError> {
+    beside.assert_same(rt);
+    for (round, depth) in depths.iter().enumerate() {
+        beside.go_to(rt, *depth, round)?;
+        copies.push(beside.copy()?)?;
+    }
+    for (round, copy) in copies.iter_mut().enumerate() {
+        go_on(rt, copy, beside, round)?;
+    }
+    Ok(())
 }
 
 fn assert_all_go_on(rt: &impl Abort, alloc: Global, depths: &[usize]) -> Result<(), AllocError> {
-    let copies = copies(rt, alloc, depths)?;
-    for (round, copy) in copies.into_iter().enumerate() {
-        go_on(rt, alloc, copy, round)?;
-    }
-    Ok(())
+    let mut copies = Vec::new(alloc);
+    let mut beside = Beside {
+        stack: TokenContexts::new(alloc),
+        list: Vec::new(alloc),
+    };
+    go_on_by_themselves(rt, &mut beside, &mut copies, depths)
+}
+
+#[test]
+fn contexts_are_a_stack_whose_copies_stay(rt: HostRuntime) -> Result<(), Fail> {
+    Ok(assert_all_go_on(&rt, rt.alloc(), &[2, 0])?)
 }
 
 #[test]
@@ -142,8 +112,7 @@ fn copies_of_deep_contexts_go_on_by_themselves(rt: HostRuntime) -> Result<(), Fa
     const DEPTHS: &[usize] = &[
         127, 128, 129, 130, 120, 66, 64, 60, 131, 195, 130, 260, 126, 62, 300, 301, 1, 192, 0, 257,
     ];
-    assert_all_go_on(&rt, rt.alloc(), DEPTHS)?;
-    Ok(())
+    Ok(assert_all_go_on(&rt, rt.alloc(), DEPTHS)?)
 }
 
 #[test]
@@ -153,6 +122,5 @@ fn copies_of_contexts_in_several_blocks_go_on_by_themselves(rt: HostRuntime) -> 
         4_097, 4_161, 4_162, 4_224, 4_225, 4_290, 4_160, 4_098, 4_095, 8_300, 8_322, 4_100, 8_420,
         200, 12_700, 0, 4_226,
     ];
-    assert_all_go_on(&rt, rt.alloc(), DEPTHS)?;
-    Ok(())
+    Ok(assert_all_go_on(&rt, rt.alloc(), DEPTHS)?)
 }

@@ -9,28 +9,20 @@ use std::alloc::{AllocError, Global};
 use std::process::Abort;
 use std::test::Fail;
 
-/// The texts are the same. Here alone, as it brings printing into a proof.
-fn assert_text(rt: &impl Abort, found: &str, expected: &str) {
-    assert_eq!(rt; found, expected);
+/// The flags of the context that are set.
+#[derive(Clone, Copy)]
+enum Code {
+    Plain,
+    Strict,
+    Module,
+    Ignoring,
 }
 
-fn module() -> Context {
+fn context(code: Code) -> Context {
     Context {
-        module: true,
-        ..Context::default()
-    }
-}
-
-fn strict() -> Context {
-    Context {
-        strict: true,
-        ..Context::default()
-    }
-}
-
-fn ignoring() -> Context {
-    Context {
-        ignore_error: true,
+        strict: matches!(code, Code::Strict),
+        module: matches!(code, Code::Module),
+        ignore_error: matches!(code, Code::Ignoring),
         ..Context::default()
     }
 }
@@ -44,152 +36,122 @@ fn error_at<'a>(alloc: Global, place: u32) -> Result<Error<'a>, AllocError> {
     Error::new(alloc, span, SyntaxError::InvalidStrEscape)
 }
 
-/// Adds an error at a place.
-fn add(alloc: Global, list: &mut ErrorList, place: u32) -> Result<(), AllocError> {
-    list.push(error_at(alloc, place)?).map_err(|_| AllocError)
+/// What is done with lists of errors.
+#[derive(Clone, Copy)]
+enum Deed {
+    /// Adds an error at a place to those that are recorded.
+    Record(u32),
+    /// Adds one to those that wait.
+    Wait(u32),
+    /// Records those that wait.
+    Append,
+    /// So many stay recorded.
+    Truncate(usize),
+    /// Takes in one fault of each blame, at the places 1, 2 and 3.
+    TakeEach(Code),
+    Enter(Code),
+    /// Where those stand that are recorded, and those that wait.
+    Has(&'static [u32], &'static [u32]),
 }
 
-/// Begins a part of what is told.
-fn write_note(out: &mut String, words: &str) -> Result<(), AllocError> {
-    out.push_str(if out.is_empty() { "" } else { "; " })?;
-    out.push_str(words)
+/// The error has no memory.
+fn added(pushed: Result<(), Error>) -> Result<(), AllocError> {
+    match pushed {
+        Ok(()) => Ok(()),
+        Err(_) => Err(AllocError),
+    }
 }
 
-/// Writes where the errors of a list stand.
-fn write_places(out: &mut String, what: &str, list: &ErrorList) -> Result<(), AllocError> {
-    write_note(out, what)?;
-    for error in list.as_slice() {
-        write!(out, " {}", error.span().lo.0)?;
+fn take_each(alloc: Global, lists: &mut ErrorLists, context: &Context) -> Result<(), AllocError> {
+    for (blame, place) in [(Blame::Always, 1), (Blame::Strict, 2), (Blame::Module, 3)] {
+        added(lists.take_fault(context, blame, error_at(alloc, place)?))?;
     }
     Ok(())
 }
 
-/// Writes how many errors a list has, and whether it is empty.
-fn write_length(out: &mut String, list: &ErrorList) -> Result<(), AllocError> {
-    write!(out, ", {}", list.len())?;
-    out.push_str(if list.is_empty() { ", empty" } else { "" })
+/// Whether the errors of a list stand there.
+fn stand(list: &ErrorList, places: &[u32]) -> bool {
+    for (error, place) in list.as_slice().iter().zip(places) {
+        if error.span().lo != BytePos(*place) {
+            return false;
+        }
+    }
+    list.len() == places.len() && list.is_empty() == places.is_empty()
 }
 
-fn write_order(alloc: Global, out: &mut String, list: &mut ErrorList) -> Result<(), AllocError> {
-    write_places(out, "new", list)?;
-    write_length(out, list)?;
-    add(alloc, list, 1)?;
-    add(alloc, list, 2)?;
-    write_places(out, "two", list)?;
-    write_length(out, list)?;
-    list.truncate(1);
-    write_places(out, "truncated", list)
+/// Whether the errors stand where the deed says, when it is done.
+fn is_done(alloc: Global, lists: &mut ErrorLists, deed: Deed) -> Result<bool, AllocError> {
+    match deed {
+        Deed::Record(place) => added(lists.recorded.push(error_at(alloc, place)?))?,
+        Deed::Wait(place) => added(lists.waiting.push(error_at(alloc, place)?))?,
+        Deed::Append => lists.recorded.append(&mut lists.waiting)?,
+        Deed::Truncate(count) => lists.recorded.truncate(count),
+        Deed::TakeEach(code) => take_each(alloc, lists, &context(code))?,
+        Deed::Enter(code) => lists.enter(&context(code))?,
+        Deed::Has(recorded, waiting) => {
+            return Ok(stand(&lists.recorded, recorded) && stand(&lists.waiting, waiting));
+        }
+    }
+    Ok(true)
 }
+
+fn assert_deeds(rt: &impl Abort, alloc: Global, deeds: &[Deed]) -> Result<(), Fail> {
+    let mut lists = ErrorLists::new(alloc);
+    for (number, deed) in deeds.iter().enumerate() {
+        assert!(rt; is_done(alloc, &mut lists, *deed)?, "deed {number}");
+    }
+    Ok(())
+}
+
+const ORDER: &[Deed] = &[
+    Deed::Has(&[], &[]),
+    Deed::Record(1),
+    Deed::Record(2),
+    Deed::Has(&[1, 2], &[]),
+    Deed::Truncate(1),
+    Deed::Has(&[1], &[]),
+];
 
 #[test]
 fn errors_stand_in_order(rt: HostRuntime) -> Result<(), Fail> {
-    let alloc = rt.alloc();
-    let mut out = String::new(alloc);
-    write_order(alloc, &mut out, &mut ErrorList::new(alloc))?;
-    assert_text(&rt, out.as_str(), "new, 0, empty; two 1 2, 2; truncated 1");
-    Ok(())
+    assert_deeds(&rt, rt.alloc(), ORDER)
 }
 
-fn write_appended<'a>(
-    alloc: Global,
-    out: &mut String,
-    list: &mut ErrorList<'a>,
-    more: &mut ErrorList<'a>,
-) -> Result<(), AllocError> {
-    add(alloc, list, 1)?;
-    add(alloc, more, 3)?;
-    list.append(more)?;
-    write_places(out, "list", list)?;
-    write_places(out, "more", more)?;
-    write_length(out, more)
-}
+const APPENDED: &[Deed] = &[
+    Deed::Record(1),
+    Deed::Wait(3),
+    Deed::Append,
+    Deed::Has(&[1, 3], &[]),
+];
 
 #[test]
 fn a_list_takes_in_another(rt: HostRuntime) -> Result<(), Fail> {
-    let alloc = rt.alloc();
-    let mut out = String::new(alloc);
-    let mut more = ErrorList::new(alloc);
-    write_appended(alloc, &mut out, &mut ErrorList::new(alloc), &mut more)?;
-    assert_text(&rt, out.as_str(), "list 1 3; more, 0, empty");
-    Ok(())
+    assert_deeds(&rt, rt.alloc(), APPENDED)
 }
 
-fn take(
-    alloc: Global,
-    lists: &mut ErrorLists,
-    context: &Context,
-    blame: Blame,
-    place: u32,
-) -> Result<(), AllocError> {
-    lists
-        .take_fault(context, blame, error_at(alloc, place)?)
-        .map_err(|_| AllocError)
-}
+const PLAIN: &[Deed] = &[Deed::TakeEach(Code::Plain), Deed::Has(&[1], &[2, 3])];
 
-/// Takes in one fault of each blame, at the places 1, 2 and 3.
-fn take_each(alloc: Global, lists: &mut ErrorLists, context: &Context) -> Result<(), AllocError> {
-    take(alloc, lists, context, Blame::Always, 1)?;
-    take(alloc, lists, context, Blame::Strict, 2)?;
-    take(alloc, lists, context, Blame::Module, 3)
-}
+const STRICT: &[Deed] = &[Deed::TakeEach(Code::Strict), Deed::Has(&[1, 2], &[3])];
 
-fn write_lists(out: &mut String, lists: &ErrorLists) -> Result<(), AllocError> {
-    write_places(out, "recorded", &lists.recorded)?;
-    write_places(out, "waiting", &lists.waiting)
-}
-
-fn write_taken(
-    alloc: Global,
-    out: &mut String,
-    lists: &mut ErrorLists,
-    context: &Context,
-) -> Result<(), AllocError> {
-    take_each(alloc, lists, context)?;
-    write_lists(out, lists)
-}
-
-fn assert_taken(
-    rt: &impl Abort,
-    alloc: Global,
-    context: &Context,
-    expected: &str,
-) -> Result<(), Fail> {
-    let mut out = String::new(alloc);
-    write_taken(alloc, &mut out, &mut ErrorLists::new(alloc), context)?;
-    assert_text(rt, out.as_str(), expected);
-    Ok(())
-}
+const IGNORING: &[Deed] = &[Deed::TakeEach(Code::Ignoring), Deed::Has(&[], &[2, 3])];
 
 #[test]
 fn faults_are_recorded_wait_or_are_dropped(rt: HostRuntime) -> Result<(), Fail> {
     let alloc = rt.alloc();
-    assert_taken(&rt, alloc, &Context::default(), "recorded 1; waiting 2 3")?;
-    assert_taken(&rt, alloc, &strict(), "recorded 1 2; waiting 3")?;
-    assert_taken(&rt, alloc, &ignoring(), "recorded; waiting 2 3")
+    assert_deeds(&rt, alloc, PLAIN)?;
+    assert_deeds(&rt, alloc, STRICT)?;
+    assert_deeds(&rt, alloc, IGNORING)
 }
 
-fn write_entered(
-    alloc: Global,
-    out: &mut String,
-    lists: &mut ErrorLists,
-) -> Result<(), AllocError> {
-    let context = Context::default();
-    take_each(alloc, lists, &context)?;
-    lists.enter(&context)?;
-    write_lists(out, lists)?;
-    lists.enter(&module())?;
-    write_lists(out, lists)
-}
+const ENTERED: &[Deed] = &[
+    Deed::TakeEach(Code::Plain),
+    Deed::Enter(Code::Plain),
+    Deed::Has(&[1], &[2, 3]),
+    Deed::Enter(Code::Module),
+    Deed::Has(&[1, 2, 3], &[]),
+];
 
 #[test]
 fn what_waits_is_recorded_in_module_code(rt: HostRuntime) -> Result<(), Fail> {
-    let alloc = rt.alloc();
-    let mut out = String::new(alloc);
-    write_entered(alloc, &mut out, &mut ErrorLists::new(alloc))?;
-    assert_text(
-        &rt,
-        out.as_str(),
-        "recorded 1; waiting 2 3; recorded 1 2 3; waiting",
-    );
-    Ok(())
+    assert_deeds(&rt, rt.alloc(), ENTERED)
 }
