@@ -1,19 +1,22 @@
-//! Steps of the layer above, as tables of tests hold them.
-
-use ecma_state::{Step, TokenContexts};
-use ecma_syntax::Context;
+//! Steps over a text, as tables of tests hold them.
+use ecma_state::{Step, TokenContext};
+use listing::listing::{Settings, contexts_of, flags};
 use std::alloc::{AllocError, Global};
 
-/// A step, as a table can hold it.
+/// What is done with a text.
 #[derive(Clone, Copy)]
 pub enum Command {
     Read,
-    /// Sets the flags of a module.
-    Module,
+    /// Reads to the end, and some times behind it.
+    ReadAll,
+    /// Sets the flags of the code.
+    Flags(Settings),
     Allow(bool),
-    /// Leaves all contexts.
-    Leave,
+    /// Puts these contexts, the innermost last, in the place of those that the lexer is in.
+    Contexts(&'static [TokenContext]),
     Pop,
+    /// Takes all contexts away, and some times more.
+    PopAll,
     Reread,
     Withdraw,
     Save,
@@ -21,54 +24,41 @@ pub enum Command {
     Take,
 }
 
-fn module() -> Context {
-    Context {
-        module: true,
-        ..Context::default()
+/// How many steps a command stands for, over a text of so many bytes.
+fn times(command: Command, bytes: usize) -> usize {
+    match command {
+        // As many reads as a text takes at most, until the end is answered; no more contexts are opened.
+        Command::ReadAll | Command::PopAll => bytes.saturating_mul(2).saturating_add(2),
+        _ => 1,
     }
 }
 
-fn step_of(alloc: Global, command: Command) -> Step {
-    match command {
-        Command::Read => Step::Read,
-        Command::Module => Step::SetCtx(module()),
+fn step_of(alloc: Global, command: Command) -> Result<Step, AllocError> {
+    Ok(match command {
+        Command::Read | Command::ReadAll => Step::Read,
+        Command::Flags(settings) => Step::SetCtx(flags(settings)),
         Command::Allow(allowed) => Step::SetExprAllowed(allowed),
-        Command::Leave => Step::SetContexts(TokenContexts::new(alloc)),
-        Command::Pop => Step::PopContext,
+        Command::Contexts(contexts) => Step::SetContexts(contexts_of(alloc, contexts)?),
+        Command::Pop | Command::PopAll => Step::PopContext,
         Command::Reread => Step::Reread,
         Command::Withdraw => Step::Withdraw,
         Command::Save => Step::Save,
         Command::Back(n) => Step::Back(n),
         Command::Take => Step::TakeErrors,
-    }
+    })
 }
 
-/// The steps of a table.
-///
-/// # Errors
-///
-/// `AllocError` where there is no memory.
-pub fn steps_of(alloc: Global, commands: &[Command]) -> Result<Vec<Step>, AllocError> {
+/// The steps of commands over a text of so many bytes.
+pub fn steps_of(
+    alloc: Global,
+    commands: &[Command],
+    bytes: usize,
+) -> Result<Vec<Step>, AllocError> {
     let mut steps = Vec::new(alloc);
     for command in commands {
-        steps.push(step_of(alloc, *command))?;
+        for _ in 0..times(*command, bytes) {
+            steps.push(step_of(alloc, *command)?)?;
+        }
     }
     Ok(steps)
-}
-
-/// As many reads as a text of so many bytes takes at most, until the end is answered.
-pub fn most_reads(bytes: usize) -> usize {
-    bytes.saturating_mul(2).saturating_add(2)
-}
-
-/// Adds so many reads.
-///
-/// # Errors
-///
-/// `AllocError` where there is no memory.
-pub fn push_reads(steps: &mut Vec<Step>, reads: usize) -> Result<(), AllocError> {
-    for _ in 0..reads {
-        steps.push(Step::Read)?;
-    }
-    Ok(())
 }

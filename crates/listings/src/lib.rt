@@ -1,5 +1,4 @@
-//! What a text comes to, read by a lexer or played by steps, for rows of tests.
+//! Steps over a text, as tables of tests hold them.
 #![tactic(auto)]
 
 pub mod commands;
-pub mod played;

@@ -1,7 +1,7 @@
 //! `replay` by copies alone, which tests compare it with.
 //!
 //! A player is a lexer with the tokens that it keeps (`player.rt`), and each save and each way back copies all of it
-//! (`runner.rt`, `specs/Copies.antt`). It meets the same contract; no caller needs it, and `replay_tests` plays the
+//! (`runner.rt`, `specs/Copies.antt`). It meets the same contract; no caller needs it, and `texts_tests` plays the
 //! same lists by both.
 #![tactic(auto)]
 

@@ -1,7 +1,0 @@
-//! Rows of slashes, of whole texts with their comments, and of classes.
-
-mod comments;
-mod numbers;
-mod roles;
-mod slashes;
-mod styles;
