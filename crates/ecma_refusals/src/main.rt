@@ -3,29 +3,31 @@
 //! Where memory is refused a call says in one line what is there then; then it is made again, so that all other lines
 //! are those of a run in which nothing is refused. `bench/refusals` refuses each request in turn and compares.
 //!
-//! Reading is in `refused_reads`. Here `kept` adds errors, comments and contexts, `shared` so many comments that copies share
-//! them; `whole` plays lists of steps, `cover` covers texts with pieces, `faces` has HTML, imports, and where lines begin,
+//! Reading is in `refused_reads`. Here `errors` adds errors, `comments` comments, also so many that copies share them, and `deep`
+//! contexts; `whole` plays lists of steps, `cover` covers texts with pieces, `faces` has HTML, imports, and where lines begin,
 //! `numbers` rows of numbers, `stored` checkpoints as bytes.
 #![tactic(auto)]
 
+mod comments;
 mod cover;
+mod deep;
+mod errors;
 mod faces;
-mod kept;
 mod numbers;
-mod shared;
 mod stored;
 mod whole;
 
-use refused_reads::{going_back, many, reading, told};
+use refused_reads::{many, reading, told};
 use std::io;
 
 fn main(rt: HostRuntime) -> io::Result<()> {
     let alloc = rt.alloc();
     reading::play(&rt, alloc)?;
-    going_back::play(&rt, alloc)?;
     many::play(&rt, alloc)?;
-    kept::play(&rt, alloc)?;
-    shared::play(&rt, alloc)?;
+    errors::play(&rt, alloc)?;
+    comments::play(&rt, alloc)?;
+    deep::play(&rt, alloc)?;
+    comments::play_shared(&rt, alloc)?;
     whole::play(&rt, alloc)?;
     cover::play(&rt, alloc)?;
     faces::play(&rt, alloc)?;

@@ -2,35 +2,14 @@
 use ecma_checkpoint::Checkpoint;
 use ecma_resuming::{begin_of, resume};
 use ecma_stored::{decode, encode};
-use ecma_stream::{Lexer, Tokens};
-use refused_reads::rows::{contexts, opened, settings};
+use ecma_stream::Tokens;
+use refused_reads::again;
+use refused_reads::rows::{opened_deep, settings};
 use std::alloc::Global;
 use std::io;
 
 /// Opens no context, so that its reads do not allocate.
 const TEXT: &str = "a b c";
-
-/// The bytes of a checkpoint.
-fn told_bytes(rt: &impl Print, alloc: Global, from: &Checkpoint) -> io::Result<Vec<u8>> {
-    match encode(alloc, from) {
-        Ok(bytes) => Ok(bytes),
-        Err(_) => {
-            println!(rt; "refused encode")?;
-            Ok(encode(alloc, from)?)
-        }
-    }
-}
-
-/// The checkpoint of bytes.
-fn told_checkpoint(rt: &impl Print, alloc: Global, bytes: &[u8]) -> io::Result<Option<Checkpoint>> {
-    match decode(alloc, bytes) {
-        Ok(from) => Ok(from),
-        Err(_) => {
-            println!(rt; "refused decode")?;
-            Ok(decode(alloc, bytes)?)
-        }
-    }
-}
 
 /// Writes the token that comes behind a checkpoint.
 fn go_on(rt: &impl Print, alloc: Global, from: &Checkpoint) -> io::Result<()> {
@@ -44,21 +23,21 @@ fn go_on(rt: &impl Print, alloc: Global, from: &Checkpoint) -> io::Result<()> {
     }
 }
 
-/// A lexer behind two tokens of the text.
-fn behind_two<'a>(alloc: Global) -> io::Result<Lexer<'a>> {
-    let mut lexer = opened(alloc, TEXT)?;
-    lexer.set_token_context(contexts(alloc)?);
-    drop(lexer.read()?);
-    drop(lexer.read()?);
-    Ok(lexer)
+/// Where a lexer is behind two tokens of the text, among many contexts.
+fn behind_two(alloc: Global) -> io::Result<Checkpoint> {
+    let mut lexer = opened_deep(alloc, TEXT)?;
+    for _ in 0..2 {
+        drop(lexer.read()?);
+    }
+    Ok(lexer.checkpoint()?)
 }
 
-/// Stores where a lexer is among many contexts, and goes on from there.
+/// Stores where a lexer is, and goes on from there.
 pub fn play(rt: &impl Print, alloc: Global) -> io::Result<()> {
-    let from = behind_two(alloc)?.checkpoint()?;
-    let bytes = told_bytes(rt, alloc, &from)?;
+    let from = behind_two(alloc)?;
+    let bytes = again!(rt, "refused encode", encode(alloc, &from));
     println!(rt; "encode {} bytes", bytes.len())?;
-    match told_checkpoint(rt, alloc, bytes.as_slice())? {
+    match again!(rt, "refused decode", decode(alloc, &bytes)) {
         Some(from) => go_on(rt, alloc, &from),
         None => println!(rt; "decode none"),
     }

@@ -3,86 +3,13 @@ ghost use Rattle.std.specs.Prelude.{◌+◌, ◌<◌, ◌^◌, length};
 
 use ecma_canonical::{Canon, canonical};
 use ecma_place::StringInput;
-use ecma_replay::{Gathered, Replay, gather, replay};
-use ecma_state::{Kept, Step};
+use ecma_replay::{Replay, gather, replay};
+use ecma_state::Step;
+use refused_reads::again;
 use refused_reads::rows::{DEEP, START, TEXTS, contexts, module, settings};
 use refused_reads::told::{tell_comments, tell_errors};
 use std::alloc::Global;
 use std::io;
-
-fn played<'a>(
-    rt: &impl Print,
-    alloc: Global,
-    text: &'a str,
-    steps: &[Step],
-) -> io::Result<Replay<'a>>
-    requires { 0 + length text.now < 2 ^ 32 }
-{
-    let settings = settings();
-    match replay(alloc, &settings, text, START, steps) {
-        Ok(played) => Ok(played),
-        Err(_) => {
-            println!(rt; "refused replay")?;
-            Ok(replay(alloc, &settings, text, START, steps)?)
-        }
-    }
-}
-
-fn gathered<'a>(
-    rt: &impl Print,
-    alloc: Global,
-    text: &'a str,
-    steps: &[Step],
-) -> io::Result<Gathered<'a>>
-    requires { 0 + length text.now < 2 ^ 32 }
-{
-    let settings = settings();
-    match gather(alloc, &settings, text, START, steps) {
-        Ok(gathered) => Ok(gathered),
-        Err(_) => {
-            println!(rt; "refused gather")?;
-            Ok(gather(alloc, &settings, text, START, steps)?)
-        }
-    }
-}
-
-fn canon(rt: &impl Print, alloc: Global, text: &str, steps: &[Step]) -> io::Result<Canon>
-    requires { 0 + length text.now < 2 ^ 32 }
-{
-    let settings = settings();
-    match canonical(alloc, &settings, text, START, steps) {
-        Ok(canon) => Ok(canon),
-        Err(_) => {
-            println!(rt; "refused canonical")?;
-            Ok(canonical(alloc, &settings, text, START, steps)?)
-        }
-    }
-}
-
-/// Gathers what was replayed, and says so where it comes to other tokens, or to another end, or to other numbers of recorded
-/// errors, of those that wait and of comments.
-fn gather_text(
-    rt: &impl Print,
-    alloc: Global,
-    text: &str,
-    steps: &[Step],
-    kept: &[Kept],
-    ended: bool,
-    numbers: [usize; 3],
-) -> io::Result<()>
-    requires { 0 + length text.now < 2 ^ 32 }
-{
-    let found = gathered(rt, alloc, text, steps)?;
-    let same_tokens = found.kept.as_slice() == kept && found.ended == ended;
-    let recorded = found.errors.len();
-    let waiting = found.waiting.len();
-    let comments = found.comments.len();
-    let same_numbers = recorded == numbers[0] && waiting == numbers[1] && comments == numbers[2];
-    if !(same_tokens && same_numbers) {
-        println!(rt; "gathered otherwise")?;
-    }
-    Ok(())
-}
 
 fn tell_replay(rt: &impl Print, found: &Replay) -> io::Result<()> {
     let answers = found.answers.len();
@@ -93,24 +20,56 @@ fn tell_replay(rt: &impl Print, found: &Replay) -> io::Result<()> {
     tell_comments(rt, &found.comments)
 }
 
+/// Gathers what was replayed, and says so where it comes to other tokens, or to another end, or to other numbers of recorded
+/// errors, of those that wait and of comments.
+fn gather_text(
+    rt: &impl Print,
+    alloc: Global,
+    text: &str,
+    steps: &[Step],
+    found: &Replay,
+) -> io::Result<()>
+    requires { 0 + length text.now < 2 ^ 32 }
+{
+    let settings = settings();
+    let gathered = again!(
+        rt,
+        "refused gather",
+        gather(alloc, &settings, text, START, steps)
+    );
+    let same_tokens = gathered.kept.as_slice() == found.kept.as_slice();
+    let same_numbers = gathered.errors.len() == found.errors.len()
+        && gathered.waiting.len() == found.waiting.len()
+        && gathered.comments.len() == found.comments.len();
+    if !(same_tokens && same_numbers && gathered.ended == found.ended) {
+        println!(rt; "gathered otherwise")?;
+    }
+    Ok(())
+}
+
 fn replay_text(rt: &impl Print, alloc: Global, text: &str, steps: &[Step]) -> io::Result<()>
     requires { 0 + length text.now < 2 ^ 32 }
 {
-    let found = played(rt, alloc, text, steps)?;
+    let settings = settings();
+    let found = again!(
+        rt,
+        "refused replay",
+        replay(alloc, &settings, text, START, steps)
+    );
     tell_replay(rt, &found)?;
-    let numbers = [
-        found.errors.len(),
-        found.waiting.len(),
-        found.comments.len(),
-    ];
-    let kept = found.kept.as_slice();
-    gather_text(rt, alloc, text, steps, kept, found.ended, numbers)
+    gather_text(rt, alloc, text, steps, &found)
 }
 
 fn tell_canon(rt: &impl Print, alloc: Global, text: &str, steps: &[Step]) -> io::Result<()>
     requires { 0 + length text.now < 2 ^ 32 }
 {
-    match canon(rt, alloc, text, steps)? {
+    let settings = settings();
+    let canon = again!(
+        rt,
+        "refused canonical",
+        canonical(alloc, &settings, text, START, steps)
+    );
+    match canon {
         Canon::Text(text) => println!(rt; "canonical {:?}", text.as_str()),
         Canon::NotClean => println!(rt; "not clean"),
         Canon::TooLong => println!(rt; "too long"),

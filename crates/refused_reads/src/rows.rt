@@ -72,15 +72,10 @@ pub fn opened<'a>(alloc: Global, text: &'a str) -> io::Result<Lexer<'a>> {
     ))
 }
 
-fn enter(alloc: Global, lexer: &mut Lexer) -> Result<(), AllocError> {
+/// A lexer of the text among as many contexts as do not allocate.
+pub fn opened_deep<'a>(alloc: Global, text: &'a str) -> io::Result<Lexer<'a>> {
+    let mut lexer = opened(alloc, text)?;
     lexer.set_token_context(contexts(alloc)?);
-    Ok(())
-}
-
-/// A lexer of [`DEEPER`] among as many contexts as do not allocate.
-pub(crate) fn opened_deep(alloc: Global) -> io::Result<Lexer<'static>> {
-    let mut lexer = opened(alloc, DEEPER)?;
-    enter(alloc, &mut lexer)?;
     Ok(lexer)
 }
 

@@ -1,28 +1,11 @@
 //! What is written of errors and comments.
+use crate::again;
 use ecma_place::{Atom, Spanned};
 use ecma_state::{BufferedComment, BufferedCommentKind};
 use ecma_stream::{Lexer, Tokens};
-use ecma_token::{Error, SyntaxError, TokenAndSpan};
+use ecma_token::{Error, SyntaxError};
 use std::alloc::{AllocError, Global};
-use std::borrow::CowStr;
 use std::io;
-
-fn tell_token(rt: &impl Print, token: &TokenAndSpan) -> io::Result<()> {
-    let span = token.span;
-    println!(rt; "{}..{} {:?}", span.lo.0, span.hi.0, token.token)
-}
-
-/// Writes the token that was answered, if there was one, and says whether there was. It is dropped here, as each
-/// function that drops a token proves how.
-pub(crate) fn tell_answer(rt: &impl Print, answer: Option<TokenAndSpan>) -> io::Result<bool> {
-    match answer {
-        Some(token) => {
-            tell_token(rt, &token)?;
-            Ok(true)
-        }
-        None => Ok(false),
-    }
-}
 
 /// Writes each error, behind what became of it.
 pub fn tell_errors(rt: &impl Print, what: &str, errors: &[Error]) -> io::Result<()> {
@@ -48,30 +31,13 @@ fn add_errors(out: &mut String, what: &str, errors: &[Error]) -> Result<(), Allo
     Ok(())
 }
 
-fn add_recorded(out: &mut String, lexer: &mut Lexer) -> Result<(), AllocError> {
-    add_errors(out, "recorded", lexer.take_errors().as_slice())
-}
-
-fn add_told(out: &mut String, lexer: &mut Lexer) -> Result<(), AllocError> {
-    add_recorded(out, lexer)?;
-    add_errors(out, "waiting", lexer.module_errors())
-}
-
-/// The errors that a lexer has recorded, which are then taken, and those that wait.
-pub fn take_told(alloc: Global, lexer: &mut Lexer) -> Result<String, AllocError> {
+/// The errors that a lexer has recorded, and those that wait. The lexer keeps them.
+pub(crate) fn told(alloc: Global, lexer: &Lexer) -> Result<String, AllocError> {
     let mut out = String::new(alloc);
-    add_told(&mut out, lexer)?;
+    let mut copy = lexer.copy()?;
+    add_errors(&mut out, "recorded", copy.take_errors().as_slice())?;
+    add_errors(&mut out, "waiting", copy.module_errors())?;
     Ok(out)
-}
-
-fn tell_recorded(rt: &impl Print, lexer: &mut Lexer) -> io::Result<()> {
-    tell_errors(rt, "recorded", lexer.take_errors().as_slice())
-}
-
-/// Writes the errors that a lexer has recorded, which are then taken, and those that wait.
-pub(crate) fn tell_taken(rt: &impl Print, lexer: &mut Lexer) -> io::Result<()> {
-    tell_recorded(rt, lexer)?;
-    tell_errors(rt, "waiting", lexer.module_errors())
 }
 
 /// Writes each comment, behind its side and the place of its token.
@@ -87,19 +53,8 @@ pub fn tell_comments(rt: &impl Print, comments: &[BufferedComment]) -> io::Resul
     Ok(())
 }
 
-/// The message of an error, and, where that is refused, again.
-fn message(rt: &impl Print, alloc: Global, error: &SyntaxError) -> io::Result<CowStr<'static>> {
-    match error.msg(alloc) {
-        Ok(message) => Ok(message),
-        Err(_) => {
-            println!(rt; "refused msg")?;
-            Ok(error.msg(alloc)?)
-        }
-    }
-}
-
 fn tell_message(rt: &impl Print, alloc: Global, error: &SyntaxError) -> io::Result<()> {
-    let message = message(rt, alloc, error)?;
+    let message = again!(rt, "refused msg", error.msg(alloc));
     println!(rt; "message {message}")
 }
 
