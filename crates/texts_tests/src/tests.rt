@@ -10,7 +10,7 @@ mod comments;
 mod depths;
 mod errors;
 mod gaps;
-mod listings;
+mod listed;
 mod numbered;
 mod numbers;
 mod pieces;

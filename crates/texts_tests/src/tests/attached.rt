@@ -1,5 +1,5 @@
 //! Rows of the lexer that collects comments: what each comment of a text belongs to.
-use super::listings::assert_listings;
+use super::listed::assert_listings;
 use listing::listing::{COLLECTING, Row};
 use std::test::Fail;
 

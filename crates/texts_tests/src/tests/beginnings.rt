@@ -1,5 +1,5 @@
 //! Beginnings of texts: the text of each row, cut between any two characters, is read to its end.
-use super::listings::{keeps_answers, play};
+use super::listed::{keeps_answers, play};
 use super::{attached, code, errors, gaps, numbers, reader_texts, strings, templates, words};
 use ecma_state::Kept;
 use listing::listing::{COLLECTING, Row, Settings};

@@ -1,5 +1,5 @@
 //! Rows over statements, operators and shebangs.
-use super::listings::assert_listings;
+use super::listed::assert_listings;
 use listing::listing::{FROM_SEVEN, PLAIN, Row, Settings};
 use std::test::Fail;
 

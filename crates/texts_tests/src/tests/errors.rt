@@ -1,5 +1,5 @@
 //! Rows over characters that begin no token.
-use super::listings::assert_listings;
+use super::listed::assert_listings;
 use listing::listing::{PLAIN, Row};
 use std::test::Fail;
 

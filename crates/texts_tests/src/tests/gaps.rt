@@ -1,5 +1,5 @@
 //! Rows over gaps: white space, comments, conflict markers.
-use super::listings::assert_listings;
+use super::listed::assert_listings;
 use listing::listing::{IGNORING, MODULE, PLAIN, Row, TYPES};
 use std::test::Fail;
 

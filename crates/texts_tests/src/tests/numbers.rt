@@ -1,5 +1,5 @@
 //! Rows over numbers.
-use super::listings::assert_listings;
+use super::listed::assert_listings;
 use ecma_syntax::EsVersion;
 use listing::listing::{PLAIN, Row, STANDARD, STRICT, Settings, TS};
 use std::test::Fail;

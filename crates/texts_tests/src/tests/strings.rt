@@ -1,5 +1,5 @@
 //! Rows over strings.
-use super::listings::assert_listings;
+use super::listed::assert_listings;
 use listing::listing::{PLAIN, Row};
 use std::test::Fail;
 

@@ -1,5 +1,5 @@
 //! Rows over templates, and over contexts that a text begins in.
-use super::listings::assert_listings;
+use super::listed::assert_listings;
 use ecma_state::TokenContext;
 use listing::listing::{PLAIN, Row, Settings};
 use std::test::Fail;
