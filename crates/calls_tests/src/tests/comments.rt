@@ -20,7 +20,7 @@ enum Deed {
     Leading(u32, u32, u32),
     /// Adds one that waits for its token.
     Wait(u32, u32, u32),
-    /// Attaches the comments between the end of a token and the start of the next.
+    /// Begins anew with the comments between the end of a token and the start of the next.
     Attach(u32, Option<u32>, &'static [Found]),
     /// Writes the comments that have their token, and takes them.
     Taken,
@@ -70,19 +70,21 @@ fn gathered(alloc: Global, found: &[Found]) -> Result<Vec<(Comment<'static>, boo
     Ok(comments)
 }
 
-fn attach(
+/// A buffer that took in the comments of one read.
+fn attached(
     alloc: Global,
-    buffer: &mut CommentsBuffer<'static>,
     (end, next): (u32, Option<u32>),
     found: &[Found],
-) -> Result<(), AllocError> {
+) -> Result<CommentsBuffer<'static>, AllocError> {
     let around = Around {
         start: BytePos(0),
         end: BytePos(end),
         next: next.map(BytePos),
     };
     let comments = gathered(alloc, found)?;
-    buffer.attach(around, comments, Vec::new(alloc))
+    let mut buffer = CommentsBuffer::new(alloc);
+    buffer.attach(around, comments, Vec::new(alloc))?;
+    Ok(buffer)
 }
 
 fn write_copied(out: &mut String, mut copy: CommentsBuffer) -> Result<(), AllocError> {
@@ -111,7 +113,10 @@ fn act(
         Trailing(pos, lo, hi) => { buffer.push(block(BufferedCommentKind::Trailing, pos, lo, hi)) }
         Leading(pos, lo, hi) => buffer.push(leading(pos, lo, hi)),
         Wait(pos, lo, hi) => buffer.push_pending_leading(leading(pos, lo, hi)),
-        Attach(end, next, found) => attach(alloc, buffer, (end, next), found),
+        Attach(end, next, found) => {
+            *buffer = attached(alloc, (end, next), found)?;
+            Ok(())
+        }
         Taken => write_comments(out, &buffer.take_comments()),
         Waiting => write_comments(out, &buffer.take_pending_leading()),
         Copied => write_copied(out, buffer.copy()?),
