@@ -87,9 +87,24 @@ fn attached(
     Ok(buffer)
 }
 
-fn write_copied(out: &mut String, mut copy: CommentsBuffer) -> Result<(), AllocError> {
-    write_comments(out, &copy.take_comments())?;
-    write_comments(out, &copy.take_pending_leading())
+/// Begins anew with the comments of one read.
+fn attach(
+    alloc: Global,
+    buffer: &mut CommentsBuffer<'static>,
+    places: (u32, Option<u32>),
+    found: &[Found],
+) -> Result<(), AllocError> {
+    *buffer = attached(alloc, places, found)?;
+    Ok(())
+}
+
+fn write_all(out: &mut String, buffer: &mut CommentsBuffer) -> Result<(), AllocError> {
+    write_comments(out, &buffer.take_comments())?;
+    write_comments(out, &buffer.take_pending_leading())
+}
+
+fn write_copied(out: &mut String, buffer: &CommentsBuffer) -> Result<(), AllocError> {
+    write_all(out, &mut buffer.copy()?)
 }
 
 fn write_handed(
@@ -113,13 +128,10 @@ fn act(
         Trailing(pos, lo, hi) => { buffer.push(block(BufferedCommentKind::Trailing, pos, lo, hi)) }
         Leading(pos, lo, hi) => buffer.push(leading(pos, lo, hi)),
         Wait(pos, lo, hi) => buffer.push_pending_leading(leading(pos, lo, hi)),
-        Attach(end, next, found) => {
-            *buffer = attached(alloc, (end, next), found)?;
-            Ok(())
-        }
+        Attach(end, next, found) => attach(alloc, buffer, (end, next), found),
         Taken => write_comments(out, &buffer.take_comments()),
         Waiting => write_comments(out, &buffer.take_pending_leading()),
-        Copied => write_copied(out, buffer.copy()?),
+        Copied => write_copied(out, buffer),
         Room(room) => {
             store.room = room;
             Ok(())

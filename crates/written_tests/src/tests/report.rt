@@ -59,33 +59,69 @@ const MODES: &[(bool, bool, bool)] = &[
 
 /// A row as a JSON object, made as a tree.
 fn object(alloc: Global, file: &str, position: Position, row: Row) -> Result<String, AllocError> {
-    let Position { line, column } = position;
-    let kind = row.kind;
-    let lo = row.span.lo.0;
-    let hi = row.span.hi.0;
-    let text = row.text;
-    let value = match row.more {
+    match row.more {
         // Rows of imports, exports and values are in the table of rows.
         More::Nothing
         | More::Message
         | More::Import(_)
         | More::Export { .. }
-        | More::Valued { .. } => json!(in alloc; {
-            "file": file, "kind": kind, "lo": lo, "hi": hi, "line": line, "column": column, "text": text
-        }),
-        More::LineBreak(flag) => json!(in alloc; {
-            "file": file, "kind": kind, "lo": lo, "hi": hi, "line": line, "column": column, "text": text,
-            "line_break_before": flag
-        }),
+        | More::Valued { .. } => plain_object(alloc, file, position, row),
+        More::LineBreak(flag) => object_with_flag(alloc, file, position, row, flag),
         More::Beside { side, token } => {
-            let token = token.0;
-            json!(in alloc; {
-                "file": file, "kind": kind, "lo": lo, "hi": hi, "line": line, "column": column, "text": text,
-                "side": side, "token": token
-            })
+            object_beside(alloc, file, position, row, (side, token.0))
         }
-    }?;
-    value.to_string(alloc)
+    }
+}
+
+// Each is a tree of its own, since several in one function multiply what there is to prove.
+
+fn plain_object(
+    alloc: Global,
+    file: &str,
+    position: Position,
+    row: Row,
+) -> Result<String, AllocError> {
+    let Position { line, column } = position;
+    let (kind, text) = (row.kind, row.text);
+    let (lo, hi) = (row.span.lo.0, row.span.hi.0);
+    json!(in alloc; {
+        "file": file, "kind": kind, "lo": lo, "hi": hi, "line": line, "column": column, "text": text
+    })?
+    .to_string(alloc)
+}
+
+fn object_with_flag(
+    alloc: Global,
+    file: &str,
+    position: Position,
+    row: Row,
+    flag: bool,
+) -> Result<String, AllocError> {
+    let Position { line, column } = position;
+    let (kind, text) = (row.kind, row.text);
+    let (lo, hi) = (row.span.lo.0, row.span.hi.0);
+    json!(in alloc; {
+        "file": file, "kind": kind, "lo": lo, "hi": hi, "line": line, "column": column, "text": text,
+        "line_break_before": flag
+    })?
+    .to_string(alloc)
+}
+
+fn object_beside(
+    alloc: Global,
+    file: &str,
+    position: Position,
+    row: Row,
+    (side, token): (&str, u32),
+) -> Result<String, AllocError> {
+    let Position { line, column } = position;
+    let (kind, text) = (row.kind, row.text);
+    let (lo, hi) = (row.span.lo.0, row.span.hi.0);
+    json!(in alloc; {
+        "file": file, "kind": kind, "lo": lo, "hi": hi, "line": line, "column": column, "text": text,
+        "side": side, "token": token
+    })?
+    .to_string(alloc)
 }
 
 /// What comes before the text of a row in its line.
