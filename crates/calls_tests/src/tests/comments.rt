@@ -9,9 +9,6 @@ use std::alloc::{AllocError, Global};
 use std::process::Abort;
 use std::test::Fail;
 
-/// A comment of a gap: its kind, where it stands, and whether it is for the next token.
-type Found = (CommentKind, u32, u32, bool);
-
 /// What is done with a buffer, or written of it.
 #[derive(Clone, Copy)]
 enum Deed {
@@ -20,8 +17,6 @@ enum Deed {
     Leading(u32, u32, u32),
     /// Adds one that waits for its token.
     Wait(u32, u32, u32),
-    /// Begins anew with the comments between the end of a token and the start of the next.
-    Attach(u32, Option<u32>, &'static [Found]),
     /// Writes the comments that have their token, and takes them.
     Taken,
     /// The same of those that wait.
@@ -36,7 +31,7 @@ enum Deed {
 }
 
 use CommentKind::{Block, Line};
-use Deed::{Attach, Copied, Hand, Leading, Note, Room, Taken, Trailing, Wait, Waiting};
+use Deed::{Copied, Hand, Leading, Note, Room, Taken, Trailing, Wait, Waiting};
 
 fn comment(kind: CommentKind, lo: u32, hi: u32) -> Comment<'static> {
     Comment {
@@ -59,43 +54,6 @@ fn block(kind: BufferedCommentKind, pos: u32, lo: u32, hi: u32) -> BufferedComme
 
 fn leading(pos: u32, lo: u32, hi: u32) -> BufferedComment<'static> {
     block(BufferedCommentKind::Leading, pos, lo, hi)
-}
-
-/// These comments of one read.
-fn gathered(alloc: Global, found: &[Found]) -> Result<Vec<(Comment<'static>, bool)>, AllocError> {
-    let mut comments = Vec::new(alloc);
-    for (kind, lo, hi, is_for_next) in found {
-        comments.push((comment(*kind, *lo, *hi), *is_for_next))?;
-    }
-    Ok(comments)
-}
-
-/// A buffer that took in the comments of one read.
-fn attached(
-    alloc: Global,
-    (end, next): (u32, Option<u32>),
-    found: &[Found],
-) -> Result<CommentsBuffer<'static>, AllocError> {
-    let around = Around {
-        start: BytePos(0),
-        end: BytePos(end),
-        next: next.map(BytePos),
-    };
-    let comments = gathered(alloc, found)?;
-    let mut buffer = CommentsBuffer::new(alloc);
-    buffer.attach(around, comments, Vec::new(alloc))?;
-    Ok(buffer)
-}
-
-/// Begins anew with the comments of one read.
-fn attach(
-    alloc: Global,
-    buffer: &mut CommentsBuffer<'static>,
-    places: (u32, Option<u32>),
-    found: &[Found],
-) -> Result<(), AllocError> {
-    *buffer = attached(alloc, places, found)?;
-    Ok(())
 }
 
 fn write_all(out: &mut String, buffer: &mut CommentsBuffer) -> Result<(), AllocError> {
@@ -128,7 +86,6 @@ fn act(
         Trailing(pos, lo, hi) => { buffer.push(block(BufferedCommentKind::Trailing, pos, lo, hi)) }
         Leading(pos, lo, hi) => buffer.push(leading(pos, lo, hi)),
         Wait(pos, lo, hi) => buffer.push_pending_leading(leading(pos, lo, hi)),
-        Attach(end, next, found) => attach(alloc, buffer, (end, next), found),
         Taken => write_comments(out, &buffer.take_comments()),
         Waiting => write_comments(out, &buffer.take_pending_leading()),
         Copied => write_copied(out, buffer),
@@ -214,41 +171,84 @@ fn comments_are_kept_until_they_are_taken(rt: HostRuntime) -> Result<(), Fail> {
     assert_rows(&rt, rt.alloc(), KEPT)
 }
 
-/// The end of the token before, the start of the next, and the comments between them in a text from place 0 on.
-const READS: &[Row] = &[
+/// A comment of a gap: its kind, where it stands, and whether it is for the next token.
+type Found = (CommentKind, u32, u32, bool);
+
+/// The end of the token before, the start of the next, the comments between them in a text from place 0 on, and how they
+/// are attached.
+type Read = (u32, Option<u32>, &'static [Found], &'static str);
+
+const READS: &[Read] = &[
     // `/**/a`
     (
-        &[Attach(0, Some(4), &[(Block, 0, 4, true)]), Copied],
+        0,
+        Some(4),
+        &[(Block, 0, 4, true)],
         "leading 4 0..4 Block [t]",
     ),
     // `f() /*a*/ //b`
     (
-        &[
-            Attach(3, None, &[(Block, 4, 9, true), (Line, 10, 13, false)]),
-            Copied,
-        ],
+        3,
+        None,
+        &[(Block, 4, 9, true), (Line, 10, 13, false)],
         "trailing 3 10..13 Line [t]; trailing 3 4..9 Block [t]",
     ),
     // `a; /*b*/ c`
     (
-        &[Attach(2, Some(9), &[(Block, 3, 8, false)]), Copied],
+        2,
+        Some(9),
+        &[(Block, 3, 8, false)],
         "trailing 2 3..8 Block [t]",
     ),
     // `/*a*/`
-    (
-        &[Attach(0, None, &[(Block, 0, 5, true)]), Copied],
-        "leading 0 0..5 Block [t]",
-    ),
+    (0, None, &[(Block, 0, 5, true)], "leading 0 0..5 Block [t]"),
     // `#!x`, LF, `//c`
-    (
-        &[Attach(3, None, &[(Line, 4, 7, true)]), Copied],
-        "trailing 3 4..7 Line [t]",
-    ),
+    (3, None, &[(Line, 4, 7, true)], "trailing 3 4..7 Line [t]"),
 ];
+
+/// These comments of one read.
+fn gathered(alloc: Global, found: &[Found]) -> Result<Vec<(Comment<'static>, bool)>, AllocError> {
+    let mut comments = Vec::new(alloc);
+    for (kind, lo, hi, is_for_next) in found {
+        comments.push((comment(*kind, *lo, *hi), *is_for_next))?;
+    }
+    Ok(comments)
+}
+
+/// A buffer that took in the comments of one read.
+fn attached(
+    alloc: Global,
+    (end, next): (u32, Option<u32>),
+    found: &[Found],
+) -> Result<CommentsBuffer<'static>, AllocError> {
+    let around = Around {
+        start: BytePos(0),
+        end: BytePos(end),
+        next: next.map(BytePos),
+    };
+    let comments = gathered(alloc, found)?;
+    let mut buffer = CommentsBuffer::new(alloc);
+    buffer.attach(around, comments, Vec::new(alloc))?;
+    Ok(buffer)
+}
+
+fn attached_listing(
+    alloc: Global,
+    places: (u32, Option<u32>),
+    found: &[Found],
+) -> Result<String, AllocError> {
+    let mut out = String::new(alloc);
+    write_all(&mut out, &mut attached(alloc, places, found)?)?;
+    Ok(out)
+}
 
 #[test]
 fn comments_of_a_read_find_their_tokens(rt: HostRuntime) -> Result<(), Fail> {
-    assert_rows(&rt, rt.alloc(), READS)
+    for (end, next, found, expected) in READS {
+        let listing = attached_listing(rt.alloc(), (*end, *next), found)?;
+        assert_text(&rt, listing.as_str(), expected);
+    }
+    Ok(())
 }
 
 /// Three comments, and one that waits, which is not handed over.
