@@ -3,7 +3,7 @@ use super::rows::assert_text;
 use ecma_span::{Atom, BytePos, Comment, CommentKind, Span};
 use ecma_state::attachment::Around;
 use ecma_state::{BufferedComment, BufferedCommentKind, CommentsBuffer};
-use listing::listing::{write_comments, write_note};
+use listing::listing::{write_comment, write_comments, write_note};
 use listing::store::Store;
 use std::alloc::{AllocError, Global};
 use std::process::Abort;
@@ -169,6 +169,20 @@ const KEPT: &[Row] = &[
 #[test]
 fn comments_are_kept_until_they_are_taken(rt: HostRuntime) -> Result<(), Fail> {
     assert_rows(&rt, rt.alloc(), KEPT)
+}
+
+/// A copy of a comment, written.
+fn copied_listing(alloc: Global, comment: &BufferedComment) -> Result<String, AllocError> {
+    let mut out = String::new(alloc);
+    write_comment(&mut out, &comment.copy(alloc)?)?;
+    Ok(out)
+}
+
+#[test]
+fn a_copied_comment_is_the_same(rt: HostRuntime) -> Result<(), Fail> {
+    let listing = copied_listing(rt.alloc(), &leading(20, 10, 15))?;
+    assert_text(&rt, listing.as_str(), "leading 20 10..15 Block [t]");
+    Ok(())
 }
 
 /// A comment of a gap: its kind, where it stands, and whether it is for the next token.
