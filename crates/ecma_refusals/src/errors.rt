@@ -4,7 +4,7 @@ use ecma_stream::{Lexer, Tokens};
 use ecma_token::{Error, SyntaxError};
 use refused_reads::again;
 use refused_reads::rows::{module, opened};
-use std::alloc::{AllocError, Global};
+use std::alloc::Global;
 use std::io;
 
 /// So many are added that a list grows more than once.

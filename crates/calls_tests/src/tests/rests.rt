@@ -1,10 +1,10 @@
 //! The rest of a text is read as in the whole text, from each token on; also from checkpoints that don't fit it, or are of a lexer
 //! that went on before.
-use super::rows::{Row, assert_acted, assert_rows, assert_text};
+use super::rows::{Row, assert_acted, assert_rows};
 use acting::acting::acted;
 use acting::command::Command::{
-    self, Copy, Forge, Go, Open, Read, Resume, ResumeRest, ResumeWhole, Save, Swap, TakeFound,
-    WriteAll, WriteRest,
+    self, Copy, Forge, Go, Read, Resume, ResumeRest, ResumeWhole, Save, Swap, TakeFound, WriteAll,
+    WriteRest,
 };
 use acting::command::Forgery::{self, At, Opened, Reread};
 use ecma_resuming::begin_of;
