@@ -5,7 +5,9 @@
 //! that a token or a comment holds stand in brackets, with `owned` before those that aren't borrowed.
 use crate::store::Store;
 use ecma_place::{Atom, BytePos, Span, Spanned, StringInput};
-use ecma_state::{BufferedComment, BufferedCommentKind, TokenContext, TokenContexts};
+use ecma_state::{
+    BufferedComment, BufferedCommentKind, Settings as LexerSettings, TokenContext, TokenContexts,
+};
 use ecma_stream::{Lexer, Tokens, hand_comments};
 use ecma_syntax::{Context, EsSyntax, EsVersion, IdentLike, NumberRule, Syntax, TsSyntax, Word};
 use ecma_token::{Error, Token, TokenAndSpan};
@@ -90,7 +92,7 @@ pub const FROM_SEVEN: Settings = Settings {
 pub type Row = (Settings, &'static str, &'static str);
 
 /// The language of the text, with every option off that the settings don't name.
-pub fn syntax(settings: Settings) -> Syntax {
+fn syntax(settings: Settings) -> Syntax {
     if settings.ts {
         Syntax::Typescript(TsSyntax {
             tsx: settings.jsx,
@@ -111,6 +113,16 @@ pub fn flags(settings: Settings) -> Context {
         in_type: settings.in_type,
         ignore_error: settings.ignores_errors,
         ..Context::default()
+    }
+}
+
+/// The settings of a lexer.
+pub fn lexer_settings(settings: Settings) -> LexerSettings {
+    LexerSettings {
+        syntax: syntax(settings),
+        target: settings.target,
+        comments: settings.collects_comments,
+        numbers: settings.numbers,
     }
 }
 

@@ -1,6 +1,6 @@
 //! Going back to a checkpoint leaves a lexer as it was there, and all ahead of it too.
-use super::rows::assert_acted;
-use acting::command::Command::{self, Allow, Flags, Go, PopContext, Read, Reread, Save, Withdraw};
+use super::rows::assert_written;
+use driver::command::Command::{self, Allow, Flags, Go, PopContext, Read, Reread, Save, Withdraw};
 use listing::listing::{COLLECTING, IGNORING, MODULE, PLAIN, STRICT, Settings, TYPES};
 use std::alloc::{AllocError, Global};
 use std::process::Abort;
@@ -140,7 +140,7 @@ fn twice(
 fn assert_rows(rt: &impl Abort, alloc: Global, rows: &[Row]) -> Result<(), Fail> {
     for (settings, text, before, between) in rows {
         let commands = twice(alloc, before, between)?;
-        assert_acted(rt, alloc, (*settings, text), &commands, "back; back")?;
+        assert_written(rt, alloc, (*settings, text), &commands, "back; back")?;
     }
     Ok(())
 }

@@ -1,5 +1,5 @@
 //! Checkpoints as bytes.
-use acting::doing::read_times;
+use driver::calls::read_times;
 use ecma_stored::{decode, encode};
 use ecma_stream::{Checkpoint, Lexer};
 use listing::listing::{FROM_SEVEN, PLAIN, Settings, opened};

@@ -9,9 +9,9 @@ use std::alloc::{AllocError, Global};
 use std::process::Abort;
 use std::test::Fail;
 
-/// What is done with a buffer, or written of it.
+/// A call of a buffer, or something written of it.
 #[derive(Clone, Copy)]
-enum Deed {
+enum Command {
     /// Adds a block that belongs to a token at that place, and where it stands.
     Trailing(u32, u32, u32),
     Leading(u32, u32, u32),
@@ -30,8 +30,8 @@ enum Deed {
     Note(&'static str),
 }
 
+use Command::{Copied, Hand, Leading, Note, Room, Taken, Trailing, Wait, Waiting};
 use CommentKind::{Block, Line};
-use Deed::{Copied, Hand, Leading, Note, Room, Taken, Trailing, Wait, Waiting};
 
 fn comment(kind: CommentKind, lo: u32, hi: u32) -> Comment<'static> {
     Comment {
@@ -56,6 +56,10 @@ fn leading(pos: u32, lo: u32, hi: u32) -> BufferedComment<'static> {
     block(BufferedCommentKind::Leading, pos, lo, hi)
 }
 
+fn trailing(pos: u32, lo: u32, hi: u32) -> BufferedComment<'static> {
+    block(BufferedCommentKind::Trailing, pos, lo, hi)
+}
+
 fn write_all(out: &mut String, buffer: &mut CommentsBuffer) -> Result<(), AllocError> {
     write_comments(out, &buffer.take_comments())?;
     write_comments(out, &buffer.take_pending_leading())
@@ -75,15 +79,15 @@ fn write_handed(
     write_comments(out, store.given.as_slice())
 }
 
-fn act(
+fn run_one(
     alloc: Global,
     out: &mut String,
     buffer: &mut CommentsBuffer<'static>,
     store: &mut Store<'static>,
-    deed: Deed,
+    command: Command,
 ) -> Result<(), AllocError> {
-    match deed {
-        Trailing(pos, lo, hi) => { buffer.push(block(BufferedCommentKind::Trailing, pos, lo, hi)) }
+    match command {
+        Trailing(pos, lo, hi) => buffer.push(trailing(pos, lo, hi)),
         Leading(pos, lo, hi) => buffer.push(leading(pos, lo, hi)),
         Wait(pos, lo, hi) => buffer.push_pending_leading(leading(pos, lo, hi)),
         Taken => write_comments(out, &buffer.take_comments()),
@@ -98,77 +102,86 @@ fn act(
     }
 }
 
-fn act_all(
+fn run_all(
     alloc: Global,
     out: &mut String,
     buffer: &mut CommentsBuffer<'static>,
-    deeds: &[Deed],
+    commands: &[Command],
 ) -> Result<(), AllocError> {
     let mut store = Store::new(alloc, 0);
-    for deed in deeds {
-        act(alloc, out, buffer, &mut store, *deed)?;
+    for command in commands {
+        run_one(alloc, out, buffer, &mut store, *command)?;
     }
     Ok(())
 }
 
-fn acted(alloc: Global, deeds: &[Deed]) -> Result<String, AllocError> {
+fn run(alloc: Global, commands: &[Command]) -> Result<String, AllocError> {
     let mut out = String::new(alloc);
-    act_all(alloc, &mut out, &mut CommentsBuffer::new(alloc), deeds)?;
+    run_all(alloc, &mut out, &mut CommentsBuffer::new(alloc), commands)?;
     Ok(out)
 }
 
 /// What is done, and what that writes.
-type Row = (&'static [Deed], &'static str);
+type Row = (&'static [Command], &'static str);
 
 fn assert_rows(rt: &impl Abort, alloc: Global, rows: &[Row]) -> Result<(), Fail> {
-    for (deeds, expected) in rows {
-        assert_text(rt, acted(alloc, deeds)?.as_str(), expected);
+    for (commands, expected) in rows {
+        assert_text(rt, run(alloc, commands)?.as_str(), expected);
     }
     Ok(())
 }
 
-const KEPT: &[Row] = &[
-    // In order, and once.
-    (
-        &[
-            Trailing(3, 4, 9),
-            Leading(20, 10, 15),
-            Taken,
-            Note("again"),
-            Taken,
-        ],
-        "trailing 3 4..9 Block [t]; leading 20 10..15 Block [t]; again",
-    ),
-    // Those that wait are taken by themselves.
-    (
-        &[
-            Wait(0, 1, 5),
-            Trailing(6, 7, 11),
-            Wait(0, 12, 16),
-            Waiting,
-            Note("again"),
-            Waiting,
-            Taken,
-        ],
-        "leading 0 1..5 Block [t]; leading 0 12..16 Block [t]; again; trailing 6 7..11 Block [t]",
-    ),
-    (
-        &[
-            Trailing(3, 4, 9),
-            Wait(0, 10, 15),
-            Copied,
-            Note("original"),
-            Taken,
-            Waiting,
-        ],
-        "trailing 3 4..9 Block [t]; leading 0 10..15 Block [t]; \
-         original; trailing 3 4..9 Block [t]; leading 0 10..15 Block [t]",
-    ),
-];
+const IN_ORDER: &[Row] = &[(
+    &[
+        Trailing(3, 4, 9),
+        Leading(20, 10, 15),
+        Taken,
+        Note("again"),
+        Taken,
+    ],
+    "trailing 3 4..9 Block [t]; leading 20 10..15 Block [t]; again",
+)];
 
 #[test]
-fn comments_are_kept_until_they_are_taken(rt: HostRuntime) -> Result<(), Fail> {
-    assert_rows(&rt, rt.alloc(), KEPT)
+fn comments_are_taken_in_order(rt: HostRuntime) -> Result<(), Fail> {
+    assert_rows(&rt, rt.alloc(), IN_ORDER)
+}
+
+const WAIT: &[Row] = &[(
+    &[
+        Wait(0, 1, 5),
+        Trailing(6, 7, 11),
+        Wait(0, 12, 16),
+        Waiting,
+        Note("again"),
+        Waiting,
+        Taken,
+    ],
+    "leading 0 1..5 Block [t]; leading 0 12..16 Block [t]; again; trailing 6 7..11 Block [t]",
+)];
+
+#[test]
+fn waiting_comments_are_taken_by_themselves(rt: HostRuntime) -> Result<(), Fail> {
+    assert_rows(&rt, rt.alloc(), WAIT)
+}
+
+/// What a copy has is taken from there alone.
+const COPIED: &[Row] = &[(
+    &[
+        Trailing(3, 4, 9),
+        Wait(0, 10, 15),
+        Copied,
+        Note("original"),
+        Taken,
+        Waiting,
+    ],
+    "trailing 3 4..9 Block [t]; leading 0 10..15 Block [t]; \
+     original; trailing 3 4..9 Block [t]; leading 0 10..15 Block [t]",
+)];
+
+#[test]
+fn a_copy_of_comments_is_its_own(rt: HostRuntime) -> Result<(), Fail> {
+    assert_rows(&rt, rt.alloc(), COPIED)
 }
 
 /// A copy of a comment, written.
@@ -180,8 +193,8 @@ fn copied_listing(alloc: Global, comment: &BufferedComment) -> Result<String, Al
 
 #[test]
 fn a_copied_comment_is_the_same(rt: HostRuntime) -> Result<(), Fail> {
-    let listing = copied_listing(rt.alloc(), &leading(20, 10, 15))?;
-    assert_text(&rt, listing.as_str(), "leading 20 10..15 Block [t]");
+    let listing = copied_listing(rt.alloc(), &trailing(3, 4, 9))?;
+    assert_text(&rt, listing.as_str(), "trailing 3 4..9 Block [t]");
     Ok(())
 }
 
@@ -266,47 +279,51 @@ fn comments_of_a_read_find_their_tokens(rt: HostRuntime) -> Result<(), Fail> {
 }
 
 /// Three comments, and one that waits, which is not handed over.
-const HANDED: &[Row] = &[
-    (
-        &[
-            Trailing(3, 4, 9),
-            Leading(20, 10, 15),
-            Trailing(25, 26, 31),
-            Wait(40, 32, 37),
-            Room(9),
-            Hand,
-            Hand,
-            Note("left"),
-            Copied,
-        ],
-        "handed; trailing 3 4..9 Block [t]; leading 20 10..15 Block [t]; trailing 25 26..31 Block [t]; \
-         handed; trailing 3 4..9 Block [t]; leading 20 10..15 Block [t]; trailing 25 26..31 Block [t]; \
-         left; leading 40 32..37 Block [t]",
-    ),
-    // Comments from a refused one on are kept.
-    (
-        &[
-            Trailing(3, 4, 9),
-            Leading(20, 10, 15),
-            Trailing(25, 26, 31),
-            Wait(40, 32, 37),
-            Room(1),
-            Hand,
-            Note("left"),
-            Copied,
-            Room(3),
-            Hand,
-            Note("left"),
-            Copied,
-        ],
-        "refused; trailing 3 4..9 Block [t]; \
-         left; leading 20 10..15 Block [t]; trailing 25 26..31 Block [t]; leading 40 32..37 Block [t]; \
-         handed; trailing 3 4..9 Block [t]; leading 20 10..15 Block [t]; trailing 25 26..31 Block [t]; \
-         left; leading 40 32..37 Block [t]",
-    ),
-];
+const HANDED: &[Row] = &[(
+    &[
+        Trailing(3, 4, 9),
+        Leading(20, 10, 15),
+        Trailing(25, 26, 31),
+        Wait(40, 32, 37),
+        Room(9),
+        Hand,
+        Hand,
+        Note("left"),
+        Copied,
+    ],
+    "handed; trailing 3 4..9 Block [t]; leading 20 10..15 Block [t]; trailing 25 26..31 Block [t]; \
+     handed; trailing 3 4..9 Block [t]; leading 20 10..15 Block [t]; trailing 25 26..31 Block [t]; \
+     left; leading 40 32..37 Block [t]",
+)];
 
 #[test]
 fn comments_are_handed_over_once_and_in_order(rt: HostRuntime) -> Result<(), Fail> {
     assert_rows(&rt, rt.alloc(), HANDED)
+}
+
+/// The same, where the store has room for one at first.
+const REFUSED: &[Row] = &[(
+    &[
+        Trailing(3, 4, 9),
+        Leading(20, 10, 15),
+        Trailing(25, 26, 31),
+        Wait(40, 32, 37),
+        Room(1),
+        Hand,
+        Note("left"),
+        Copied,
+        Room(3),
+        Hand,
+        Note("left"),
+        Copied,
+    ],
+    "refused; trailing 3 4..9 Block [t]; \
+     left; leading 20 10..15 Block [t]; trailing 25 26..31 Block [t]; leading 40 32..37 Block [t]; \
+     handed; trailing 3 4..9 Block [t]; leading 20 10..15 Block [t]; trailing 25 26..31 Block [t]; \
+     left; leading 40 32..37 Block [t]",
+)];
+
+#[test]
+fn comments_from_a_refused_one_on_are_kept(rt: HostRuntime) -> Result<(), Fail> {
+    assert_rows(&rt, rt.alloc(), REFUSED)
 }

@@ -1,6 +1,6 @@
 //! Copies of a lexer, and going back to one.
 use super::rows::{Row, assert_rows};
-use acting::command::Command::{self, Copy, Note, Swap, Write, WriteAll, WriteRecorded, WriteRest};
+use driver::command::Command::{self, Copy, Note, Swap, Write, WriteAll, WriteRecorded, WriteRest};
 use listing::listing::{COLLECTING, PLAIN};
 use std::test::Fail;
 

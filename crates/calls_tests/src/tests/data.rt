@@ -1,12 +1,11 @@
 //! Checkpoints as data of serde.
 use super::bytes::checkpoint_behind;
 use super::rows::assert_text;
-use acting::stage::lexer_settings;
-use acting::writing::write_all;
+use driver::writing::write_all;
 use ecma_resuming::resume;
 use ecma_stored::StoredCheckpoint;
 use ecma_stream::{Checkpoint, Lexer};
-use listing::listing::PLAIN;
+use listing::listing::{PLAIN, lexer_settings};
 use std::alloc::{AllocError, Global};
 use std::process::Abort;
 use std::test::Fail;

@@ -1,6 +1,6 @@
 //! How deep the contexts of a lexer are behind its tokens, and what it says of its settings.
-use super::rows::{Row, assert_acted, assert_rows};
-use acting::command::Command::{
+use super::rows::{Row, assert_rows, assert_written};
+use driver::command::Command::{
     Allow, PopContext, Read, WriteAll, WriteContext, WriteDepths, WriteRecorded,
 };
 use ecma_span::BytePos;
@@ -10,26 +10,30 @@ use listing::listing::{FROM_SEVEN, PLAIN, opened};
 use std::alloc::{AllocError, Global};
 use std::test::Fail;
 
-const DEPTHS: &[Row] = &[
-    (
-        PLAIN,
-        "x=function(){}",
-        &[WriteDepths],
-        "0..1 lf name [x] (1); 1..2 - AssignOp(Assign) (1); 2..10 - keyword function (2); 10..11 - LParen (3); \
-         11..12 - RParen (2); 12..13 - LBrace (3); 13..14 - RBrace (1)",
-    ),
-    // In no context, where no expression may begin. A function begins one there.
-    (
-        PLAIN,
-        "} function",
-        &[PopContext, Allow(false), WriteDepths, WriteContext],
-        "0..1 lf RBrace (0); 2..10 - keyword function (1); contexts 1 Some(FnExpr)",
-    ),
-];
+const DEPTHS: &[Row] = &[(
+    PLAIN,
+    "x=function(){}",
+    &[WriteDepths],
+    "0..1 lf name [x] (1); 1..2 - AssignOp(Assign) (1); 2..10 - keyword function (2); 10..11 - LParen (3); \
+     11..12 - RParen (2); 12..13 - LBrace (3); 13..14 - RBrace (1)",
+)];
 
 #[test]
 fn contexts_go_by_the_tokens(rt: HostRuntime) -> Result<(), Fail> {
     assert_rows(&rt, rt.alloc(), DEPTHS)
+}
+
+/// In no context, where no expression may begin. A function begins one there.
+const OUTSIDE: &[Row] = &[(
+    PLAIN,
+    "} function",
+    &[PopContext, Allow(false), WriteDepths, WriteContext],
+    "0..1 lf RBrace (0); 2..10 - keyword function (1); contexts 1 Some(FnExpr)",
+)];
+
+#[test]
+fn contexts_may_be_none(rt: HostRuntime) -> Result<(), Fail> {
+    assert_rows(&rt, rt.alloc(), OUTSIDE)
 }
 
 fn push_times(all: &mut String, text: &str, times: usize) -> Result<(), AllocError> {
@@ -51,7 +55,7 @@ fn nested(alloc: Global) -> Result<String, AllocError> {
 #[test]
 fn contexts_may_be_many(rt: HostRuntime) -> Result<(), Fail> {
     let text = nested(rt.alloc())?;
-    assert_acted(
+    assert_written(
         &rt,
         rt.alloc(),
         (PLAIN, text.as_str()),
@@ -104,7 +108,7 @@ fn empty_texts_stand_alone(rt: HostRuntime) -> Result<(), Fail> {
     push_times(&mut text, "`${", 1000)?;
     let expected = openings(rt.alloc())?;
     let commands = [WriteAll, WriteRecorded];
-    assert_acted(
+    assert_written(
         &rt,
         rt.alloc(),
         (PLAIN, text.as_str()),

@@ -1,6 +1,6 @@
 //! What becomes of errors that wait, and of those of the layer above.
 use super::rows::{Row, assert_rows};
-use acting::command::Command::{
+use driver::command::Command::{
     AddError, AddModuleError, Flags, Write, WriteCode, WriteRecorded, WriteRest,
 };
 use listing::listing::{IGNORING, MODULE, PLAIN};

@@ -1,7 +1,7 @@
 //! Checkpoints that no lexer made.
-use super::rows::assert_acted;
-use acting::command::Command::{self, Forge, Go, Read, Save, WriteAll, WriteRest};
-use acting::command::Forgery::{
+use super::rows::assert_written;
+use driver::command::Command::{self, Forge, Go, Read, Save, WriteAll, WriteRest};
+use driver::command::Forgery::{
     self, Answered, At, Comments, Opened, Recorded, Reread, Start, Waiting,
 };
 use listing::listing::COLLECTING;
@@ -35,7 +35,7 @@ const REFUSED: &[(usize, Forgery)] = &[
 fn places_and_counts_are_looked_at(rt: HostRuntime) -> Result<(), Fail> {
     for (reads, forgery) in REFUSED {
         let commands = [Read(*reads), Save, Forge(*forgery), Go(0)];
-        assert_acted(&rt, rt.alloc(), (COLLECTING, TEXT), &commands, "stayed")?;
+        assert_written(&rt, rt.alloc(), (COLLECTING, TEXT), &commands, "stayed")?;
     }
     Ok(())
 }
@@ -72,7 +72,7 @@ const WENT: &[(Forgery, &str)] = &[
 fn a_checkpoint_that_fits_is_gone_to(rt: HostRuntime) -> Result<(), Fail> {
     for (forgery, expected) in WENT {
         let commands = [Read(2), Save, Forge(*forgery), Go(0), WriteAll, WriteRest];
-        assert_acted(&rt, rt.alloc(), (COLLECTING, TEXT), &commands, expected)?;
+        assert_written(&rt, rt.alloc(), (COLLECTING, TEXT), &commands, expected)?;
     }
     Ok(())
 }

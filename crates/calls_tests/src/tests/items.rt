@@ -1,6 +1,6 @@
 //! The lexer as an iterator.
 use super::rows::{Row, assert_rows};
-use acting::command::Command::{Write, WriteItems};
+use driver::command::Command::{Write, WriteItems};
 use listing::listing::PLAIN;
 use std::test::Fail;
 

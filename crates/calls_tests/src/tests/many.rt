@@ -1,7 +1,7 @@
 //! More contexts, comments and errors than stand in one place.
-use super::rows::{assert_acted, assert_text};
-use acting::acting::acted;
-use acting::command::Command::{self, Go, Read, Save};
+use super::rows::{assert_text, assert_written};
+use driver::command::Command::{self, Go, Read, Save};
+use driver::run::run;
 use listing::listing::{COLLECTING, PLAIN, STRICT, Settings};
 use std::alloc::{AllocError, Global};
 use std::process::Abort;
@@ -79,7 +79,7 @@ fn assert_back(
         Read(between),
         Go(0),
     ];
-    assert_acted(rt, alloc, (settings, text), &commands, "back; back")
+    assert_written(rt, alloc, (settings, text), &commands, "back; back")
 }
 
 fn assert_rows(rt: &impl Abort, alloc: Global, rows: &[Row]) -> Result<(), Fail> {
@@ -128,7 +128,7 @@ fn words(alloc: Global, count: usize) -> Result<String, AllocError> {
 /// What is written where a lexer goes to so many checkpoints.
 fn stacked(alloc: Global, text: &str, count: usize) -> Result<String, AllocError> {
     let commands = stack(alloc, count)?;
-    acted(alloc, COLLECTING, text, &commands)
+    run(alloc, COLLECTING, text, &commands)
 }
 
 #[test]

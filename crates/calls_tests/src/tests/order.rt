@@ -1,6 +1,6 @@
 //! Several checkpoints of one lexer, in any order.
 use super::rows::{Row, assert_rows};
-use acting::command::Command::{self, Go, Hand, Save, Store, Write, WriteRest};
+use driver::command::Command::{self, Go, Hand, Save, Store, Write, WriteRest};
 use listing::listing::{COLLECTING, PLAIN};
 use std::test::Fail;
 

@@ -1,6 +1,6 @@
 //! Checkpoints of other lexers.
 use super::rows::{Row, assert_rows};
-use acting::command::Command::{Go, Open, Read, Reread, Save, WriteAll};
+use driver::command::Command::{Go, Open, Read, Reread, Save, WriteAll};
 use ecma_place::{BytePos, StringInput};
 use ecma_stream::{Checkpoint, Lexer};
 use listing::listing::{FROM_SEVEN, PLAIN, opened};

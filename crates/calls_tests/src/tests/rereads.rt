@@ -1,6 +1,6 @@
 //! Reading again from a slash, as a regular expression.
 use super::rows::{Row, assert_rows};
-use acting::command::Command::{Copy, Reread, Swap, Withdraw, WriteRest, WriteSlashes};
+use driver::command::Command::{Copy, Reread, Swap, Withdraw, WriteRest, WriteSlashes};
 use listing::listing::PLAIN;
 use std::test::Fail;
 

@@ -1,12 +1,12 @@
 //! The rest of a text is read as in the whole text, from each token on; also from checkpoints that don't fit it, or are of a lexer
 //! that went on before.
-use super::rows::{Row, assert_acted, assert_rows};
-use acting::acting::acted;
-use acting::command::Command::{
+use super::rows::{Row, assert_rows, assert_written};
+use driver::command::Command::{
     self, Copy, Forge, Go, Read, Resume, ResumeRest, ResumeWhole, Save, Swap, TakeFound, WriteAll,
     WriteRest,
 };
-use acting::command::Forgery::{self, At, Opened, Reread};
+use driver::command::Forgery::{self, At, Opened, Reread};
+use driver::run::run;
 use ecma_resuming::begin_of;
 use ecma_stream::Lexer;
 use listing::listing::{COLLECTING, FROM_SEVEN, MODULE, PLAIN, STRICT, Settings, TS, opened};
@@ -59,7 +59,7 @@ fn rests_are_read(rt: HostRuntime) -> Result<(), Fail> {
             WriteAll,
             WriteRest,
         ];
-        assert_acted(&rt, rt.alloc(), (*settings, text), &commands, expected)?;
+        assert_written(&rt, rt.alloc(), (*settings, text), &commands, expected)?;
     }
     Ok(())
 }
@@ -89,7 +89,7 @@ fn wanted(
     (settings, text): (Settings, &str),
     reads: usize,
 ) -> Result<String, AllocError> {
-    acted(
+    run(
         alloc,
         settings,
         text,
@@ -107,7 +107,7 @@ fn assert_resumed(
 ) -> Result<(), AllocError> {
     for resumed in [ResumeRest, ResumeWhole] {
         let commands = [Read(reads), TakeFound, Save, resumed, WriteAll, WriteRest];
-        assert_acted(rt, alloc, text, &commands, wanted)?;
+        assert_written(rt, alloc, text, &commands, wanted)?;
     }
     Ok(())
 }
@@ -166,7 +166,7 @@ fn checkpoints_that_do_not_fit_are_not_gone_on_from(rt: HostRuntime) -> Result<(
             WriteAll,
             WriteRest,
         ];
-        assert_acted(&rt, rt.alloc(), (PLAIN, "a / b"), &commands, expected)?;
+        assert_written(&rt, rt.alloc(), (PLAIN, "a / b"), &commands, expected)?;
     }
     Ok(())
 }

@@ -1,6 +1,6 @@
 //! What the tests share: rows of commands.
-use acting::acting::acted;
-use acting::command::Command;
+use driver::command::Command;
+use driver::run::run;
 use listing::listing::Settings;
 use std::alloc::{AllocError, Global};
 use std::process::Abort;
@@ -15,21 +15,21 @@ pub fn assert_text(rt: &impl Abort, found: &str, expected: &str) {
 }
 
 /// The commands write this.
-pub fn assert_acted(
+pub fn assert_written(
     rt: &impl Abort,
     alloc: Global,
     (settings, text): (Settings, &str),
     commands: &[Command],
     expected: &str,
 ) -> Result<(), AllocError> {
-    let found = acted(alloc, settings, text, commands)?;
+    let found = run(alloc, settings, text, commands)?;
     assert_text(rt, found.as_str(), expected);
     Ok(())
 }
 
 pub fn assert_rows(rt: &impl Abort, alloc: Global, rows: &[Row]) -> Result<(), Fail> {
     for (settings, text, commands, expected) in rows {
-        assert_acted(rt, alloc, (*settings, text), commands, expected)?;
+        assert_written(rt, alloc, (*settings, text), commands, expected)?;
     }
     Ok(())
 }

@@ -1,6 +1,6 @@
 //! Tokens that are read into a slot.
 use super::rows::{Row, assert_rows};
-use acting::command::Command::WriteSlots;
+use driver::command::Command::WriteSlots;
 use listing::listing::PLAIN;
 use std::test::Fail;
 

@@ -1,6 +1,6 @@
 //! Errors and comments that are taken between a checkpoint and going back to it.
 use super::rows::{Row, assert_rows};
-use acting::command::Command::{Flags, Go, Hand, Read, Save, Store, TakeErrors, WriteRest};
+use driver::command::Command::{Flags, Go, Hand, Read, Save, Store, TakeErrors, WriteRest};
 use listing::listing::{COLLECTING, MODULE, PLAIN};
 use std::test::Fail;
 

@@ -199,9 +199,9 @@ const ROWS: &[Row] = &[
     (127, 70, 70, Some(2001)),
 ];
 
-/// What is done with a buffer. The first has the number 0, and a copy the next that is free.
+/// A call of a buffer.
 #[derive(Clone, Copy)]
-enum Deed {
+enum Command {
     /// Adds the comments that the row has before the copy.
     Begin,
     Copy,
@@ -219,31 +219,36 @@ enum Deed {
     Drop,
 }
 
-type Command = (usize, Deed);
+/// The number of a buffer, and what is called of it. The first buffer has the number 0, and a copy the next that is free.
+type Numbered = (usize, Command);
 
 /// Does what is done with a buffer, and says whether it has its comments where these are taken or handed over.
-fn is_done(all: &mut Vec<Both>, row: &Row, (number, deed): Command) -> Result<bool, AllocError> {
+fn is_done(
+    all: &mut Vec<Both>,
+    row: &Row,
+    (number, command): Numbered,
+) -> Result<bool, AllocError> {
     let Some(both) = all.get_mut(number) else {
         return Ok(false);
     };
-    match deed {
-        Deed::Take => return Ok(both.takes()),
-        Deed::Hand(room) => return both.hands_over(room),
-        Deed::Begin => both.push(0, row.0)?,
-        Deed::GoOn => both.push(1000, row.1)?,
-        Deed::GoOnAsCopy => both.push(2000, row.2)?,
-        Deed::Push(from, count) => both.push(from, count)?,
-        Deed::Copy => {
+    match command {
+        Command::Take => return Ok(both.takes()),
+        Command::Hand(room) => return both.hands_over(room),
+        Command::Begin => both.push(0, row.0)?,
+        Command::GoOn => both.push(1000, row.1)?,
+        Command::GoOnAsCopy => both.push(2000, row.2)?,
+        Command::Push(from, count) => both.push(from, count)?,
+        Command::Copy => {
             let copy = both.copy()?;
             all.push(copy)?;
         }
-        Deed::Drop => all.truncate(number),
+        Command::Drop => all.truncate(number),
     }
     Ok(true)
 }
 
 /// Whether all is done, and each buffer has its comments.
-fn are_done(all: &mut Vec<Both>, row: &Row, commands: &[Command]) -> Result<bool, AllocError> {
+fn are_done(all: &mut Vec<Both>, row: &Row, commands: &[Numbered]) -> Result<bool, AllocError> {
     let alloc = *all.allocator();
     all.clear();
     all.push(Both {
@@ -259,7 +264,7 @@ fn are_done(all: &mut Vec<Both>, row: &Row, commands: &[Command]) -> Result<bool
     Ok(true)
 }
 
-fn assert_rows(rt: &impl Abort, alloc: Global, commands: &[Command]) -> Result<(), Fail> {
+fn assert_rows(rt: &impl Abort, alloc: Global, commands: &[Numbered]) -> Result<(), Fail> {
     let mut all = Vec::new(alloc);
     for row in ROWS {
         assert!(rt; are_done(&mut all, row, commands)?);
@@ -268,22 +273,22 @@ fn assert_rows(rt: &impl Abort, alloc: Global, commands: &[Command]) -> Result<(
 }
 
 /// The comments of the copy are taken first, or last.
-const COPY_FIRST: &[Command] = &[
-    (0, Deed::Begin),
-    (0, Deed::Copy),
-    (0, Deed::GoOn),
-    (1, Deed::GoOnAsCopy),
-    (1, Deed::Take),
-    (0, Deed::Take),
+const COPY_FIRST: &[Numbered] = &[
+    (0, Command::Begin),
+    (0, Command::Copy),
+    (0, Command::GoOn),
+    (1, Command::GoOnAsCopy),
+    (1, Command::Take),
+    (0, Command::Take),
 ];
 
-const COPY_LAST: &[Command] = &[
-    (0, Deed::Begin),
-    (0, Deed::Copy),
-    (0, Deed::GoOn),
-    (1, Deed::GoOnAsCopy),
-    (0, Deed::Take),
-    (1, Deed::Take),
+const COPY_LAST: &[Numbered] = &[
+    (0, Command::Begin),
+    (0, Command::Copy),
+    (0, Command::GoOn),
+    (1, Command::GoOnAsCopy),
+    (0, Command::Take),
+    (1, Command::Take),
 ];
 
 #[test]
@@ -293,18 +298,18 @@ fn a_buffer_and_its_copy_have_their_own_comments(rt: HostRuntime) -> Result<(), 
 }
 
 /// A copy of the copy has its comments, and then the copy has, to which one was added since, and the buffer.
-const THREE: &[Command] = &[
-    (0, Deed::Begin),
-    (0, Deed::Copy),
-    (0, Deed::GoOn),
-    (1, Deed::GoOnAsCopy),
-    (1, Deed::Copy),
-    (1, Deed::Push(3000, 1)),
-    (2, Deed::Push(4000, 65)),
-    (2, Deed::Take),
-    (1, Deed::Take),
-    (1, Deed::Drop),
-    (0, Deed::Take),
+const THREE: &[Numbered] = &[
+    (0, Command::Begin),
+    (0, Command::Copy),
+    (0, Command::GoOn),
+    (1, Command::GoOnAsCopy),
+    (1, Command::Copy),
+    (1, Command::Push(3000, 1)),
+    (2, Command::Push(4000, 65)),
+    (2, Command::Take),
+    (1, Command::Take),
+    (1, Command::Drop),
+    (0, Command::Take),
 ];
 
 #[test]
@@ -313,28 +318,28 @@ fn a_copy_of_a_copy_has_its_own_comments(rt: HostRuntime) -> Result<(), Fail> {
 }
 
 /// What was taken is gone, and the buffer and its copy then have their comments as new ones would.
-const TWICE: &[Command] = &[
-    (0, Deed::Begin),
-    (0, Deed::Copy),
-    (0, Deed::GoOn),
-    (1, Deed::GoOnAsCopy),
-    (0, Deed::Take),
-    (0, Deed::Take),
-    (0, Deed::Begin),
-    (0, Deed::Copy),
-    (0, Deed::GoOn),
-    (2, Deed::GoOnAsCopy),
-    (0, Deed::Take),
-    (2, Deed::Take),
-    (2, Deed::Drop),
-    (1, Deed::Take),
-    (1, Deed::Take),
-    (1, Deed::Begin),
-    (1, Deed::Copy),
-    (1, Deed::GoOn),
-    (2, Deed::GoOnAsCopy),
-    (1, Deed::Take),
-    (2, Deed::Take),
+const TWICE: &[Numbered] = &[
+    (0, Command::Begin),
+    (0, Command::Copy),
+    (0, Command::GoOn),
+    (1, Command::GoOnAsCopy),
+    (0, Command::Take),
+    (0, Command::Take),
+    (0, Command::Begin),
+    (0, Command::Copy),
+    (0, Command::GoOn),
+    (2, Command::GoOnAsCopy),
+    (0, Command::Take),
+    (2, Command::Take),
+    (2, Command::Drop),
+    (1, Command::Take),
+    (1, Command::Take),
+    (1, Command::Begin),
+    (1, Command::Copy),
+    (1, Command::GoOn),
+    (2, Command::GoOnAsCopy),
+    (1, Command::Take),
+    (2, Command::Take),
 ];
 
 #[test]
@@ -343,20 +348,20 @@ fn a_buffer_begins_anew_when_its_comments_are_taken(rt: HostRuntime) -> Result<(
 }
 
 /// Of each, a store that is full at 100 comments gets the first, and another the rest with those that were added since.
-const HANDED: &[Command] = &[
-    (0, Deed::Begin),
-    (0, Deed::Copy),
-    (0, Deed::GoOn),
-    (1, Deed::GoOnAsCopy),
-    (1, Deed::Hand(100)),
-    (1, Deed::Push(5000, 130)),
-    (1, Deed::Hand(1000)),
-    (1, Deed::Take),
-    (1, Deed::Drop),
-    (0, Deed::Hand(100)),
-    (0, Deed::Push(5000, 130)),
-    (0, Deed::Hand(1000)),
-    (0, Deed::Take),
+const HANDED: &[Numbered] = &[
+    (0, Command::Begin),
+    (0, Command::Copy),
+    (0, Command::GoOn),
+    (1, Command::GoOnAsCopy),
+    (1, Command::Hand(100)),
+    (1, Command::Push(5000, 130)),
+    (1, Command::Hand(1000)),
+    (1, Command::Take),
+    (1, Command::Drop),
+    (0, Command::Hand(100)),
+    (0, Command::Push(5000, 130)),
+    (0, Command::Hand(1000)),
+    (0, Command::Take),
 ];
 
 #[test]

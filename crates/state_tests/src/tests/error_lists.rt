@@ -38,7 +38,7 @@ fn error_at<'a>(alloc: Global, place: u32) -> Result<Error<'a>, AllocError> {
 
 /// What is done with lists of errors.
 #[derive(Clone, Copy)]
-enum Deed {
+enum Command {
     /// Adds an error at a place to those that are recorded.
     Record(u32),
     /// Adds one to those that wait.
@@ -79,79 +79,82 @@ fn stand(list: &ErrorList, places: &[u32]) -> bool {
     list.len() == places.len() && list.is_empty() == places.is_empty()
 }
 
-/// Whether the errors stand where the deed says, when it is done.
-fn is_done(alloc: Global, lists: &mut ErrorLists, deed: Deed) -> Result<bool, AllocError> {
-    match deed {
-        Deed::Record(place) => added(lists.recorded.push(error_at(alloc, place)?))?,
-        Deed::Wait(place) => added(lists.waiting.push(error_at(alloc, place)?))?,
-        Deed::Append => lists.recorded.append(&mut lists.waiting)?,
-        Deed::Truncate(count) => lists.recorded.truncate(count),
-        Deed::TakeEach(code) => take_each(alloc, lists, &context(code))?,
-        Deed::Enter(code) => lists.enter(&context(code))?,
-        Deed::Has(recorded, waiting) => {
+/// Whether the errors stand where the command says, when it is done.
+fn is_done(alloc: Global, lists: &mut ErrorLists, command: Command) -> Result<bool, AllocError> {
+    match command {
+        Command::Record(place) => added(lists.recorded.push(error_at(alloc, place)?))?,
+        Command::Wait(place) => added(lists.waiting.push(error_at(alloc, place)?))?,
+        Command::Append => lists.recorded.append(&mut lists.waiting)?,
+        Command::Truncate(count) => lists.recorded.truncate(count),
+        Command::TakeEach(code) => take_each(alloc, lists, &context(code))?,
+        Command::Enter(code) => lists.enter(&context(code))?,
+        Command::Has(recorded, waiting) => {
             return Ok(stand(&lists.recorded, recorded) && stand(&lists.waiting, waiting));
         }
     }
     Ok(true)
 }
 
-fn assert_deeds(rt: &impl Abort, alloc: Global, deeds: &[Deed]) -> Result<(), Fail> {
+fn assert_commands(rt: &impl Abort, alloc: Global, commands: &[Command]) -> Result<(), Fail> {
     let mut lists = ErrorLists::new(alloc);
-    for (number, deed) in deeds.iter().enumerate() {
-        assert!(rt; is_done(alloc, &mut lists, *deed)?, "deed {number}");
+    for (number, command) in commands.iter().enumerate() {
+        assert!(rt; is_done(alloc, &mut lists, *command)?, "command {number}");
     }
     Ok(())
 }
 
-const ORDER: &[Deed] = &[
-    Deed::Has(&[], &[]),
-    Deed::Record(1),
-    Deed::Record(2),
-    Deed::Has(&[1, 2], &[]),
-    Deed::Truncate(1),
-    Deed::Has(&[1], &[]),
+const ORDER: &[Command] = &[
+    Command::Has(&[], &[]),
+    Command::Record(1),
+    Command::Record(2),
+    Command::Has(&[1, 2], &[]),
+    Command::Truncate(1),
+    Command::Has(&[1], &[]),
 ];
 
 #[test]
 fn errors_stand_in_order(rt: HostRuntime) -> Result<(), Fail> {
-    assert_deeds(&rt, rt.alloc(), ORDER)
+    assert_commands(&rt, rt.alloc(), ORDER)
 }
 
-const APPENDED: &[Deed] = &[
-    Deed::Record(1),
-    Deed::Wait(3),
-    Deed::Append,
-    Deed::Has(&[1, 3], &[]),
+const APPENDED: &[Command] = &[
+    Command::Record(1),
+    Command::Wait(3),
+    Command::Append,
+    Command::Has(&[1, 3], &[]),
 ];
 
 #[test]
 fn a_list_takes_in_another(rt: HostRuntime) -> Result<(), Fail> {
-    assert_deeds(&rt, rt.alloc(), APPENDED)
+    assert_commands(&rt, rt.alloc(), APPENDED)
 }
 
-const PLAIN: &[Deed] = &[Deed::TakeEach(Code::Plain), Deed::Has(&[1], &[2, 3])];
+const PLAIN: &[Command] = &[Command::TakeEach(Code::Plain), Command::Has(&[1], &[2, 3])];
 
-const STRICT: &[Deed] = &[Deed::TakeEach(Code::Strict), Deed::Has(&[1, 2], &[3])];
+const STRICT: &[Command] = &[Command::TakeEach(Code::Strict), Command::Has(&[1, 2], &[3])];
 
-const IGNORING: &[Deed] = &[Deed::TakeEach(Code::Ignoring), Deed::Has(&[], &[2, 3])];
+const IGNORING: &[Command] = &[
+    Command::TakeEach(Code::Ignoring),
+    Command::Has(&[], &[2, 3]),
+];
 
 #[test]
 fn faults_are_recorded_wait_or_are_dropped(rt: HostRuntime) -> Result<(), Fail> {
     let alloc = rt.alloc();
-    assert_deeds(&rt, alloc, PLAIN)?;
-    assert_deeds(&rt, alloc, STRICT)?;
-    assert_deeds(&rt, alloc, IGNORING)
+    assert_commands(&rt, alloc, PLAIN)?;
+    assert_commands(&rt, alloc, STRICT)?;
+    assert_commands(&rt, alloc, IGNORING)
 }
 
-const ENTERED: &[Deed] = &[
-    Deed::TakeEach(Code::Plain),
-    Deed::Enter(Code::Plain),
-    Deed::Has(&[1], &[2, 3]),
-    Deed::Enter(Code::Module),
-    Deed::Has(&[1, 2, 3], &[]),
+const ENTERED: &[Command] = &[
+    Command::TakeEach(Code::Plain),
+    Command::Enter(Code::Plain),
+    Command::Has(&[1], &[2, 3]),
+    Command::Enter(Code::Module),
+    Command::Has(&[1, 2, 3], &[]),
 ];
 
 #[test]
 fn what_waits_is_recorded_in_module_code(rt: HostRuntime) -> Result<(), Fail> {
-    assert_deeds(&rt, rt.alloc(), ENTERED)
+    assert_commands(&rt, rt.alloc(), ENTERED)
 }

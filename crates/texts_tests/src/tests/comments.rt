@@ -1,10 +1,9 @@
 //! The comments so far.
-use super::told::lexer_settings;
 use ecma_place::{BytePos, StringInput};
 use ecma_reader::Reader;
 use ecma_slashes::Slashes;
 use ecma_syntax::Context;
-use listing::listing::COLLECTING;
+use listing::listing::{COLLECTING, lexer_settings};
 use std::alloc::{AllocError, Global};
 use std::test::Fail;
 

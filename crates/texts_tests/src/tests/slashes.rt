@@ -1,14 +1,14 @@
 //! Rows of slashes that are read by the flag, and by their places.
 use super::canonical::{NOT_CLEAN, canon_told};
 use super::texts::{Case, assert_read, in_order, steps_told, tokenized};
-use super::told::{Way, assert_text, lexer_settings, replay_told};
+use super::told::{Way, assert_text, replay_told};
 use ecma_place::{BytePos, StringInput};
 use ecma_slashes::Slashes::{At, ByFlag};
 use ecma_slashes::{Lexer, Slashes, ascend, read_by, read_by_flag, steps_by_flag};
 use ecma_state::{Kept, Step};
 use ecma_syntax::{AssignOp, BinOpToken, Context};
 use ecma_token::TokenKind;
-use listing::listing::{PLAIN, opened};
+use listing::listing::{PLAIN, lexer_settings, opened};
 use std::alloc::{AllocError, Global};
 use std::process::Abort;
 use std::test::Fail;

@@ -3,12 +3,12 @@ ghost use Rattle.std.specs.Prelude.{◌≡◌, true};
 ghost use Rattle.ecma_slashes.specs.Rereads.{is_in_order, rule_of};
 
 use super::agreement::{SCRIPT, TEXTS};
-use super::told::{assert_text, gather_told, lexer_settings, write_gathered, write_left};
+use super::told::{assert_text, gather_told, write_gathered, write_left};
 use ecma_place::{BytePos, Spanned, StringInput};
 use ecma_reader::{LexOutput, Outcome, ReadOut, Reader, read_out, tokenize};
 use ecma_slashes::{Slashes, ascend, steps_by};
 use ecma_token::Error;
-use listing::listing::{Settings, flags, write_note};
+use listing::listing::{Settings, flags, lexer_settings, write_note};
 use std::alloc::{AllocError, Global};
 use std::process::Abort;
 use std::test::Fail;

@@ -6,9 +6,11 @@
 use ecma_place::{BytePos, StringInput};
 use ecma_replay::{Answer, Gathered, Replay, gather, replay};
 use ecma_slashes::count_rereads;
-use ecma_state::{BufferedComment, Kept, Settings as LexerSettings, Step};
+use ecma_state::{BufferedComment, Kept, Step};
 use ecma_token::Error;
-use listing::listing::{Settings, syntax, write_comments, write_errors, write_note, write_token};
+use listing::listing::{
+    Settings, lexer_settings, write_comments, write_errors, write_note, write_token,
+};
 use replay_model::replay_by_copies;
 use std::alloc::{AllocError, Global};
 use std::process::Abort;
@@ -104,16 +106,6 @@ fn write_replay(
     }
     write_left(out, recorded, waiting, &found.comments, found.ended)?;
     write_kept(out, &found.kept)
-}
-
-/// The settings of a lexer.
-pub(super) fn lexer_settings(settings: Settings) -> LexerSettings {
-    LexerSettings {
-        syntax: syntax(settings),
-        target: settings.target,
-        comments: settings.collects_comments,
-        numbers: settings.numbers,
-    }
 }
 
 /// What the steps over a text come to.

@@ -1,6 +1,6 @@
 //! Going back.
-use super::acting::Command::{Go, GoToCopy, Open, Read, Save, Write, WriteAll};
-use super::rows::{MOST, assert_acted, assert_unchanged};
+use super::driver::Command::{Go, GoToCopy, Open, Read, Save, Write, WriteAll};
+use super::rows::{MOST, assert_unchanged, assert_written};
 use listing::listing::PLAIN;
 use std::test::Fail;
 
@@ -28,7 +28,7 @@ fn checkpoints_are_gone_to_in_any_order(rt: HostRuntime) -> Result<(), Fail> {
         GoToCopy(0),
         WriteAll,
     ];
-    assert_acted(
+    assert_written(
         &rt,
         rt.alloc(),
         (PLAIN, "a = b / c / d"),
@@ -42,7 +42,7 @@ fn checkpoints_are_gone_to_in_any_order(rt: HostRuntime) -> Result<(), Fail> {
 #[test]
 fn it_stays_where_a_checkpoint_is_of_no_place(rt: HostRuntime) -> Result<(), Fail> {
     let commands = [Read(5), Save, Open(PLAIN, "a b"), Go(0), WriteAll];
-    assert_acted(
+    assert_written(
         &rt,
         rt.alloc(),
         (PLAIN, "a b c d e f"),

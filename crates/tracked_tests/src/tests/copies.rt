@@ -1,5 +1,5 @@
 //! Copies.
-use super::acting::Command::{Copy, Read, Swap};
+use super::driver::Command::{Copy, Read, Swap};
 use super::rows::assert_unchanged;
 use super::tracking::TOKENS;
 use std::test::Fail;

@@ -1,7 +1,7 @@
 //! What is read of a text, and what is expected in it. What is expected of slashes is what ECMA-262 and TypeScript's grammar
 //! say, as their parsers do.
-use super::acting::Command::{Strict, Write, WriteAll, WriteExpected, WriteItems};
-use super::rows::{Row, assert_acted, assert_rows};
+use super::driver::Command::{Strict, Write, WriteAll, WriteExpected, WriteItems};
+use super::rows::{Row, assert_rows, assert_written};
 use listing::listing::{MODULE, PLAIN, TS};
 use std::test::Fail;
 
@@ -62,6 +62,6 @@ fn it_says_what_is_expected(rt: HostRuntime) -> Result<(), Fail> {
 fn flags_are_set_between_tokens(rt: HostRuntime) -> Result<(), Fail> {
     let text = "a = /b/ / c";
     let commands = [Write(1), Strict, WriteAll];
-    assert_acted(&rt, rt.alloc(), (PLAIN, text), &commands, text)?;
+    assert_written(&rt, rt.alloc(), (PLAIN, text), &commands, text)?;
     Ok(())
 }

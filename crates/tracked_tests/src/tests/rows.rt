@@ -1,6 +1,6 @@
 //! What the tests share: rows of texts, and what commands write of them.
-use super::acting::Command::{self, Write, WriteAll};
-use super::acting::acted;
+use super::driver::Command::{self, Write, WriteAll};
+use super::driver::run;
 use listing::listing::{COLLECTING, MODULE, PLAIN, Settings, TS};
 use std::alloc::{AllocError, Global};
 use std::process::Abort;
@@ -15,14 +15,14 @@ pub fn assert_found(rt: &impl Abort, text: &str, found: &str, expected: &str) {
 }
 
 /// The commands write this.
-pub fn assert_acted(
+pub fn assert_written(
     rt: &impl Abort,
     alloc: Global,
     (settings, text): (Settings, &str),
     commands: &[Command],
     expected: &str,
 ) -> Result<(), AllocError> {
-    let found = acted(alloc, settings, text, commands)?;
+    let found = run(alloc, settings, text, commands)?;
     assert_found(rt, text, found.as_str(), expected);
     Ok(())
 }
@@ -35,7 +35,7 @@ pub fn assert_rows(
     commands: &[Command],
 ) -> Result<(), Fail> {
     for (settings, text, expected) in rows {
-        assert_acted(rt, alloc, (*settings, text), commands, expected)?;
+        assert_written(rt, alloc, (*settings, text), commands, expected)?;
     }
     Ok(())
 }

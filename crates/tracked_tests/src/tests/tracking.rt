@@ -1,29 +1,32 @@
 //! Tracked lexers over the texts of rows, and what is written of what they read and expect.
 use ecma_place::{BytePos, Span, StringInput};
-use ecma_state::Settings;
 use ecma_stream::Tokens;
 use ecma_syntax::Context;
 use ecma_token::TokenAndSpan;
 use ecma_tracked::Tracked;
-use listing::listing::{Settings as Row, flags, syntax};
+use listing::listing::{Settings, flags, lexer_settings};
 use std::alloc::{AllocError, Global};
 
 /// More tokens than any row has.
 pub const TOKENS: usize = 60;
 
 /// Before the first token of a text.
-pub fn opened<'a>(alloc: Global, settings: Row, text: &'a str) -> Result<Tracked<'a>, AllocError> {
+pub fn opened<'a>(
+    alloc: Global,
+    settings: Settings,
+    text: &'a str,
+) -> Result<Tracked<'a>, AllocError> {
     let start = BytePos(0);
     if !StringInput::fits(text, start) {
         return Err(AllocError);
     }
-    let read_by = Settings {
-        syntax: syntax(settings),
-        target: settings.target,
-        comments: settings.collects_comments,
-        numbers: settings.numbers,
-    };
-    Tracked::new(alloc, &read_by, flags(settings), text, start)
+    Tracked::new(
+        alloc,
+        &lexer_settings(settings),
+        flags(settings),
+        text,
+        start,
+    )
 }
 
 /// Has strict code begin behind the token that was read last.

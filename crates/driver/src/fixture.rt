@@ -1,11 +1,12 @@
-//! The lexers, checkpoints and comments of a row.
+//! The lexers, checkpoints and comments that the commands of a row work on.
 use crate::command::{Forgery, forge};
 use crate::writing::ahead;
 use ecma_place::{BytePos, StringInput};
 use ecma_resuming::{begin_of, resume};
-use ecma_state::settings::Settings as LexerSettings;
 use ecma_stream::{Checkpoint, Lexer, hand_comments};
-use listing::listing::{PLAIN, Settings, opened, set_flags, syntax, write_comments, write_note};
+use listing::listing::{
+    PLAIN, Settings, lexer_settings, opened, set_flags, write_comments, write_note,
+};
 use listing::store::Store;
 use std::alloc::{AllocError, Global};
 use std::mem;
@@ -17,9 +18,9 @@ pub struct Saved {
     ahead: String,
 }
 
-/// What commands act on.
+/// What commands work on.
 #[derive(Drop)]
-pub struct Stage<'a> {
+pub struct Fixture<'a> {
     settings: Settings,
     text: &'a str,
     pub lexer: Lexer<'a>,
@@ -34,16 +35,6 @@ fn begun<'a>(alloc: Global, settings: Settings, text: &'a str) -> Result<Lexer<'
     let mut lexer = opened(alloc, settings, text)?;
     set_flags(&mut lexer, settings)?;
     Ok(lexer)
-}
-
-/// The settings of a lexer.
-pub fn lexer_settings(settings: Settings) -> LexerSettings {
-    LexerSettings {
-        syntax: syntax(settings),
-        target: settings.target,
-        comments: settings.collects_comments,
-        numbers: settings.numbers,
-    }
 }
 
 /// The rest of a text that a lexer goes on over from a checkpoint.
@@ -98,9 +89,13 @@ fn write_gone_to(
     write_note(out, words)
 }
 
-impl<'a> Stage<'a> {
-    pub fn new(alloc: Global, settings: Settings, text: &'a str) -> Result<Stage<'a>, AllocError> {
-        Ok(Stage {
+impl<'a> Fixture<'a> {
+    pub fn new(
+        alloc: Global,
+        settings: Settings,
+        text: &'a str,
+    ) -> Result<Fixture<'a>, AllocError> {
+        Ok(Fixture {
             settings,
             text,
             lexer: begun(alloc, settings, text)?,

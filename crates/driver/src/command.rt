@@ -1,4 +1,4 @@
-//! What is done with a lexer, as tables of tests hold it.
+//! The commands that tables of tests hold.
 use ecma_place::{BytePos, Span};
 use ecma_state::kept::{Kept, Seen};
 use ecma_stream::Checkpoint;
@@ -6,7 +6,7 @@ use ecma_syntax::BinOpToken;
 use ecma_token::TokenKind;
 use listing::listing::Settings;
 
-/// What is done with the lexer that stands there, or written of it.
+/// A call of the row's lexer, or something written of it.
 #[derive(Clone, Copy)]
 pub enum Command {
     /// Reads so many tokens.

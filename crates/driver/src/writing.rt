@@ -1,4 +1,4 @@
-//! What is written of a lexer.
+//! Writes what a lexer shows.
 use ecma_slot::Slot;
 use ecma_stream::{Lexer, Tokens};
 use ecma_token::TokenAndSpan;

@@ -1,4 +1,4 @@
-//! What is done with a lexer.
+//! Calls of a lexer that commands stand for.
 use ecma_place::{BytePos, Span};
 use ecma_stream::{Lexer, Tokens};
 use ecma_token::{Error, SyntaxError};

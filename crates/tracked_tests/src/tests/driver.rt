@@ -1,4 +1,4 @@
-//! What is done with a tracked lexer, command by command, and what is written of it, for rows of tests.
+//! Runs commands over a tracked lexer and writes what they show, for rows of tests.
 use super::tracking::{
     TOKENS, begin_strict, opened, read_some, write_expected, write_items, write_part, write_some,
 };
@@ -7,7 +7,7 @@ use listing::listing::Settings;
 use std::alloc::{AllocError, Global};
 use std::mem;
 
-/// What is done with the tracked lexer that stands there, or written of it.
+/// A call of the row's tracked lexer, or something written of it.
 #[derive(Clone, Copy)]
 pub enum Command {
     /// Reads so many tokens.
@@ -37,9 +37,9 @@ pub enum Command {
     GoToCopy(usize),
 }
 
-/// What commands act on.
+/// What commands work on.
 #[derive(Drop)]
-struct Stage<'a> {
+struct Fixture<'a> {
     text: &'a str,
     tracked: Tracked<'a>,
     /// The copy that was made last.
@@ -60,9 +60,9 @@ fn write_gone(
     }
 }
 
-impl<'a> Stage<'a> {
-    fn new(alloc: Global, settings: Settings, text: &'a str) -> Result<Stage<'a>, AllocError> {
-        Ok(Stage {
+impl<'a> Fixture<'a> {
+    fn new(alloc: Global, settings: Settings, text: &'a str) -> Result<Fixture<'a>, AllocError> {
+        Ok(Fixture {
             text,
             tracked: opened(alloc, settings, text)?,
             other: None,
@@ -106,7 +106,12 @@ impl<'a> Stage<'a> {
         }
     }
 
-    fn act(&mut self, alloc: Global, out: &mut String, command: Command) -> Result<(), AllocError> {
+    fn run_one(
+        &mut self,
+        alloc: Global,
+        out: &mut String,
+        command: Command,
+    ) -> Result<(), AllocError> {
         match command {
             Command::Read(times) => read_some(&mut self.tracked, times),
             Command::Strict => begin_strict(&mut self.tracked),
@@ -127,27 +132,27 @@ impl<'a> Stage<'a> {
     }
 }
 
-fn act_all(
+fn run_all(
     alloc: Global,
     out: &mut String,
-    stage: &mut Stage,
+    fixture: &mut Fixture,
     commands: &[Command],
 ) -> Result<(), AllocError> {
     for command in commands {
-        stage.act(alloc, out, *command)?;
+        fixture.run_one(alloc, out, *command)?;
     }
     Ok(())
 }
 
 /// What the commands write of a tracked lexer over a text.
-pub fn acted(
+pub fn run(
     alloc: Global,
     settings: Settings,
     text: &str,
     commands: &[Command],
 ) -> Result<String, AllocError> {
     let mut out = String::new(alloc);
-    let mut stage = Stage::new(alloc, settings, text)?;
-    act_all(alloc, &mut out, &mut stage, commands)?;
+    let mut fixture = Fixture::new(alloc, settings, text)?;
+    run_all(alloc, &mut out, &mut fixture, commands)?;
     Ok(out)
 }

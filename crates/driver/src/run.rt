@@ -1,7 +1,7 @@
-//! What commands come to.
+//! Runs commands, and answers what they write.
+use crate::calls::{add_error, add_module_error, read_times, reread};
 use crate::command::Command;
-use crate::doing::{add_error, add_module_error, read_times, reread};
-use crate::stage::Stage;
+use crate::fixture::Fixture;
 use crate::writing::{
     write_all, write_context, write_depths, write_items, write_slashes, write_slots, write_some,
 };
@@ -25,7 +25,7 @@ fn set(lexer: &mut Lexer, command: Command) {
     }
 }
 
-fn act_on(
+fn run_on_lexer(
     alloc: Global,
     out: &mut String,
     lexer: &mut Lexer,
@@ -55,56 +55,56 @@ fn act_on(
 }
 
 /// Does what is done with the store of comments.
-fn act_on_store(
+fn run_on_store(
     alloc: Global,
     out: &mut String,
-    stage: &mut Stage,
+    fixture: &mut Fixture,
     command: Command,
 ) -> Result<(), AllocError> {
     match command {
-        Command::Store(room) => stage.begin_store(alloc, room),
-        Command::Room(room) => stage.give_room(room),
-        Command::Hand => stage.write_handed(out)?,
-        Command::WriteStore => stage.write_store(out)?,
-        _ => act_on(alloc, out, &mut stage.lexer, command)?,
+        Command::Store(room) => fixture.begin_store(alloc, room),
+        Command::Room(room) => fixture.give_room(room),
+        Command::Hand => fixture.write_handed(out)?,
+        Command::WriteStore => fixture.write_store(out)?,
+        _ => run_on_lexer(alloc, out, &mut fixture.lexer, command)?,
     }
     Ok(())
 }
 
-fn act(
+fn run_one(
     alloc: Global,
     out: &mut String,
-    stage: &mut Stage,
+    fixture: &mut Fixture,
     command: Command,
 ) -> Result<(), AllocError> {
     match command {
-        Command::Copy => stage.copy(),
-        Command::Open(settings, text) => stage.open(alloc, settings, text),
-        Command::Save => stage.save(alloc),
-        Command::Go(number) => stage.write_gone(alloc, out, number),
-        Command::Resume(rest) => stage.resume(alloc, out, rest),
-        Command::ResumeRest => stage.resume_rest(alloc, out),
-        Command::ResumeWhole => stage.resume_whole(alloc, out),
+        Command::Copy => fixture.copy(),
+        Command::Open(settings, text) => fixture.open(alloc, settings, text),
+        Command::Save => fixture.save(alloc),
+        Command::Go(number) => fixture.write_gone(alloc, out, number),
+        Command::Resume(rest) => fixture.resume(alloc, out, rest),
+        Command::ResumeRest => fixture.resume_rest(alloc, out),
+        Command::ResumeWhole => fixture.resume_whole(alloc, out),
         Command::Swap => {
-            stage.swap();
+            fixture.swap();
             Ok(())
         }
         Command::Forge(forgery) => {
-            stage.forge(forgery);
+            fixture.forge(forgery);
             Ok(())
         }
-        _ => act_on_store(alloc, out, stage, command),
+        _ => run_on_store(alloc, out, fixture, command),
     }
 }
 
-fn act_all(
+fn run_all(
     alloc: Global,
     out: &mut String,
-    stage: &mut Stage,
+    fixture: &mut Fixture,
     commands: &[Command],
 ) -> Result<(), AllocError> {
     for command in commands {
-        act(alloc, out, stage, *command)?;
+        run_one(alloc, out, fixture, *command)?;
     }
     Ok(())
 }
@@ -114,14 +114,14 @@ fn act_all(
 /// # Errors
 ///
 /// `AllocError` where there is no memory.
-pub fn acted(
+pub fn run(
     alloc: Global,
     settings: Settings,
     text: &str,
     commands: &[Command],
 ) -> Result<String, AllocError> {
     let mut out = String::new(alloc);
-    let mut stage = Stage::new(alloc, settings, text)?;
-    act_all(alloc, &mut out, &mut stage, commands)?;
+    let mut fixture = Fixture::new(alloc, settings, text)?;
+    run_all(alloc, &mut out, &mut fixture, commands)?;
     Ok(out)
 }
