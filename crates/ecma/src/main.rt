@@ -24,7 +24,7 @@ use crate::source::{STANDARD_INPUT, read};
 use crate::watched::Watched;
 use clap::ArgMatches;
 use ecma_command::words::{
-    Among, Asked, Chosen, Face, Named, command, has_jsx, is_by_flag, slash_places,
+    Among, Asked, Chosen, Named, command, has_jsx, is_by_flag, slash_places,
 };
 use ecma_faces::telling::tell;
 use ecma_report::report::{Report, Stop};
@@ -65,11 +65,6 @@ enum Ended {
     Closed(u8),
 }
 
-/// Whether there is no canonical text though nothing is wrong.
-fn is_too_long(report: &Report) -> bool {
-    report.asked.face == Face::Canonical && report.is_faulty && report.faults.is_empty()
-}
-
 /// Writes what is asked for of a text, and its faults.
 fn tell_text<'t>(rt: &HostRuntime, job: Job<'t>, name: &'t str, text: &'t str) -> Ended
     requires { length text.now < 2 ^ 32 }
@@ -80,7 +75,9 @@ fn tell_text<'t>(rt: &HostRuntime, job: Job<'t>, name: &'t str, text: &'t str) -
     let told = tell(&mut report, job.named, &mut out);
     job.progress.clear(rt);
     match told {
-        Ok(()) if is_too_long(&report) => Ended::Status(refuse(rt, name, TOO_LONG)),
+        Ok(()) if report.is_too_long && !report.is_faulty => Ended::Status(refuse(
+            rt, name, TOO_LONG,
+        )),
         Ok(()) => {
             let status = if report.is_faulty { FAULTY } else { 0 };
             Ended::Status(send(&mut rt.stderr(), status, &report.faults))

@@ -15,7 +15,7 @@ use Rattle.ecma_laws.proofs.KeptSpans.{AllLie, LiesIn, kept_lie}
 use Rattle.ecma_replay.specs.Replay.{Gathers, Replays}
 use Rattle.ecma_replay.specs.declared.gathered.Gathered.{Gathered}
 use Rattle.ecma_replay.specs.declared.replayed.Replay.{Replay}
-use Rattle.ecma_canonical.specs.Joined.{StandsIn}
+use Rattle.ecma_joined.specs.Joined.{StandsIn}
 
 stands : (input : Cursor) (t : SpannedView) → LiesIn input t.span → StandsIn input (kept_of t)
 stands input t lies = record { from = lies.from; to = lies.to; in_order = lies.in_order }

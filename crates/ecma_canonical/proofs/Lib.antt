@@ -1,4 +1,3 @@
 pub mod CleanLemmas
-pub mod JoinedLemmas
 pub mod KeptPlaces
 pub mod WatchLemmas

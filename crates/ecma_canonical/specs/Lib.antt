@@ -1,3 +1,2 @@
 pub mod Canonical
-pub mod Joined
 pub mod Watching

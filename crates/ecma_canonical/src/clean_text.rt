@@ -12,10 +12,10 @@ ghost use Rattle.ecma_clean.specs.Clean as clean;
 ghost use Rattle.ecma_clean.specs.Sharing.{IsReadCleanly, begin};
 ghost use Rattle.ecma_replay.specs.Replay.{Replays};
 ghost use Rattle.ecma_canonical.specs.Canonical.{IsCanon};
-ghost use Rattle.ecma_canonical.specs.Joined.{StandsIn};
+ghost use Rattle.ecma_joined.specs.Joined.{StandsIn};
 
-use crate::joined::canonical_text;
 use crate::watch::steps_are_clean;
+use ecma_joined::canonical_text;
 use ecma_place::{BytePos, StringInput};
 use ecma_replay::{Replay, replay};
 use ecma_state::error_list::ErrorList;
@@ -84,7 +84,7 @@ pub(crate) fn canon_of_clean(
 
 /// The canonical text of a list of steps over a text that starts at a place.
 ///
-/// Where the run is clean this is [`canonical_text`](crate::joined::canonical_text) of the tokens that it keeps; and the run
+/// Where the run is clean this is [`canonical_text`](ecma_joined::canonical_text) of the tokens that it keeps; and the run
 /// of that text, under the same settings, start place and steps, is clean, its tokens agree with the first ones in kind,
 /// characters and flag, and its canonical text is that text.
 ///

@@ -17,9 +17,9 @@ use Rattle.ecma_state.specs.declared.kept.Kept.{Kept}
 use Rattle.ecma_clean.specs.Canonical.{Own, canonical_behind, canonical_of, own_in}
 use Rattle.ecma_clean.specs.Clean.{ends_clean}
 use Rattle.ecma_clean.specs.Sharing.{canonical_text_of}
-use Rattle.ecma_canonical.specs.Joined.{StandsIn, between_behind}
+use Rattle.ecma_joined.specs.Joined.{StandsIn, between_behind}
 use Rattle.ecma_canonical.proofs.CleanLemmas.{all-reversed, mapped-empty, text-fits, text-too_long}
-use Rattle.ecma_canonical.proofs.JoinedLemmas.{between_bytes}
+use Rattle.ecma_joined.proofs.JoinedLemmas.{between_bytes}
 use Rattle.ecma_canonical.proofs.KeptPlaces.{kept_tokens_stand}
 use Rattle.ecma_options.specs.Begin.{begin, context, settings, whole}
 use Rattle.ecma_options.specs.declared.options.Options.{Options}

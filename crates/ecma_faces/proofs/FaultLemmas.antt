@@ -1,17 +1,26 @@
 -- Lines of faults behind a text.
-use Rattle.std.proofs.Common.{◌≡◌, ◌∙◌, ℕ, List, [], ap}
+use Rattle.std.proofs.Common.{◌≡◌, ◌∙◌, ◌⊎◌, ℕ, List, [], true, ap, ⊎_elim}
 use Rattle.ecma_token.specs.View.{ErrorView}
 use Rattle.ecma_state.specs.Session.{Session}
 use Rattle.ecma_faults.specs.Faults.{all_of}
 use Rattle.ecma_reader.specs.Outputs.{error_tokens}
 use Rattle.ecma_report.specs.FaultLines.{OfFaults}
+use Rattle.ecma_report.specs.Reports.{KeepsFaults}
 use Rattle.ecma_report.specs.Rows.{Look}
+use Rattle.ecma_report.specs.declared.report.Report.{Report}
+use Rattle.ecma_command.specs.declared.words.Face.{Face}
+use Rattle.ecma_command.specs.declared.words.Face.TheVariants.{Classes, Html, Show}
 use Rattle.ecma_command.specs.declared.words.Named.{Named}
 use Rattle.ecma_report.proofs.FaultLemmas.{faults-as}
+use Rattle.ecma_faces.specs.Telling.{with_comments}
 use Rattle.ecma_faces.specs.Whole.{errors_told}
 
 -- errors that are those of a session
-pub faults-read : (named : Named) (l : Look) (file text : List ℕ) (s : Session) (tokens recorded : List ErrorView) (between before told after : List ℕ) → tokens ≡ error_tokens s → recorded ≡ s.errors.recorded
-    → between ≡ before → after ≡ told → OfFaults named l file text (all_of tokens recorded []) between told → OfFaults named l file text (errors_told s) before after
-faults-read named l file text s tokens recorded between before told after of_tokens of_recorded first last faults =
-    faults-as named l file text (all_of tokens recorded []) (errors_told s) between before told after (ap (λ es. all_of es recorded []) of_tokens ∙ ap (λ es. all_of (error_tokens s) es []) of_recorded) first last faults
+pub faults-read : (named : Named) (l : Look) (file text : List ℕ) (s : Session) (tokens recorded : List ErrorView) (first before after last : Report) → tokens ≡ error_tokens s → recorded ≡ s.errors.recorded
+    → KeepsFaults first before → KeepsFaults after last → OfFaults named l file text (all_of tokens recorded []) before after → OfFaults named l file text (errors_told s) first last
+faults-read named l file text s tokens recorded first before after last of_tokens of_recorded begun ended faults =
+    faults-as named l file text (all_of tokens recorded []) (errors_told s) first before after last (ap (λ es. all_of es recorded []) of_tokens ∙ ap (λ es. all_of (error_tokens s) es []) of_recorded) begun ended faults
+
+-- comments are collected for what is told of all tokens
+pub collected : (face asked : Face) → asked ≡ face → (face ≡ Classes) ⊎ ((face ≡ Html) ⊎ (face ≡ Show)) → with_comments asked ≡ true
+collected face asked same = ⊎_elim (λ is. ap with_comments (same ∙ is)) (⊎_elim (λ is. ap with_comments (same ∙ is)) (λ is. ap with_comments (same ∙ is)))

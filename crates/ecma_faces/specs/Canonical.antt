@@ -8,7 +8,7 @@ use Rattle.ecma_state.specs.State.{is_error}
 use Rattle.ecma_clean.specs.Clean.{is_clean}
 use Rattle.ecma_options.specs.Begin.{whole}
 use Rattle.ecma_reader.specs.Rereads.{SlashRule}
-use Rattle.ecma_canonical.specs.Joined.{between_behind}
+use Rattle.ecma_joined.specs.Joined.{between_behind}
 use Rattle.ecma_report.specs.Rows.{Look, part_at}
 use Rattle.ecma_faces.specs.Whole.{plainly, steps_by}
 

@@ -3,7 +3,7 @@ use Rattle.std.specs.Prelude.{ℕ, List, Bool, true, false, Option, Some, None, 
 use Rattle.ecma_place.specs.declared.place.Span.{Span}
 use Rattle.ecma_state.specs.Session.{kept_of}
 use Rattle.ecma_state.specs.declared.kept.Kept.{Kept}
-use Rattle.ecma_module_table.specs.declared.rows.Argument.{Argument}
+use Rattle.ecma_module_table.specs.Rows.{named_at}
 use Rattle.ecma_module_table.specs.declared.rows.Export.{Export}
 use Rattle.ecma_module_table.specs.declared.rows.Form.{Form}
 use Rattle.ecma_module_table.specs.declared.rows.Form.TheVariants as form
@@ -11,7 +11,6 @@ use Rattle.ecma_module_table.specs.declared.rows.Import.{Import}
 use Rattle.ecma_module_table.specs.declared.rows.ModuleOptions.{ModuleOptions}
 use Rattle.ecma_module_table.specs.declared.rows.Phase.{Phase}
 use Rattle.ecma_module_table.specs.declared.rows.Phase.TheVariants as phase
-use Rattle.ecma_module_table.specs.declared.rows.Specifier.{Specifier}
 use Rattle.ecma_print.specs.Rows.{ImportView, exported, imported}
 use Rattle.ecma_reader.specs.Readers.{tokens_by}
 use Rattle.ecma_report.specs.Rows.{Look, part_at, row_of}
@@ -45,20 +44,11 @@ phase_name phase.Evaluation = None
 phase_name phase.Defer = Some (codes "defer")
 phase_name phase.Source = Some (codes "source")
 
--- the string that names the module; else the argument of a call, or the statement
-abbrev pub span_by : Option Specifier → Option Argument → Span → Span
-span_by (Some specifier) argument statement = specifier.span
-span_by None (Some argument) statement = argument.span
-span_by None None statement = statement
-
-abbrev pub span_of : Import → Span
-span_of i = span_by i.specifier i.argument i.statement
-
 abbrev pub told_of : Import → ImportView
 told_of i = record { phase = phase_name i.phase; is_type = i.is_type; statement = i.statement; attributes = i.attributes }
 
 abbrev pub import_row : Look → List ℕ → List ℕ → Import → List ℕ
-import_row l file text i = row_of l file text (form_name i.form) (span_of i) (imported (told_of i)) (part_at text (span_of i))
+import_row l file text i = row_of l file text (form_name i.form) (named_at i) (imported (told_of i)) (part_at text (named_at i))
 
 abbrev pub import_rows : Look → List ℕ → List ℕ → List Import → List ℕ
 import_rows l file text imports = flat_map (import_row l file text) imports

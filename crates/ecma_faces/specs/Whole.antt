@@ -19,6 +19,7 @@ use Rattle.ecma_looks.specs.Shown.{IsShown}
 use Rattle.ecma_reader.specs.Outputs.{error_tokens}
 use Rattle.ecma_report.specs.Rows.{Look, whole_text}
 use Rattle.ecma_report.specs.Runs.{read_to}
+use Rattle.ecma_stdio.specs.Escaped.{escaped}
 use Rattle.ecma_command.specs.declared.words.Named.{Named}
 
 -- The canonical text
@@ -41,10 +42,17 @@ canon_written l file (Bytes bytes) = whole_text l file bytes
 canon_written l file NotClean = []
 canon_written l file TooLong = []
 
--- this holds of what is written of the canonical text that a text has by these steps
-pub record OfCanon (l : Look) (file : List ℕ) (how : Settings) (text : Text) (steps : List Step) (P : List ℕ → Type 0) : Type 0 where
+-- whether it is left out for its length, or was before
+abbrev pub is_too_long_behind : Bool → CanonTold → Bool
+is_too_long_behind before TooLong = true
+is_too_long_behind before _ = before
+
+-- this holds of what is written of the canonical text that a text has by these steps; whether it is left out for its length is
+-- said by the flags
+pub record OfCanon (l : Look) (file : List ℕ) (how : Settings) (text : Text) (steps : List Step) (before after : Bool) (P : List ℕ → Type 0) : Type 0 where
   pub told : CanonTold
   pub is_told : IsTold how text steps told
+  pub too_long : after ≡ is_too_long_behind before told
   pub holds : P (canon_written l file told)
 
 -- how a text is read, of which nothing but its tokens is asked for
@@ -88,9 +96,9 @@ OfHtml named l file text P = OfHtmlBehind l file text (read_to true named l text
 
 -- As a terminal shows it
 
--- the name of the file in a line of its own, where lines name their file
+-- the name of the file, as rows have it, in a line of its own, where lines name their file
 abbrev pub shown_head : Look → List ℕ → List ℕ
-shown_head l file = if l.among.names && not l.asked.json then file ++ 58 ∷ 10 ∷ [] else []
+shown_head l file = if l.among.names && not l.asked.json then escaped file ++ 58 ∷ 10 ∷ [] else []
 
 -- this holds of the lines that show a text with these tokens, comments and errors
 pub record OfLines (l : Look) (file text : List ℕ) (kept : List Kept) (comments : List BufferedComment) (errors : List FoundView) (P : List ℕ → Type 0) : Type 0 where

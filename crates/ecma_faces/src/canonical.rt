@@ -9,7 +9,7 @@ ghost use Rattle.ecma_reader.specs.Outputs.{errors_among};
 ghost use Rattle.ecma_reader.specs.Readers.{HasRead, IsReady, Shows, tokens_by, tokens_found};
 ghost use Rattle.ecma_report.specs.FaultLines.{OfFaults};
 ghost use Rattle.ecma_report.specs.Runs.{read_to};
-ghost use Rattle.ecma_report.specs.Reports.{Adds, IsOf, Stays, writes_errors};
+ghost use Rattle.ecma_report.specs.Reports.{Adds, IsOf, KeepsFaults, Stays, writes_errors};
 ghost use Rattle.ecma_report.specs.Slashes.{rule_at};
 ghost use Rattle.ecma_faces.specs.Canonical.{Counted, has_no_error, joined, reads_clean};
 ghost use Rattle.ecma_faces.specs.Tokens.{begun, kind_behind};
@@ -199,12 +199,11 @@ fn write_measured<'a, W: Write>(
     ensures told { (look : Look) (name : List ℕ) → IsOf look name text.now report.old
         → measured.clean ≡ reads_clean (rule_at named.entry) look text.now
         → Counted measured.bytes (length (joined text.now None (tokens_by (rule_at named.entry) (begun look.asked text.now))))
-        → OnOk result (OfCanon look name (plainly look) (chars text.now) (steps_by (rule_at named.entry) look text.now)
+        → OnOk result (OfCanon look name (plainly look) (chars text.now) (steps_by (rule_at named.entry) look text.now) report.old.is_too_long report.new.is_too_long
         (λ all. Adds (W.contents out.old) (W.contents out.new) report.old.out.items report.new.out.items all)) }
-    ensures stays { OnOk result (Stays report.old report.new) }
+    ensures faults { OnOk result (KeepsFaults report.old report.new) }
 {
     if !measured.clean {
-        report.is_faulty = true;
         return Ok(());
     }
     match measured.bytes {
@@ -213,7 +212,7 @@ fn write_measured<'a, W: Write>(
             Ok(())
         }
         None => {
-            report.is_faulty = true;
+            report.is_too_long = true;
             Ok(())
         }
     }
@@ -228,10 +227,10 @@ pub(crate) fn write_canonical<'a, W: Write>(
 ) -> Result<(), Stop>
     requires { length report.old.text.now < 2 ^ 32 }
     ensures told { (look : Look) (name text : List ℕ) → IsOf look name text report.old → writes_errors look.asked.face ≡ false
-        → OnOk result (OfCanon look name (plainly look) (chars text) (steps_by (rule_at named.entry) look text)
+        → OnOk result (OfCanon look name (plainly look) (chars text) (steps_by (rule_at named.entry) look text) report.old.is_too_long report.new.is_too_long
         (λ all. Adds (W.contents out.old) (W.contents out.new) report.old.out.items report.new.out.items all)) }
     ensures lines { (look : Look) (name text : List ℕ) → IsOf look name text report.old
-        → OnOk result (OfFaults named.entry look name text (errors_told (read_to false named.entry look text)) report.old.faults.items report.new.faults.items) }
+        → OnOk result (OfFaults named.entry look name text (errors_told (read_to false named.entry look text)) report.old report.new) }
 {
     let text = report.text;
     let mut reader = open(report, named, false)?;

@@ -63,7 +63,7 @@ pub(crate) fn write_comments<'a, W: Write>(
     ensures adds { (look : Look) (name text : List ℕ) → IsOf look name text report.old → writes_errors look.asked.face ≡ false
         → OnOk result (Adds (W.contents out.old) (W.contents out.new) report.old.out.items report.new.out.items (comment_rows look name text (comments_by named.entry look text))) }
     ensures lines { (look : Look) (name text : List ℕ) → IsOf look name text report.old
-        → OnOk result (OfFaults named.entry look name text (errors_told (read_to true named.entry look text)) report.old.faults.items report.new.faults.items) }
+        → OnOk result (OfFaults named.entry look name text (errors_told (read_to true named.entry look text)) report.old report.new) }
 {
     let mut reader = open(report, named, true)?;
     let mut errors = Vec::new(report.alloc);

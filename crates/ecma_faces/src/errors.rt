@@ -33,7 +33,7 @@ pub(crate) fn tell_errors<'a, W: Write>(
     ensures adds { writes_errors report.old.asked.face ≡ false
         → OnOk result (Adds (W.contents out.old) (W.contents out.new) report.old.out.items report.new.out.items []) }
     ensures lines { (look : Look) (name text : List ℕ) → IsOf look name text report.old
-        → OnOk result (OfFaults named.entry look name text (all_of (map error_view tokens.entry.items) (map error_view recorded.entry.items) []) report.old.faults.items report.new.faults.items) }
+        → OnOk result (OfFaults named.entry look name text (all_of (map error_view tokens.entry.items) (map error_view recorded.entry.items) []) report.old report.new) }
     ensures still { OnOk result (IsStill report.old report.new) }
 {
     let waiting = Vec::new(report.alloc);

@@ -20,7 +20,6 @@ use crate::errors::tell_errors;
 use ecma_command::words::{Asked, Named};
 use ecma_module_table::rows::{Export, Form, Import, ModuleOptions, Phase};
 use ecma_modules::{Gathering, Module};
-use ecma_place::Span;
 use ecma_print::row::Imported;
 use ecma_reader::Reader;
 use ecma_report::faults::keep_error;
@@ -57,24 +56,13 @@ fn phase_name(phase: Phase) -> Option<&'static str>
     }
 }
 
-/// Where the row of an import lies: the string that names the module; else the argument of a call, or the statement.
-fn span_of(import: Import) -> Span
-    ensures { result ≡ rows.span_of import }
-{
-    match (import.specifier, import.argument) {
-        (Some(specifier), _) => specifier.span,
-        (None, Some(argument)) => argument.span,
-        (None, None) => import.statement,
-    }
-}
-
 /// Adds the row of an import.
 fn push_import(report: &mut Report, import: Import) -> Result<(), AllocError>
     ensures added { (look : Look) (name text : List ℕ) → IsOf look name text report.old
         → OnOk result (report.new.out.items ≡ report.old.out.items ++ rows.import_row look name text import) }
     ensures stays { Stays report.old report.new }
 {
-    let span = span_of(import);
+    let span = import.named_at();
     let text = report.at(span);
     report.push_row(Row {
         kind: form_name(import.form),
@@ -183,7 +171,7 @@ fn read_module<'a, W: Write>(
     ensures nothing { writes_errors report.old.asked.face ≡ false
         → OnOk result (Adds (W.contents out.old) (W.contents out.new) report.old.out.items report.new.out.items []) }
     ensures lines { (look : Look) (name text : List ℕ) → IsOf look name text report.old
-        → OnOk result (OfFaults named.entry look name text (errors_told (read_to false named.entry look text)) report.old.faults.items report.new.faults.items) }
+        → OnOk result (OfFaults named.entry look name text (errors_told (read_to false named.entry look text)) report.old report.new) }
     ensures still { OnOk result (IsStill report.old report.new) }
 {
     let mut reader = open(report, named, false)?;
@@ -208,7 +196,7 @@ pub(crate) fn write_imports<'a, W: Write>(
         → OnOk result (Adds (W.contents out.old) (W.contents out.new) report.old.out.items report.new.out.items
         (import_rows look name text (imports_of (rows.module_options look.asked) (kept_by named.entry look text)))) }
     ensures lines { (look : Look) (name text : List ℕ) → IsOf look name text report.old
-        → OnOk result (OfFaults named.entry look name text (errors_told (read_to false named.entry look text)) report.old.faults.items report.new.faults.items) }
+        → OnOk result (OfFaults named.entry look name text (errors_told (read_to false named.entry look text)) report.old report.new) }
 {
     let module = read_module(report, named, out)?;
     push_imports(report, &module.imports, out)?;
@@ -226,7 +214,7 @@ pub(crate) fn write_exports<'a, W: Write>(
         → OnOk result (Adds (W.contents out.old) (W.contents out.new) report.old.out.items report.new.out.items
         (export_rows look name text (exports_of (rows.module_options look.asked) (kept_by named.entry look text)))) }
     ensures lines { (look : Look) (name text : List ℕ) → IsOf look name text report.old
-        → OnOk result (OfFaults named.entry look name text (errors_told (read_to false named.entry look text)) report.old.faults.items report.new.faults.items) }
+        → OnOk result (OfFaults named.entry look name text (errors_told (read_to false named.entry look text)) report.old report.new) }
 {
     let module = read_module(report, named, out)?;
     push_exports(report, &module.exports, out)?;

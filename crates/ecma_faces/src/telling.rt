@@ -1,5 +1,5 @@
 //! What is told of a text.
-ghost use Rattle.std.specs.Prelude.{◌≡◌, ◌++◌, ◌<◌, ◌^◌, List, None, false, length, true, ℕ, OnOk};
+ghost use Rattle.std.specs.Prelude.{◌≡◌, ◌++◌, ◌<◌, ◌^◌, List, None, [], false, length, true, ℕ, OnOk};
 ghost use Rattle.std.specs.Io.KnownBytes.{Appends};
 ghost use Rattle.std.specs.Str.{chars};
 ghost use Rattle.ecma_reader.specs.Readers.{tokens_by};
@@ -9,7 +9,7 @@ ghost use Rattle.ecma_report.specs.Errors.{OfRowsByPlace, errors_by};
 ghost use Rattle.ecma_faces.specs.Modules.{export_rows, import_rows, kept_by, module_options};
 ghost use Rattle.ecma_faces.specs.Pieces.{piece_rows, pieces_by};
 ghost use Rattle.ecma_faces.specs.Whole.{OfCanon, OfHtml, OfShown, errors_told, plainly, steps_by};
-ghost use Rattle.ecma_report.specs.FaultLines.{OfFaults, OfUnmet, tells_faults};
+ghost use Rattle.ecma_report.specs.FaultLines.{OfFaults, OfUnmet, has_fault, tells_faults};
 ghost use Rattle.ecma_report.specs.Runs.{read_to};
 ghost use Rattle.ecma_report.specs.Reports.{Adds, IsOf};
 ghost use Rattle.ecma_report.specs.Slashes.{rule_at};
@@ -55,12 +55,12 @@ fn write_face<'a, W: Write>(
         → OnOk result (OfShown named.entry look name text
         (λ all. Adds (W.contents out.old) (W.contents out.new) report.old.out.items report.new.out.items all)) }
     ensures canonical { (look : Look) (name text : List ℕ) → IsOf look name text report.old → look.asked.face ≡ face.Canonical
-        → OnOk result (OfCanon look name (plainly look) (chars text) (steps_by (rule_at named.entry) look text)
+        → OnOk result (OfCanon look name (plainly look) (chars text) (steps_by (rule_at named.entry) look text) report.old.is_too_long report.new.is_too_long
         (λ all. Adds (W.contents out.old) (W.contents out.new) report.old.out.items report.new.out.items all)) }
     ensures lines { (look : Look) (name text : List ℕ) → IsOf look name text report.old → tells_faults look.asked.face ≡ true
-        → OnOk result (OfFaults named.entry look name text (errors_told (read_to (with_comments look.asked.face) named.entry look text)) report.old.faults.items report.new.faults.items) }
+        → OnOk result (OfFaults named.entry look name text (errors_told (read_to (with_comments look.asked.face) named.entry look text)) report.old report.new) }
     ensures unmet { (look : Look) (name text : List ℕ) → IsOf look name text report.old → tells_faults look.asked.face ≡ false
-        → OnOk result (OfUnmet named.entry report.old.faults.items report.new.faults.items) }
+        → OnOk result (OfUnmet named.entry (has_fault (errors_told (read_to (with_comments look.asked.face) named.entry look text))) report.old report.new) }
 {
     match report.asked.face {
         Face::Tokens => write_tokens(report, named, out),
@@ -117,14 +117,16 @@ pub fn tell<'a, W: Write>(
         (λ all. Appends (W.contents out.old) (W.contents out.new) (report.old.out.items ++ all))) }
     // Where the canonical text is asked for, it is that, and nothing where there is none.
     ensures canonical { (look : Look) (name text : List ℕ) → IsOf look name text report.old → look.asked.face ≡ face.Canonical
-        → OnOk result (OfCanon look name (plainly look) (chars text) (steps_by (rule_at named.entry) look text)
+        → OnOk result (OfCanon look name (plainly look) (chars text) (steps_by (rule_at named.entry) look text) report.old.is_too_long report.new.is_too_long
         (λ all. Appends (W.contents out.old) (W.contents out.new) (report.old.out.items ++ all))) }
     // Errors that have no rows and are not shown in the text have lines of faults, in order of place, behind those of the places
     // that were named and are no slash's.
     ensures lines { (look : Look) (name text : List ℕ) → IsOf look name text report.old → tells_faults look.asked.face ≡ true
-        → OnOk result (OfFaults named.entry look name text (errors_told (read_to (with_comments look.asked.face) named.entry look text)) report.old.faults.items report.new.faults.items) }
+        → OnOk result (OfFaults named.entry look name text (errors_told (read_to (with_comments look.asked.face) named.entry look text)) report.old report.new) }
     ensures unmet { (look : Look) (name text : List ℕ) → IsOf look name text report.old → tells_faults look.asked.face ≡ false
-        → OnOk result (OfUnmet named.entry report.old.faults.items report.new.faults.items) }
+        → OnOk result (OfUnmet named.entry (has_fault (errors_told (read_to (with_comments look.asked.face) named.entry look text))) report.old report.new) }
+    // Nothing is held any more.
+    ensures none { OnOk result (report.new.out.items ≡ []) }
 {
     write_face(report, named, out)?;
     report.flush(out)?;

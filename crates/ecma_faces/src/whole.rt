@@ -1,5 +1,5 @@
 //! What is told of a text by all of its tokens: the pieces, the text as HTML, and as a terminal shows it.
-ghost use Rattle.std.specs.Prelude.{◌≡◌, ◌++◌, ◌<◌, ◌^◌, Bool, List, false, length, map, true, ℕ, IfOk, OnOk};
+ghost use Rattle.std.specs.Prelude.{◌≡◌, ◌++◌, ◌∷◌, ◌<◌, ◌^◌, [], List, false, length, map, true, ℕ, IfOk, OnOk};
 ghost use Rattle.std.specs.Str.{chars};
 ghost use Rattle.ecma_classes.specs.Classes.{begin, classes_of};
 ghost use Rattle.ecma_pieces.specs.Covered.{MayBeCovered};
@@ -10,10 +10,11 @@ ghost use Rattle.ecma_faces.specs.Pieces as rows;
 ghost use Rattle.ecma_faces.specs.Pieces.{piece_rows, pieces_by};
 ghost use Rattle.ecma_faces.specs.Whole as whole_specs;
 ghost use Rattle.ecma_faces.specs.Whole.{OfHtml, OfLines, OfShown, errors_told, html_written, shown_head};
-ghost use Rattle.ecma_report.specs.FaultLines.{OfFaults, OfUnmet, tells_faults};
+ghost use Rattle.ecma_report.specs.FaultLines.{OfFaults, OfUnmet, has_fault, tells_faults};
 ghost use Rattle.ecma_report.specs.Runs.{read_to};
 ghost use Rattle.ecma_report.specs.Reports.{Adds, IsOf, Stays, look_of};
 ghost use Rattle.ecma_report.specs.Rows.{Look};
+ghost use Rattle.ecma_stdio.specs.Escaped.{escaped};
 ghost use Rattle.ecma_command.specs.declared.words.Face.TheVariants as face;
 
 use crate::html::write_html;
@@ -26,6 +27,7 @@ use ecma_reader::{Gathered, ReadOut, read_out};
 use ecma_report::faults::tell_found;
 use ecma_report::report::{More, Report, Row, Stop};
 use ecma_report::slashes::{START, slashes_at, tell_unmet};
+use ecma_stdio::push_escaped;
 use std::alloc::{AllocError, Global};
 use std::io::Write;
 
@@ -72,15 +74,24 @@ fn write_pieces<W: Write>(report: &mut Report, gathered: &Gathered, out: &mut W)
     Ok(())
 }
 
+/// The name of a file, as rows have it, in a line of its own.
+fn name_line(alloc: Global, name: &str) -> Result<Vec<u8>, AllocError>
+    ensures { IfOk result (λ line. line.items ≡ escaped name.now ++ 58 ∷ 10 ∷ []) }
+{
+    let mut line = Vec::new(alloc);
+    push_escaped(&mut line, name.as_bytes())?;
+    line.extend_from_slice(b":\n")?;
+    Ok(line)
+}
+
 /// Writes the name of the file in a line of its own, where lines name their file.
 fn write_shown_head<W: Write>(report: &mut Report, out: &mut W) -> Result<(), Stop>
     ensures adds { OnOk result (Adds (W.contents out.old) (W.contents out.new) report.old.out.items report.new.out.items (shown_head (look_of report.old) report.old.name.now)) }
     ensures stays { Stays report.old report.new }
 {
     if report.among.names && !report.asked.json {
-        let name = report.name;
-        report.write_behind(name.as_bytes(), out)?;
-        report.write_behind(b":\n", out)?;
+        let line = name_line(report.alloc, report.name)?;
+        report.write_behind(&line, out)?;
     }
     Ok(())
 }
@@ -165,9 +176,9 @@ pub(crate) fn tell_gathered<'a, W: Write>(
         → OnOk result (OfShown named.entry look name text
         (λ all. Adds (W.contents out.old) (W.contents out.new) report.old.out.items report.new.out.items all)) }
     ensures lines { (look : Look) (name text : List ℕ) → IsOf look name text report.old
-        → OnOk result (OfFaults named.entry look name text (errors_told (read_to true named.entry look text)) report.old.faults.items report.new.faults.items) }
+        → OnOk result (OfFaults named.entry look name text (errors_told (read_to true named.entry look text)) report.old report.new) }
     ensures unmet { (look : Look) (name text : List ℕ) → IsOf look name text report.old → tells_faults look.asked.face ≡ false
-        → OnOk result (OfUnmet named.entry report.old.faults.items report.new.faults.items) }
+        → OnOk result (OfUnmet named.entry (has_fault (errors_told (read_to true named.entry look text))) report.old report.new) }
 {
     let settings = report.asked.options.settings(true);
     let context = report.asked.options.context();

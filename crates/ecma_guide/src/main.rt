@@ -1,8 +1,9 @@
 //! The examples of docs/GUIDE.md, which shows these functions line by line.
 //!
-//! `strings.rt` and `errors.rt` read token by token, `parser.rt` as a parser does, `tracked.rt` looks ahead without one,
-//! `comments.rt` collects comments, `cache.rt` makes a key of a text's tokens, `steps.rt` plays lists of steps, `faces.rt` writes
-//! HTML and imports, and `number.rt` calls one reader. The program runs each over a text from standard input.
+//! `identifiers.rt` reads a whole text, `strings.rt` and `errors.rt` read token by token, `parser.rt` reads as a parser does,
+//! `tracked.rt` looks ahead without one, `comments.rt` collects comments, `cache.rt` makes a key of a text's tokens, `steps.rt`
+//! plays lists of steps, `faces.rt` writes HTML and imports, and `number.rt` calls one reader. The program runs each, most of
+//! them over a text from standard input.
 #![tactic(auto)]
 
 ghost use Rattle.std.specs.Prelude.{◌<◌, ◌^◌, length};
@@ -11,6 +12,7 @@ mod cache;
 mod comments;
 mod errors;
 mod faces;
+mod identifiers;
 mod number;
 mod parser;
 mod steps;
@@ -56,6 +58,9 @@ fn make_all(rt: &HostRuntime, text: &str) -> io::Result<()>
     faces::write_page(rt, text)
 }
 
+/// A text in TypeScript.
+const SLASHES: &str = "let x = a! / b, re = /re/g;\nbreak\n/c d/.test(x)\n";
+
 /// What is read of texts that begin as the examples want it.
 fn read_parts(rt: &HostRuntime) -> io::Result<()> {
     let alloc = rt.alloc();
@@ -74,6 +79,7 @@ fn main(rt: HostRuntime) -> io::Result<()> {
     if !StringInput::fits(&text, START) {
         return Ok(());
     }
+    identifiers::write_identifiers(&rt, SLASHES)?;
     read_all(&rt, &text)?;
     make_all(&rt, &text)?;
     read_parts(&rt)

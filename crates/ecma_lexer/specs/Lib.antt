@@ -36,7 +36,7 @@ pub use Rattle.ecma_clean.specs.Clean
 pub use Rattle.ecma_clean.specs.Rules
 pub use Rattle.ecma_clean.specs.Sharing
 pub use Rattle.ecma_clean.specs.Stages
-pub use Rattle.ecma_canonical.specs.Joined
+pub use Rattle.ecma_joined.specs.Joined
 pub use Rattle.ecma_classes.specs.Classes
 pub use Rattle.ecma_pieces.specs.Covered
 pub use Rattle.ecma_slashes.specs.ByFlag

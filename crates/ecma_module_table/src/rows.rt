@@ -1,4 +1,7 @@
 //! Rows of imports and exports.
+ghost use Rattle.std.specs.Prelude.{◌≡◌};
+ghost use Rattle.ecma_module_table.specs.Rows as specs;
+
 use ecma_span::{BytePos, Span};
 
 /// What is looked for in a text.
@@ -77,6 +80,19 @@ pub struct Import {
     pub first_export: usize,
     /// How many rows of exports are of this statement: their local names are names of the other module.
     pub exports: usize,
+}
+
+impl Import {
+    /// What names the module: the string; else the argument of a call, or the statement.
+    pub fn named_at(self) -> Span
+        ensures { result ≡ specs.named_at self }
+    {
+        match (self.specifier, self.argument) {
+            (Some(specifier), _) => specifier.span,
+            (None, Some(argument)) => argument.span,
+            (None, None) => self.statement,
+        }
+    }
 }
 
 /// A name that is exported.

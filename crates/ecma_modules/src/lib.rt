@@ -10,8 +10,9 @@
 //! each name that it binds.
 //!
 //! `ecma_module_table` has what each token says and changes. `specs/` has open calls (`Calls`), and above them the machine
-//! (`Known`, `Scans`) and all rows of a text (`Modules`). Promised: code and definitions agree, the rows of a text's beginning don't change with
-//! what follows, and each row lies within the tokens up to the one that completes it, its parts within its statement
+//! (`Known`, `Scans`) and all rows of a text (`Modules`). Promised: code and definitions agree, the rows of a text's beginning
+//! don't change with what follows, and each row lies within the tokens up to the one that completes it, its parts within its
+//! statement
 //! (`laws.rt`, `Places`).
 //!
 //! Our own choice, as tokens alone are seen: brackets are counted and not told apart; declarations inside a namespace

@@ -1,6 +1,6 @@
 //! A machine that takes the tokens of a text one after another, and tells its imports and exports.
-ghost use Rattle.std.specs.Prelude.{◌≡◌, [], false, length, IfOk, IfSome, IsTrue, OnErr, OnOk};
-ghost use Rattle.ecma_modules.specs.Known.{Passes, nothing_told};
+ghost use Rattle.std.specs.Prelude.{◌≡◌, [], false, length, IfOk, IfSome, IsOk, IsTrue, OnErr, OnOk};
+ghost use Rattle.ecma_modules.specs.Known.{Passes, at_of, nothing_told, opens};
 ghost use Rattle.ecma_modules.specs.Scans as scans;
 
 use crate::calls::{At, Calls};
@@ -44,6 +44,7 @@ impl Scan {
         ensures calls { OnOk result (self.new.calls ≡ scans.calls_after self.old.known at self.old.calls) }
         ensures told { IfOk result (λ told. told ≡ scans.told_of_calls self.old.known at self.old.calls) }
         ensures err { OnErr result (self.new ≡ self.old) }
+        ensures free { opens self.old.known at ≡ false → IsOk result }
     {
         if !self.known.opens(at) {
             return Ok(self.calls.step(at));
@@ -87,6 +88,7 @@ impl Scan {
         ensures scan { OnOk result (self.new ≡ scans.scanned self.old token.now) }
         ensures told { IfOk result (λ told. told ≡ scans.told self.old token.now) }
         ensures err { OnErr result (self.new ≡ self.old) }
+        ensures free { opens self.old.known (at_of self.old.known token.now) ≡ false → IsOk result }
     {
         let at = self.known.at(*token);
         let call = self.step_calls(at)?;
@@ -107,6 +109,7 @@ impl Scan {
         ensures scan { OnOk result (self.new ≡ scans.scanned self.old token.now) }
         ensures told { IfOk result (λ told. told ≡ scans.told self.old token.now) }
         ensures err { OnErr result (self.new ≡ self.old) }
+        ensures free { opens self.old.known (at_of self.old.known token.now) ≡ false → IsOk result }
     {
         if self.pass(token) {
             return Ok(Told {

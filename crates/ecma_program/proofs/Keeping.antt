@@ -14,7 +14,7 @@ use Rattle.ecma_state.specs.Clean.{ends_clean}
 use Rattle.ecma_state.specs.Disposition as lists
 use Rattle.ecma_state.specs.Ending.{behind_reads, comments_of, enough, errors_of, read_out, reads, tokens_of}
 use Rattle.ecma_state.specs.HandOver.{has_comments}
-use Rattle.ecma_canonical.specs.Joined.{StandsIn}
+use Rattle.ecma_joined.specs.Joined.{StandsIn}
 use Rattle.ecma_state.specs.Run.{act_all, act_on, reading_of, start_of, state_behind}
 use Rattle.ecma_state.specs.Session.{LexerState, Session, has_ended, kept_back, kept_of, kept_tokens, state_of}
 use Rattle.ecma_state.specs.State.{is_error}

@@ -1,4 +1,5 @@
 pub mod FaultLemmas
+pub mod OrderLemmas
 pub mod PartLemmas
 pub mod ReportLemmas
 pub mod WholeLemmas

@@ -5,14 +5,14 @@ use Rattle.std.proofs.Math.Seq.{take-suc}
 use Rattle.std.proofs.lemmas.Grind.{flat_map-append}
 use Rattle.std.specs.Io.KnownBytes.{Appends}
 use Rattle.ecma_print.specs.Lines.{Counts}
-use Rattle.ecma_report.specs.Reports.{Adds, IsOf, IsStill, Stays, look_of}
+use Rattle.ecma_report.specs.Reports.{Adds, IsOf, IsStill, KeepsFaults, Stays, look_of}
 use Rattle.ecma_report.specs.Rows.{Look, look}
 use Rattle.ecma_report.specs.declared.report.Report.{Report}
 
 -- Of the same
 
 pub still-same : (r : Report) → IsStill r r
-still-same r = record { asked = refl; among = refl; name = refl; text = refl; counts = λ counts. counts }
+still-same r = record { asked = refl; among = refl; name = refl; text = refl; counts = λ counts. counts; too_long = refl }
 
 pub still-on : (a b c : Report) → IsStill a b → IsStill b c → IsStill a c
 still-on a b c first then =
@@ -22,6 +22,7 @@ still-on a b c first then =
       name = then.name ∙ first.name;
       text = then.text ∙ first.text;
       counts = λ counts. subst (λ t. Counts t c.lines) first.text (then.counts (subst (λ t. Counts t b.lines) (sym first.text) (first.counts counts)));
+      too_long = then.too_long ∙ first.too_long;
     }
 
 still-look : (old new : Report) → IsStill old new → look_of new ≡ look_of old
@@ -36,19 +37,35 @@ still-of l file bytes old new still of =
       counts = subst (λ t. Counts t new.lines) of.text (still.counts (subst (λ t. Counts t old.lines) (sym of.text) of.counts));
     }
 
--- the same, with the same lines of faults
+-- the same, with the same lines of faults, and as faulty
 
 pub is-still : (old new : Report) → Stays old new → IsStill old new
-is-still old new stays = record { asked = stays.asked; among = stays.among; name = stays.name; text = stays.text; counts = stays.counts }
+is-still old new stays = record { asked = stays.asked; among = stays.among; name = stays.name; text = stays.text; counts = stays.counts; too_long = stays.too_long }
 
-stays-with : (old new : Report) → IsStill old new → new.faults.items ≡ old.faults.items → Stays old new
-stays-with old new still faults = record { asked = still.asked; among = still.among; name = still.name; text = still.text; counts = still.counts; faults = faults }
+pub keeps-faults : (old new : Report) → Stays old new → KeepsFaults old new
+keeps-faults old new stays = record { faults = stays.faults; faulty = stays.faulty }
+
+stays-with : (old new : Report) → IsStill old new → KeepsFaults old new → Stays old new
+stays-with old new still keeps = record {
+  asked = still.asked;
+  among = still.among;
+  name = still.name;
+  text = still.text;
+  counts = still.counts;
+  too_long = still.too_long;
+  faults = keeps.faults;
+  faulty = keeps.faulty;
+}
+
+pub keeps-same : (r : Report) → KeepsFaults r r
+keeps-same r = record { faults = refl; faulty = refl }
 
 pub stays-same : (r : Report) → Stays r r
-stays-same r = stays-with r r (still-same r) refl
+stays-same r = stays-with r r (still-same r) (keeps-same r)
 
 pub stays-on : (a b c : Report) → Stays a b → Stays b c → Stays a c
-stays-on a b c first then = stays-with a c (still-on a b c (is-still a b first) (is-still b c then)) (then.faults ∙ first.faults)
+stays-on a b c first then =
+    stays-with a c (still-on a b c (is-still a b first) (is-still b c then)) (record { faults = then.faults ∙ first.faults; faulty = then.faulty ∙ first.faulty })
 
 pub same-look : (old new : Report) → Stays old new → look_of new ≡ look_of old
 same-look old new stays = still-look old new (is-still old new stays)

@@ -1,6 +1,7 @@
 -- Lines of faults, which people read on standard error.
-use Rattle.std.specs.Prelude.{◌≡◌, ℕ, List, [], ◌∷◌, ◌++◌, Bool, true, false, codes, flat_map, if◌then◌else◌, map}
+use Rattle.std.specs.Prelude.{◌≡◌, ℕ, ◌==◌, List, [], ◌∷◌, ◌++◌, ◌||◌, Bool, true, false, codes, flat_map, if◌then◌else◌, length, map, not}
 use Rattle.std.specs.Fmt.{decimal}
+use Rattle.std.specs.List.{list_any}
 use Rattle.ecma_span.specs.declared.place.Span.{Span}
 use Rattle.ecma_token.specs.MessageView.{view_message}
 use Rattle.ecma_faults.specs.Faults.{FoundView, IsByPlace}
@@ -11,6 +12,7 @@ use Rattle.ecma_positions.specs.declared.position.Position.{Position}
 use Rattle.ecma_print.specs.Rows.{one_line}
 use Rattle.ecma_stdio.specs.Escaped.{escaped}
 use Rattle.ecma_report.specs.Rows.{Look}
+use Rattle.ecma_report.specs.declared.report.Report.{Report}
 use Rattle.ecma_command.specs.declared.words.Named.{Named}
 use Rattle.ecma_command.specs.declared.words.Face.{Face}
 use Rattle.ecma_command.specs.declared.words.Face.TheVariants.{Errors, Show}
@@ -28,12 +30,15 @@ abbrev pub fault_line : Look → List ℕ → List ℕ → Span → List ℕ →
 fault_line l file text span message = line_at file (position_by l.asked.columns text span.lo) message
 
 -- an error that waits is no fault: it counts in module code alone
-abbrev pub unless_waiting : Origin → List ℕ → List ℕ
-unless_waiting Waiting line = []
-unless_waiting _ line = line
+abbrev pub is_fault : Origin → Bool
+is_fault Waiting = false
+is_fault _ = true
 
 abbrev pub fault_of : Look → List ℕ → List ℕ → FoundView → List ℕ
-fault_of l file text found = unless_waiting found.origin (fault_line l file text found.error.span (view_message found.error.kind))
+fault_of l file text found = if is_fault found.origin then fault_line l file text found.error.span (view_message found.error.kind) else []
+
+abbrev pub has_fault : List FoundView → Bool
+has_fault found = list_any (λ f. is_fault f.origin) found
 
 -- errors are told in lines of faults where they have no row of their own, and are not shown in the text
 abbrev pub tells_faults : Face → Bool
@@ -47,18 +52,25 @@ told_fault l file text found = if tells_faults l.asked.face then fault_of l file
 abbrev pub told_faults : Look → List ℕ → List ℕ → List FoundView → List ℕ
 told_faults l file text found = flat_map (told_fault l file text) found
 
--- Lines behind a text
+-- Lines behind a text, and whether it is faulty
 
--- those of the places that were named and are no slash's come before all others; there are none where none was named
-pub record OfUnmet (named : Named) (before after : List ℕ) : Type 0 where
+-- whether it is, as it was before, or as there are lines of places that are no slash's, or as another fault was found
+abbrev pub is_faulty_behind : Bool → List ℕ → Bool → Bool
+is_faulty_behind before unmet other = before || (not (length unmet == 0) || other)
+
+-- The lines of the places that were named and are no slash's come before all others, and there are none where none was named.
+-- The second part says whether another fault was found.
+pub record OfUnmet (named : Named) (other : Bool) (old new : Report) : Type 0 where
   pub unmet : List ℕ
   pub none : named.places.now ≡ [] → unmet ≡ []
-  pub whole : after ≡ unmet ++ before
+  pub whole : new.faults.items ≡ unmet ++ old.faults.items
+  pub faulty : new.is_faulty ≡ is_faulty_behind old.is_faulty unmet other
 
--- and those of these errors, in order of place, stand behind those of before
-pub record OfFaults (named : Named) (l : Look) (file text : List ℕ) (found : List FoundView) (before after : List ℕ) : Type 0 where
+-- and the lines of these errors, in order of place, stand behind those of before
+pub record OfFaults (named : Named) (l : Look) (file text : List ℕ) (found : List FoundView) (old new : Report) : Type 0 where
   pub ordered : List FoundView
   pub by_place : IsByPlace found ordered
   pub unmet : List ℕ
   pub none : named.places.now ≡ [] → unmet ≡ []
-  pub whole : after ≡ unmet ++ (before ++ told_faults l file text ordered)
+  pub whole : new.faults.items ≡ unmet ++ (old.faults.items ++ told_faults l file text ordered)
+  pub faulty : new.is_faulty ≡ is_faulty_behind old.is_faulty unmet (has_fault found)

@@ -29,15 +29,23 @@ pub record IsStill (old new : Report) : Type 0 where
   pub name : new.name.now ≡ old.name.now
   pub text : new.text.now ≡ old.text.now
   pub counts : Counts old.text.now old.lines → Counts old.text.now new.lines
+  pub too_long : new.is_too_long ≡ old.is_too_long
 
--- and with the same lines of faults
+-- with the same lines of faults, and as faulty
+pub record KeepsFaults (old new : Report) : Type 0 where
+  pub faults : new.faults.items ≡ old.faults.items
+  pub faulty : new.is_faulty ≡ old.is_faulty
+
+-- both
 pub record Stays (old new : Report) : Type 0 where
   pub asked : new.asked ≡ old.asked
   pub among : new.among ≡ old.among
   pub name : new.name.now ≡ old.name.now
   pub text : new.text.now ≡ old.text.now
   pub counts : Counts old.text.now old.lines → Counts old.text.now new.lines
+  pub too_long : new.is_too_long ≡ old.is_too_long
   pub faults : new.faults.items ≡ old.faults.items
+  pub faulty : new.is_faulty ≡ old.is_faulty
 
 -- This was added to the bytes that were written, where these are known, and to those that are held behind them: some of it all
 -- was written, and the rest is held.

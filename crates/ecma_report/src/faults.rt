@@ -1,5 +1,5 @@
 //! Errors: rows of their own, or faults of the file.
-ghost use Rattle.std.specs.Prelude.{◌≡◌, ◌++◌, ◌<◌, ◌^◌, List, [], false, length, map, option_map, true, ℕ, OnOk};
+ghost use Rattle.std.specs.Prelude.{◌≡◌, ◌++◌, ◌<◌, ◌^◌, ◌||◌, List, [], false, length, map, option_map, true, ℕ, OnOk};
 ghost use Rattle.ecma_token.specs.View.{error_view, spanned_view};
 ghost use Rattle.ecma_state.specs.Session.{Session};
 ghost use Rattle.ecma_reader.specs.Rereads.{SlashRule};
@@ -8,7 +8,8 @@ ghost use Rattle.ecma_reader.specs.Readers.{HasRead, IsReady, Shows, tokens_by, 
 ghost use Rattle.ecma_faults.specs.Faults as faults;
 ghost use Rattle.ecma_report.specs.Errors as rows;
 ghost use Rattle.ecma_report.specs.Errors.{OfRowsByPlace, error_rows, errors_by};
-ghost use Rattle.ecma_report.specs.FaultLines.{OfUnmet, fault_of, told_fault, told_faults};
+ghost use Rattle.ecma_report.specs.FaultLines as lines;
+ghost use Rattle.ecma_report.specs.FaultLines.{OfUnmet, fault_of, has_fault, told_fault, told_faults};
 ghost use Rattle.ecma_report.specs.Reports.{Adds, IsOf, IsStill, Stays, writes_errors};
 ghost use Rattle.ecma_report.specs.Rows.{Look};
 
@@ -22,6 +23,13 @@ use ecma_span::Spanned;
 use ecma_token::{Error, TokenAndSpan};
 use std::alloc::AllocError;
 use std::io::Write;
+
+/// Whether an error that comes from there is a fault: one that waits counts in module code alone.
+fn is_fault(origin: Origin) -> bool
+    ensures { result ≡ lines.is_fault origin }
+{
+    origin != Origin::Waiting
+}
 
 /// Adds the row of an error.
 fn push_error(report: &mut Report, found: &Found) -> Result<(), AllocError>
@@ -43,9 +51,10 @@ fn push_fault(report: &mut Report, found: &Found) -> Result<(), AllocError>
     ensures out { report.new.out ≡ report.old.out }
     ensures line { (look : Look) (name text : List ℕ) → IsOf look name text report.old
         → OnOk result (report.new.faults.items ≡ report.old.faults.items ++ fault_of look name text (faults.view found.now)) }
+    ensures faulty { report.new.is_faulty ≡ report.old.is_faulty }
     ensures still { IsStill report.old report.new }
 {
-    if found.origin == Origin::Waiting {
+    if !is_fault(found.origin) {
         return Ok(());
     }
     report.push_fault(found.error.span(), found.error.kind())
@@ -58,9 +67,10 @@ fn tell_error(report: &mut Report, found: &Found) -> Result<(), AllocError>
         → OnOk result (report.new.out.items ≡ report.old.out.items ++ rows.error_row look name text (faults.view found.now)) }
     ensures line { (look : Look) (name text : List ℕ) → IsOf look name text report.old
         → OnOk result (report.new.faults.items ≡ report.old.faults.items ++ told_fault look name text (faults.view found.now)) }
+    ensures faulty { report.new.is_faulty ≡ (report.old.is_faulty || lines.is_fault found.now.origin) }
     ensures still { IsStill report.old report.new }
 {
-    report.is_faulty = report.is_faulty || found.origin != Origin::Waiting;
+    report.is_faulty = report.is_faulty || is_fault(found.origin);
     match report.asked.face {
         Face::Errors => push_error(report, found),
         Face::Show => Ok(()),
@@ -80,6 +90,7 @@ pub fn tell_found<W: Write>(report: &mut Report, found: &[Found], out: &mut W) -
         → OnOk result (Adds (W.contents out.old) (W.contents out.new) report.old.out.items report.new.out.items (error_rows look name text (map faults.view found.now))) }
     ensures lines { (look : Look) (name text : List ℕ) → IsOf look name text report.old
         → OnOk result (report.new.faults.items ≡ report.old.faults.items ++ told_faults look name text (map faults.view found.now)) }
+    ensures faulty { OnOk result (report.new.is_faulty ≡ (report.old.is_faulty || has_fault (map faults.view found.now))) }
     ensures still { OnOk result (IsStill report.old report.new) }
 {
     'found: for one in found {
@@ -144,7 +155,7 @@ pub fn write_errors<'a, W: Write>(
         → OnOk result (OfRowsByPlace look name text (errors_by named.entry look text)
         (λ all. Adds (W.contents out.old) (W.contents out.new) report.old.out.items report.new.out.items all)) }
     ensures lines { (look : Look) (name text : List ℕ) → IsOf look name text report.old → writes_errors look.asked.face ≡ true
-        → OnOk result (OfUnmet named.entry report.old.faults.items report.new.faults.items) }
+        → OnOk result (OfUnmet named.entry (has_fault (errors_by named.entry look text)) report.old report.new) }
 {
     let mut reader = open(report, named, false)?;
     let mut errors = Vec::new(report.alloc);

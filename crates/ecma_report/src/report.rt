@@ -59,8 +59,10 @@ pub struct Report<'a> {
     pub out: Vec<u8>,
     /// The lines of faults, each with the name of the file.
     pub faults: Vec<u8>,
-    /// Whether the text has an error.
+    /// Whether the text has an error that counts in scripts too, or a place that was named is no slash's.
     pub is_faulty: bool,
+    /// Whether the canonical text was asked for and is left out for its length alone.
+    pub is_too_long: bool,
 }
 
 /// Writes all of these bytes.
@@ -108,7 +110,7 @@ impl<'a> Report<'a> {
     /// Of a text of which nothing is reported yet. It does not allocate.
     pub fn new(alloc: Global, asked: Asked, name: &'a str, text: &'a str) -> Report<'a>
         ensures of { IsOf (look asked alone) name.now text.now result }
-        ensures none { (result.out.items ≡ []) × (result.faults.items ≡ []) × (result.is_faulty ≡ false) }
+        ensures none { (result.out.items ≡ []) × (result.faults.items ≡ []) × (result.is_faulty ≡ false) × (result.is_too_long ≡ false) }
     {
         Report {
             alloc,
@@ -123,6 +125,7 @@ impl<'a> Report<'a> {
             out: Vec::new(alloc),
             faults: Vec::new(alloc),
             is_faulty: false,
+            is_too_long: false,
         }
     }
 
@@ -361,6 +364,7 @@ impl<'a> Report<'a> {
         ensures line { Counts self.old.text.now self.old.lines
             → OnOk result (self.new.faults.items ≡ self.old.faults.items ++ fault_line (look_of self.old) self.old.name.now self.old.text.now span (view_message (kind_view kind.now))) }
         ensures out { self.new.out ≡ self.old.out }
+        ensures faulty { self.new.is_faulty ≡ self.old.is_faulty }
         ensures still { IsStill self.old self.new }
     {
         let position = self.position(span.lo);

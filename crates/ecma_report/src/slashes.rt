@@ -1,5 +1,5 @@
 //! Which slashes begin regular expressions, and the places among them that are no slash's.
-ghost use Rattle.std.specs.Prelude.{◌≡◌, ◌<◌, ◌^◌, [], length, true, IfOk, IsOk, OnOk};
+ghost use Rattle.std.specs.Prelude.{◌≡◌, ◌<◌, ◌^◌, [], false, length, true, IfOk, IsOk, OnOk};
 ghost use Rattle.ecma_options.specs.Begin.{begin};
 ghost use Rattle.ecma_reader.specs.Rereads.{is_in_order, rule_of};
 ghost use Rattle.ecma_reader.specs.Readers.{IsReady, Shows};
@@ -122,7 +122,7 @@ pub fn tell_unmet<'a>(
 ) -> Result<(), AllocError>
     requires { length report.old.text.now < 2 ^ 32 }
     ensures out { report.new.out ≡ report.old.out }
-    ensures lines { OnOk result (OfUnmet named.entry report.old.faults.items report.new.faults.items) }
+    ensures lines { OnOk result (OfUnmet named.entry false report.old report.new) }
     ensures met { rereads ≡ length named.entry.places.now → IsOk result × (report.new ≡ report.old) }
     ensures still { IsStill report.old report.new }
 {

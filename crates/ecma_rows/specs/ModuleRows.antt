@@ -4,6 +4,7 @@ use Rattle.std.specs.List.{list_any}
 use Rattle.ecma_span.specs.declared.place.Span.{Span}
 use Rattle.ecma_state.specs.Session.{kept_of}
 use Rattle.ecma_state.specs.declared.kept.Kept.{Kept}
+use Rattle.ecma_module_table.specs.Rows.{named_at}
 use Rattle.ecma_module_table.specs.declared.rows.Argument.{Argument}
 use Rattle.ecma_module_table.specs.declared.rows.Export.{Export}
 use Rattle.ecma_module_table.specs.declared.rows.Form.{Form}
@@ -40,12 +41,6 @@ abbrev pub phase_number : Phase → ℕ
 phase_number phase.Evaluation = 0
 phase_number phase.Defer = 1
 phase_number phase.Source = 2
-
--- what names the module: the string; else the argument of a call, or the statement
-abbrev pub named_at : Option Specifier → Option Argument → Span → Span
-named_at (Some specifier) argument statement = specifier.span
-named_at None (Some argument) statement = argument.span
-named_at None None statement = statement
 
 abbrev pub paren_of : Option Argument → ℕ
 paren_of (Some argument) = argument.paren.0
@@ -94,8 +89,8 @@ type_flag is_type = if is_type then 1 else 0
 abbrev pub import_row : List ℕ → Import → ImportRow
 import_row text i =
     record {
-      lo = (named_at i.specifier i.argument i.statement).lo.0;
-      hi = (named_at i.specifier i.argument i.statement).hi.0;
+      lo = (named_at i).lo.0;
+      hi = (named_at i).hi.0;
       statement_lo = i.statement.lo.0;
       statement_hi = i.statement.hi.0;
       paren = paren_of i.argument;

@@ -6,8 +6,9 @@ use ecma_module_table::rows::{Argument, Export, Form, Import, Phase, Specifier};
 use ecma_span::{BytePos, Span};
 
 /// An import. Places are bytes from the text's start: of what names the module, which is the string with its quotes (one that
-/// is not closed has the first alone), else the first argument of a call, else the statement; of the statement; of the left parenthesis of a call, else 0; of the braces
-/// behind `with` or `assert`, or of the second argument of a call, both 0 where there are none.
+/// is not closed has the first alone), else the first argument of a call, else the statement; of the statement; of the left
+/// parenthesis of a call, else 0; of the braces behind `with` or `assert`, or of the second argument of a call, both 0 where
+/// there are none.
 ///
 /// `form` is 0 for `import`, 1 for `export .. from`, 2 for a call of `import`, 3 for `import.meta`, 4 for
 /// `import x = require("y")` and 5 for `declare module "x"` of TypeScript, 6 for `require("x")`. `phase` is 1 for
@@ -73,17 +74,6 @@ const NOWHERE: Span = Span {
     lo: BytePos(0),
     hi: BytePos(0),
 };
-
-/// What names the module: the string; else the argument of a call, or the statement.
-fn named_at(import: Import) -> Span
-    ensures { result ≡ rows.named_at import.specifier import.argument import.statement }
-{
-    match (import.specifier, import.argument) {
-        (Some(specifier), _) => specifier.span,
-        (None, Some(argument)) => argument.span,
-        (None, None) => import.statement,
-    }
-}
 
 fn paren_of(argument: Option<Argument>) -> u32
     ensures { result ≡ rows.paren_of argument }
@@ -171,7 +161,7 @@ fn type_flag(is_type: bool) -> u16
 pub(crate) fn import_row(text: &[u8], import: Import) -> ImportRow
     ensures { result ≡ rows.import_row text.now import }
 {
-    let span = named_at(import);
+    let span = import.named_at();
     let attributes = span_or_nowhere(import.attributes);
     ImportRow {
         lo: span.lo.0,

@@ -107,10 +107,10 @@ fn write_rows(reader: &mut Reader, out: &mut [TokenRow]) -> Result<usize, AllocE
 /// Writes a row for each token of a text to the room, in order, as many as fit.
 ///
 /// `bits` is a sum of options ([`options_of_bits`](crate::options_of_bits)); `slashes` are the places, each behind the one
-/// before it, of `/` and `/=` that begin regular expressions, none where the flag or the tokens before are to say. It returns `Done`, or
-/// `NoRoom` where there are more tokens than room; its count is the number of tokens. What lies behind the rows is as
-/// before. Nothing is written where the answer is `Refused`, `NotUtf8` or `TooLong`, judged in
-/// this order; where it is `NoSlash` the place that is not that of a slash changed nothing. Our own.
+/// before it, of `/` and `/=` that begin regular expressions, none where the flag or the tokens before are to say. It returns
+/// `Done`, or `NoRoom` where there are more tokens than room; its count is the number of tokens. What lies behind the rows is
+/// as before. Nothing is written where the answer is `Refused`, `NotUtf8` or `TooLong`, judged in this order; where it is
+/// `NoSlash` the place that is not that of a slash changed nothing. Our own.
 ///
 /// # Errors
 ///

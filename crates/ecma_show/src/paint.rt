@@ -30,7 +30,7 @@ pub(crate) fn between(bytes: &[u8], from: usize, to: usize) -> &[u8]
 fn is_replaced(colour: Option<Colour>, before: u8, byte: u8) -> bool
     ensures { result ≡ false → paint.painted_byte colour before byte ≡ byte ∷ [] }
 {
-    // Most bytes are no control characters, and of none.
+    // Most bytes are neither control characters nor a part of one.
     if byte >= b' ' {
         return byte == 127 || byte == LEAD || before == LEAD;
     }

@@ -11,8 +11,8 @@
 //! `Collecting.antt`, `Tiling.antt`, `ToldComments.antt`; `ecma_parts/specs/Instance.antt`; plain or not:
 //! `specs/Clean.antt`, `ecma_canonical`: `watch.rt`, `specs/Watching.antt`;
 //! `ecma_slashes/specs/Rereads.antt`; a case in nine `proofs/` of `ecma_laws`, five of `ecma_clean`, one of
-//! `ecma_pieces`, `ecma_clean_reads`, `ecma_canonical`; `listings`: `commands.rt`. Prove `ecma_state`, `ecma_laws` to
-//! `ecma_canonical`, `ecma_slashes`, `replay_model`.
+//! `ecma_pieces`, `ecma_clean_reads`, `ecma_canonical`; `texts_tests`: `commands.rt`. Prove `ecma_state`, `ecma_laws`
+//! to `ecma_canonical`, `ecma_slashes`, `replay_model`.
 #![tactic(auto)]
 
 pub mod error_list;

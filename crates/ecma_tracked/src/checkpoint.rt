@@ -38,7 +38,7 @@ impl Model for TrackedCheckpoint {
 }
 
 impl TrackedCheckpoint {
-    /// The same checkpoint. It does not allocate where at most 128 contexts are open and at most 64 frames of the track.
+    /// The same checkpoint. It does not allocate where [`Tracked::checkpoint`](crate::Tracked::checkpoint) there did not.
     ///
     /// # Errors
     ///

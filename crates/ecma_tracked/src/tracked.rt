@@ -210,8 +210,8 @@ impl<'a> Tracked<'a> {
         })
     }
 
-    /// Where this is, which [`Tracked::rewind`] goes back to. It does not allocate where at most 128 contexts are open and at
-    /// most 64 frames of the track, and takes as long whatever was read.
+    /// Where this is, which [`Tracked::rewind`] goes back to. It takes as long whatever was read, and does not allocate where at
+    /// most 128 contexts are open, and at most 64 frames were before the token that was read last.
     ///
     /// # Errors
     ///

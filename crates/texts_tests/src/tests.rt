@@ -6,6 +6,7 @@ mod attached;
 mod beginnings;
 mod canonical;
 mod code;
+mod commands;
 mod comments;
 mod depths;
 mod errors;

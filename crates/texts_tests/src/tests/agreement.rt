@@ -1,9 +1,9 @@
 //! Lists of steps that numbers make, played as callers play them and by copies alone: both come to the same.
+use super::commands::{Command, steps_of};
 use super::told::{Way, assert_text, gather_told, replay_told};
 use ecma_samples::Random;
 use ecma_state::{Step, TokenContext};
 use listing::listing::{COLLECTING, IGNORING, MODULE, PLAIN, STRICT, Settings};
-use listings::commands::{Command, steps_of};
 use std::alloc::{AllocError, Global};
 use std::process::Abort;
 use std::test::Fail;

@@ -1,14 +1,14 @@
 //! Canonical texts: those of a list of steps, and of the tokens that it keeps.
+use super::commands::Command::{
+    self, Allow, Back, Contexts, Flags, Pop, Read, ReadAll, Reread, Save, Take, Withdraw,
+};
+use super::commands::steps_of;
 use super::told::assert_text;
 use ecma_canonical::{Canon, canonical, canonical_text};
 use ecma_place::{BytePos, StringInput};
 use ecma_replay::replay;
 use ecma_state::Step;
 use listing::listing::{MODULE, PLAIN, STANDARD, Settings, lexer_settings};
-use listings::commands::Command::{
-    self, Allow, Back, Contexts, Flags, Pop, Read, ReadAll, Reread, Save, Take, Withdraw,
-};
-use listings::commands::steps_of;
 use std::alloc::{AllocError, Global};
 use std::process::Abort;
 use std::test::Fail;

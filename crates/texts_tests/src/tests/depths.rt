@@ -1,8 +1,8 @@
 //! Many open templates, replayed.
+use super::commands::Command::ReadAll;
+use super::commands::steps_of;
 use super::told::{Way, assert_text, replay_told};
 use listing::listing::PLAIN;
-use listings::commands::Command::ReadAll;
-use listings::commands::steps_of;
 use std::alloc::{AllocError, Global};
 use std::test::Fail;
 

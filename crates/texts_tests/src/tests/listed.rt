@@ -1,10 +1,10 @@
 //! The listing of a text, by a lexer and by a replay: reads that are played come to what the lexer answers one by one.
+use super::commands::Command::{Contexts, Flags, PopAll, ReadAll};
+use super::commands::steps_of;
 use super::told::{assert_text, played, write_answers, write_left};
 use ecma_replay::{Answer, Replay};
 use ecma_state::{Kept, Step};
 use listing::listing::{Row, Settings, listing, write_note};
-use listings::commands::Command::{Contexts, Flags, PopAll, ReadAll};
-use listings::commands::steps_of;
 use std::alloc::{AllocError, Global};
 use std::process::Abort;
 use std::test::Fail;

@@ -1,11 +1,11 @@
 //! Pieces that cover a text: of its tokens, its comments and what is left.
+use super::commands::Command::ReadAll;
+use super::commands::steps_of;
 use super::told::assert_text;
 use ecma_classes::{Class, Piece};
 use ecma_pieces::classes_of_steps;
 use ecma_place::{BytePos, StringInput};
 use listing::listing::{COLLECTING, lexer_settings};
-use listings::commands::Command::ReadAll;
-use listings::commands::steps_of;
 use std::alloc::{AllocError, Global};
 use std::test::Fail;
 

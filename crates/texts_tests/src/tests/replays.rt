@@ -1,10 +1,10 @@
 //! Steps that are replayed: what each answers, and what they come to.
-use super::told::{Way, assert_text, gather_told, replay_told};
-use listing::listing::{COLLECTING, MODULE};
-use listings::commands::Command::{
+use super::commands::Command::{
     self, Allow, Back, Contexts, Flags, Pop, Read, ReadAll, Reread, Save, Take, Withdraw,
 };
-use listings::commands::steps_of;
+use super::commands::steps_of;
+use super::told::{Way, assert_text, gather_told, replay_told};
+use listing::listing::{COLLECTING, MODULE};
 use std::alloc::{AllocError, Global};
 use std::process::Abort;
 use std::test::Fail;

@@ -3,7 +3,7 @@ use Rattle.std.specs.List.{All, list_all}
 use Rattle.std.specs.Str.{chars}
 use Rattle.ecma_state.specs.State.{is_error}
 use Rattle.ecma_clean.specs.Sharing.{IsReadCleanly, begin}
-use Rattle.ecma_canonical.specs.Joined.{StandsIn}
+use Rattle.ecma_joined.specs.Joined.{StandsIn}
 use Rattle.ecma_canonical.proofs.CleanLemmas.{gathered-clean}
 use Rattle.ecma_canonical.proofs.KeptPlaces.{gathered_tokens_stand}
 use Rattle.ecma_canonical.proofs.clean_gathered.canonical_of_gathered.Goals as goal

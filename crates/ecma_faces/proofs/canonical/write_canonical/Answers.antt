@@ -1,4 +1,4 @@
-use Rattle.std.proofs.Common.{◌≡◌, ◌∙◌, [], None, false, ap, length, map, refl, subst, sym}
+use Rattle.std.proofs.Common.{◌≡◌, ◌∙◌, [], None, false, ap, length, map, subst, sym}
 use Rattle.std.specs.Str.{chars}
 use Rattle.ecma_token.specs.View.{error_view}
 use Rattle.ecma_options.specs.Begin.{begin}
@@ -8,10 +8,10 @@ use Rattle.ecma_report.specs.Runs.{read_to}
 use Rattle.ecma_report.specs.Slashes.{rule_at}
 use Rattle.ecma_faces.specs.Canonical.{Counted, joined, reads_clean}
 use Rattle.ecma_faces.specs.Tokens.{begun}
-use Rattle.ecma_faces.specs.Whole.{OfCanon, canon_written, plainly, steps_by}
+use Rattle.ecma_faces.specs.Whole.{OfCanon, canon_written, is_too_long_behind, plainly, steps_by}
 use Rattle.ecma_faces.proofs.CanonicalLemmas.{clean-told}
 use Rattle.ecma_faces.proofs.FaultLemmas.{faults-read}
-use Rattle.ecma_report.proofs.ReportLemmas.{adds-on, said-of, still-of}
+use Rattle.ecma_report.proofs.ReportLemmas.{adds-on, keeps-same, said-of, still-of}
 use Rattle.ecma_faces.proofs.canonical.write_canonical.Goals as goal
 
 pub write_measured-requires-clause-same : goal.write_measured-requires-clause-same
@@ -39,10 +39,11 @@ returns-clause-told g c = λ ask file bytes of face.
     let nothing = c.in_ok-tell_errors.ensures.adds (ap (λ l. writes_errors l.asked.face) of.look ∙ face) in
     let measured = c.and-measured.result in
     let written = subst (λ t. IsOf ask file t told → measured.clean ≡ reads_clean rule ask t → Counted measured.bytes (length (joined t None (tokens_by rule (begun ask.asked t))))
-    → OfCanon ask file (plainly ask) (chars t) (steps_by rule ask t) (λ all. Adds between after told.out.items last.out.items all)) of.text (c.in_ok-write_measured.ensures.told ask file) here clean counted in
+    → OfCanon ask file (plainly ask) (chars t) (steps_by rule ask t) told.is_too_long last.is_too_long (λ all. Adds between after told.out.items last.out.items all)) of.text (c.in_ok-write_measured.ensures.told ask file) here clean counted in
     record {
       told = written.told;
       is_told = written.is_told;
+      too_long = written.too_long ∙ ap (λ b. is_too_long_behind b written.told) c.in_ok-tell_errors.ensures.still.too_long;
       holds = adds-on before between after first.out.items told.out.items last.out.items [] (canon_written ask file written.told) nothing written.holds;
     }
 
@@ -54,5 +55,5 @@ returns-clause-lines g c = λ ask file bytes of.
     let shows = said-of ask file bytes first (λ a n t. Shows rule (begin false a.asked.options t) [] c.in_ok-reader.reader) of c.in_ok-reader.ensures.shows in
     let passed = c.in_ok-tokens.ensures in
     let left = c.finish-outcome.ensures.left (read_to false c.args.named ask bytes) (passed.read rule start shows).at in
-    faults-read c.args.named ask file bytes (read_to false c.args.named ask bytes) _ _ first.faults.items first.faults.items c.tell_errors.new.report.faults.items c.write_measured.new.report.faults.items
-    (passed.kept rule start shows c.new-errors.ensures.items) (ap (map error_view) c.into_vec-recorded.ensures ∙ left.errors) refl c.in_ok-write_measured.ensures.stays.faults (c.in_ok-tell_errors.ensures.lines ask file bytes of)
+    faults-read c.args.named ask file bytes (read_to false c.args.named ask bytes) _ _ first first c.tell_errors.new.report c.write_measured.new.report
+    (passed.kept rule start shows c.new-errors.ensures.items) (ap (map error_view) c.into_vec-recorded.ensures ∙ left.errors) (keeps-same first) c.in_ok-write_measured.ensures.faults (c.in_ok-tell_errors.ensures.lines ask file bytes of)

@@ -1,4 +1,4 @@
-use Rattle.std.proofs.Common.{◌∙◌, None, length, subst, sym}
+use Rattle.std.proofs.Common.{◌∙◌, None, length, refl, subst, sym}
 use Rattle.ecma_reader.specs.Readers.{tokens_by}
 use Rattle.ecma_report.specs.Slashes.{rule_at}
 use Rattle.ecma_faces.specs.Canonical.{Counted, joined}
@@ -17,6 +17,7 @@ returns-in_ok-write_clean-in-Some-clause-told g c = λ ask file of clean counted
     record {
       told = Bytes own;
       is_told = told-text rule ask text c.in-Some.field-0 c.utf8.text c.requires.fits (sym (holds-where c.args.measured.clean c.if-not-measured.false) ∙ clean) is below;
+      too_long = c.in_ok-write_clean-in-Some.ensures.stays.too_long;
       holds = c.in_ok-write_clean-in-Some.ensures.adds ask file text of;
     }
 
@@ -28,5 +29,6 @@ returns-in-None-clause-told g c = λ ask file of clean counted.
     record {
       told = TooLong;
       is_told = told-too_long rule ask text c.utf8.text c.requires.fits (sym (holds-where c.args.measured.clean c.if-not-measured.false) ∙ clean) (subst (λ m. Counted m (length own)) c.in-None.is counted);
+      too_long = refl;
       holds = adds-none (g.W.Write.contents c.args.out.now) c.args.report.now.out.items;
     }

@@ -1,4 +1,4 @@
-use Rattle.std.proofs.Common.{◌∙◌, [], ap, map, refl, subst, true}
+use Rattle.std.proofs.Common.{◌∙◌, [], ap, map, subst, true}
 use Rattle.ecma_token.specs.View.{error_view}
 use Rattle.ecma_options.specs.Begin.{begin}
 use Rattle.ecma_reader.specs.Readers.{Shows}
@@ -6,7 +6,7 @@ use Rattle.ecma_faces.specs.Comments.{comment_rows, comments_by}
 use Rattle.ecma_report.specs.Reports.{Adds, writes_errors}
 use Rattle.ecma_report.specs.Runs.{read_to}
 use Rattle.ecma_report.specs.Slashes.{rule_at}
-use Rattle.ecma_report.proofs.ReportLemmas.{adds-on, said-of, still-of}
+use Rattle.ecma_report.proofs.ReportLemmas.{adds-on, keeps-faults, keeps-same, said-of, still-of}
 use Rattle.ecma_faces.proofs.FaultLemmas.{faults-read}
 use Rattle.ecma_faces.proofs.comments.write_comments.Goals as goal
 
@@ -37,5 +37,7 @@ returns-clause-lines g c = λ ask file bytes of.
     let passed = c.in_ok-pass_tokens.ensures in
     let none = c.new-errors.ensures.items in
     let left = c.finish-recorded.ensures.left (read_to true c.args.named ask bytes) (passed.read rule start shows none).at in
-    faults-read c.args.named ask file bytes (read_to true c.args.named ask bytes) _ _ first.faults.items first.faults.items c.tell_errors.new.report.faults.items c.push_comments.new.report.faults.items
-    (passed.kept rule start shows none) (ap (map error_view) c.into_vec.ensures ∙ left.errors) refl c.in_ok-push_comments.ensures.stays.faults (c.in_ok-tell_errors.ensures.lines ask file bytes of)
+    let told = c.tell_errors.new.report in
+    let last = c.push_comments.new.report in
+    faults-read c.args.named ask file bytes (read_to true c.args.named ask bytes) _ _ first first told last
+    (passed.kept rule start shows none) (ap (map error_view) c.into_vec.ensures ∙ left.errors) (keeps-same first) (keeps-faults told last c.in_ok-push_comments.ensures.stays) (c.in_ok-tell_errors.ensures.lines ask file bytes of)

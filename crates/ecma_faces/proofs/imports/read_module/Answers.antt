@@ -1,10 +1,10 @@
-use Rattle.std.proofs.Common.{◌∙◌, [], ap, false, map, refl}
+use Rattle.std.proofs.Common.{◌∙◌, [], ap, false, map}
 use Rattle.ecma_token.specs.View.{error_view}
 use Rattle.ecma_options.specs.Begin.{begin}
 use Rattle.ecma_reader.specs.Readers.{Shows}
 use Rattle.ecma_report.specs.Runs.{read_to}
 use Rattle.ecma_report.specs.Slashes.{rule_at}
-use Rattle.ecma_report.proofs.ReportLemmas.{said-of}
+use Rattle.ecma_report.proofs.ReportLemmas.{keeps-same, said-of}
 use Rattle.ecma_faces.proofs.FaultLemmas.{faults-read}
 use Rattle.ecma_faces.proofs.imports.read_module.Goals as goal
 
@@ -18,5 +18,5 @@ returns-clause-lines g c = λ ask file bytes of.
     let passed = c.in_ok-gather_tokens.ensures in
     let none = c.new-errors.ensures.items in
     let left = c.finish-outcome.ensures.left (read_to false c.args.named ask bytes) (passed.read rule start shows none).at in
-    faults-read c.args.named ask file bytes (read_to false c.args.named ask bytes) _ _ first.faults.items first.faults.items last.faults.items last.faults.items
-    (passed.kept rule start shows none) (ap (map error_view) c.into_vec-recorded.ensures ∙ left.errors) refl refl (c.in_ok-tell_errors.ensures.lines ask file bytes of)
+    faults-read c.args.named ask file bytes (read_to false c.args.named ask bytes) _ _ first first last last
+    (passed.kept rule start shows none) (ap (map error_view) c.into_vec-recorded.ensures ∙ left.errors) (keeps-same first) (keeps-same last) (c.in_ok-tell_errors.ensures.lines ask file bytes of)

@@ -3,7 +3,7 @@ use Rattle.ecma_modules.specs.Modules.{exports_of}
 use Rattle.ecma_faces.specs.Modules.{export_rows, kept_by, module_options}
 use Rattle.ecma_report.specs.Reports.{Adds, writes_errors}
 use Rattle.ecma_report.proofs.FaultLemmas.{faults-as}
-use Rattle.ecma_report.proofs.ReportLemmas.{adds-on, still-of}
+use Rattle.ecma_report.proofs.ReportLemmas.{adds-on, keeps-faults, keeps-same, still-of}
 use Rattle.ecma_faces.proofs.imports.write_exports.Goals as goal
 
 pub returns-clause-adds : goal.returns-clause-adds
@@ -25,4 +25,4 @@ pub returns-clause-lines : goal.returns-clause-lines
 returns-clause-lines g c = λ ask file bytes of.
     let read = c.read_module.new.report in
     let last = c.push_exports.new.report in
-    faults-as c.args.named ask file bytes _ _ c.args.report.now.faults.items c.args.report.now.faults.items read.faults.items last.faults.items refl refl c.in_ok-push_exports.ensures.stays.faults (c.in_ok-module.ensures.lines ask file bytes of)
+    faults-as c.args.named ask file bytes _ _ c.args.report.now c.args.report.now read last refl (keeps-same c.args.report.now) (keeps-faults read last c.in_ok-push_exports.ensures.stays) (c.in_ok-module.ensures.lines ask file bytes of)

@@ -1,4 +1,4 @@
-use Rattle.std.proofs.Common.{◌++◌, None, refl, true}
+use Rattle.std.proofs.Common.{◌∙◌, ◌++◌, None, refl, true}
 use Rattle.ecma_state.specs.Session.{kept_tokens}
 use Rattle.ecma_modules.specs.Modules.{exports_of, imports_of}
 use Rattle.ecma_reader.specs.Readers.{tokens_by}
@@ -12,11 +12,13 @@ use Rattle.ecma_report.specs.Runs.{read_to}
 use Rattle.ecma_report.specs.Slashes.{rule_at}
 use Rattle.ecma_faces.specs.Tokens.{begun, token_rows}
 use Rattle.ecma_report.proofs.FaultLemmas.{faults-as, unmet-as}
-use Rattle.ecma_report.proofs.ReportLemmas.{flushed-all}
+use Rattle.ecma_report.proofs.ReportLemmas.{flushed-all, keeps-faults, keeps-same}
 use Rattle.ecma_faces.proofs.telling.tell.Goals as goal
 
 pub returns : goal.returns
 returns g c =
+    let first = c.args.report.now in
+    let last = c.write_face.new.report in
     let flushed = c.in_ok-flush.ensures in
     let written = flushed-all (g.W.Write.contents c.args.out.now) (g.W.Write.contents c.write_face.new.out) (g.W.Write.contents c.flush.new.out) c.args.report.now.out.items c.write_face.new.report.out.items c.flush.new.self.out.items in
     record {
@@ -62,11 +64,13 @@ returns g c =
           record {
             told = told.told;
             is_told = told.is_told;
+            too_long = flushed.stays.too_long ∙ told.too_long;
             holds = written (canon_written ask file told.told) told.holds flushed.written flushed.none;
           };
       lines = λ ask file bytes of face.
-          faults-as c.args.named ask file bytes _ _ c.args.report.now.faults.items c.args.report.now.faults.items c.write_face.new.report.faults.items c.flush.new.self.faults.items refl refl flushed.stays.faults
+          faults-as c.args.named ask file bytes _ _ first first last c.flush.new.self refl (keeps-same first) (keeps-faults last c.flush.new.self flushed.stays)
           (c.in_ok-write_face.ensures.lines ask file bytes of face);
       unmet = λ ask file bytes of face.
-          unmet-as c.args.named c.args.report.now.faults.items c.write_face.new.report.faults.items c.flush.new.self.faults.items flushed.stays.faults (c.in_ok-write_face.ensures.unmet ask file bytes of face);
+          unmet-as c.args.named _ _ first last c.flush.new.self refl (keeps-faults last c.flush.new.self flushed.stays) (c.in_ok-write_face.ensures.unmet ask file bytes of face);
+      none = flushed.none;
     }

@@ -1,4 +1,4 @@
-use Rattle.std.proofs.Common.{◌∙◌, [], None, false, append-nil, ap, map, refl, subst}
+use Rattle.std.proofs.Common.{◌∙◌, [], None, false, append-nil, ap, map, subst}
 use Rattle.ecma_token.specs.View.{error_view}
 use Rattle.ecma_options.specs.Begin.{begin}
 use Rattle.ecma_reader.specs.Readers.{Shows, tokens_by}
@@ -6,7 +6,7 @@ use Rattle.ecma_report.specs.Reports.{Adds, writes_errors}
 use Rattle.ecma_report.specs.Runs.{read_to}
 use Rattle.ecma_report.specs.Slashes.{rule_at}
 use Rattle.ecma_faces.specs.Tokens.{begun, token_rows}
-use Rattle.ecma_report.proofs.ReportLemmas.{adds-on, said-of, stays-of}
+use Rattle.ecma_report.proofs.ReportLemmas.{adds-on, keeps-faults, keeps-same, said-of, stays-of}
 use Rattle.ecma_faces.proofs.FaultLemmas.{faults-read}
 use Rattle.ecma_faces.proofs.tokens.write_tokens.Goals as goal
 
@@ -41,5 +41,5 @@ returns-clause-lines g c = λ ask file bytes of.
     let none = c.new-errors.ensures.items in
     let left = c.finish-outcome.ensures.left (read_to false c.args.named ask bytes) (passed.read rule start shows none).at in
     let told = c.in_ok-tell_errors.ensures.lines ask file bytes (stays-of ask file bytes first read passed.stays of) in
-    faults-read c.args.named ask file bytes (read_to false c.args.named ask bytes) _ _ read.faults.items first.faults.items last.faults.items last.faults.items
-    (passed.kept rule start shows none) (ap (map error_view) c.into_vec-recorded.ensures ∙ left.errors) passed.stays.faults refl told
+    faults-read c.args.named ask file bytes (read_to false c.args.named ask bytes) _ _ first read last last
+    (passed.kept rule start shows none) (ap (map error_view) c.into_vec-recorded.ensures ∙ left.errors) (keeps-faults first read passed.stays) (keeps-same last) told

@@ -1,4 +1,4 @@
-use Rattle.std.proofs.Common.{◌≡◌, ◌∙◌, ◌++◌, [], ap, map, refl, subst, sym, true}
+use Rattle.std.proofs.Common.{◌≡◌, ◌∙◌, ◌++◌, ◌||◌, [], ap, map, refl, subst, sym, true}
 use Rattle.std.specs.Str.{chars}
 use Rattle.ecma_token.specs.View.{error_view}
 use Rattle.ecma_state.specs.Session.{kept_tokens}
@@ -12,7 +12,7 @@ use Rattle.ecma_pieces.proofs.CoveredLemmas.{gathered_may_be_covered}
 use Rattle.ecma_reader.specs.Outputs.{error_tokens}
 use Rattle.ecma_faces.specs.Pieces.{piece_rows, pieces_by}
 use Rattle.ecma_faces.specs.Whole.{html_written, places_of, shown_head}
-use Rattle.ecma_report.specs.FaultLines.{told_faults}
+use Rattle.ecma_report.specs.FaultLines.{has_fault, told_faults}
 use Rattle.ecma_report.specs.Reports.{Adds, writes_errors}
 use Rattle.ecma_report.specs.Rows.{whole_text}
 use Rattle.ecma_report.specs.Runs.{read_to}
@@ -20,8 +20,9 @@ use Rattle.ecma_html.specs.Marked.{AreInOrder}
 use Rattle.ecma_faces.proofs.WholeLemmas.{places-in-order}
 use Rattle.ecma_faces.proofs.ReadLemmas.{comments-asked, kept-asked, pieces-asked, read-as-asked, recorded-asked, refusals-asked}
 use Rattle.ecma_report.proofs.FaultLemmas.{unmet-alone, unmet-as, unmet-first}
+use Rattle.ecma_report.proofs.OrderLemmas.{fault-in-order}
 use Rattle.ecma_faces.proofs.FaultLemmas.{faults-read}
-use Rattle.ecma_report.proofs.ReportLemmas.{adds-on, still-of}
+use Rattle.ecma_report.proofs.ReportLemmas.{adds-on, keeps-faults, keeps-same, still-of}
 use Rattle.ecma_faces.proofs.whole.tell_gathered.Goals as goal
 
 pub write_gathered-requires-clause-fits : goal.write_gathered-requires-clause-fits
@@ -128,6 +129,8 @@ returns g c = record {
   lines = λ ask file bytes of.
       let first = c.args.report.now in
       let unmet = c.tell_unmet.new.report in
+      let after = c.tell_found.new.report in
+      let last = c.write_gathered.new.report in
       let named = c.args.named in
       let read = c.in_ok-read.read in
       let s = read_to true named ask bytes in
@@ -140,14 +143,31 @@ returns g c = record {
       let waiting = ap (map error_view) c.new-waiting.ensures.items in
       let recorded = ap (map error_view) c.into_vec.ensures ∙ c.in_ok-recorded.ensures ∙ recorded-asked named ask bytes read is in
       let by_place = subst (λ es. IsByPlace (all_of (map error_view read.refusals.items) own_recorded es) found) waiting c.in_ok-found.ensures in
-      let told = subst (λ fs. c.tell_found.new.report.faults.items ≡ unmet.faults.items ++ told_faults ask file bytes (map view fs)) c.deref.ensures.value (c.in_ok-tell_found.ensures.lines ask file bytes there) in
-      faults-read named ask file bytes s (map error_view read.refusals.items) own_recorded first.faults.items first.faults.items c.tell_found.new.report.faults.items c.write_gathered.new.report.faults.items
-      (refusals-asked named ask bytes read is) recorded refl c.in_ok-write_gathered.ensures.stays.faults
-      (unmet-first named ask file bytes (all_of (map error_view read.refusals.items) own_recorded []) found first.faults.items unmet.faults.items c.tell_found.new.report.faults.items by_place c.in_ok-tell_unmet.ensures.lines told);
+      let told = subst (λ fs. after.faults.items ≡ unmet.faults.items ++ told_faults ask file bytes (map view fs)) c.deref.ensures.value (c.in_ok-tell_found.ensures.lines ask file bytes there) in
+      let faulty = subst (λ fs. after.is_faulty ≡ (unmet.is_faulty || has_fault (map view fs))) c.deref.ensures.value c.in_ok-tell_found.ensures.faulty in
+      faults-read named ask file bytes s (map error_view read.refusals.items) own_recorded first first after last
+      (refusals-asked named ask bytes read is) recorded (keeps-same first) (keeps-faults after last c.in_ok-write_gathered.ensures.stays)
+      (unmet-first named ask file bytes (all_of (map error_view read.refusals.items) own_recorded []) found first unmet after by_place c.in_ok-tell_unmet.ensures.lines told faulty);
   unmet = λ ask file bytes of face.
       let first = c.args.report.now in
       let unmet = c.tell_unmet.new.report in
+      let after = c.tell_found.new.report in
+      let last = c.write_gathered.new.report in
+      let named = c.args.named in
+      let read = c.in_ok-read.read in
+      let s = read_to true named ask bytes in
       let there = still-of ask file bytes first unmet c.in_ok-tell_unmet.ensures.still of in
-      unmet-as c.args.named first.faults.items c.tell_found.new.report.faults.items c.write_gathered.new.report.faults.items c.in_ok-write_gathered.ensures.stays.faults
-      (unmet-alone c.args.named ask file bytes _ first.faults.items unmet.faults.items c.tell_found.new.report.faults.items face c.in_ok-tell_unmet.ensures.lines (c.in_ok-tell_found.ensures.lines ask file bytes there));
+      let asked = ap (λ l. l.asked) of.look in
+      let is = read-as-asked true named ask bytes first.text.now (rule_of c.slashes_at-slashes.result) c.settings-settings.result c.context-context.result read
+      c.slashes_at-slashes.ensures.rule (c.settings-settings.ensures ∙ ap (λ a. asks.settings true a.options) asked) (c.context-context.ensures ∙ ap (λ a. asks.context a.options) asked) of.text c.in_ok-read.ensures in
+      let found = map view c.in_ok-found.found.items in
+      let recorded = ap (map error_view) c.into_vec.ensures ∙ c.in_ok-recorded.ensures ∙ recorded-asked named ask bytes read is in
+      let waiting = ap (map error_view) c.new-waiting.ensures.items in
+      let all = ap (λ es. all_of es (map error_view c.into_vec.result.items) (map error_view c.new-waiting.result.items)) (refusals-asked named ask bytes read is)
+      ∙ ap (λ es. all_of (error_tokens s) es (map error_view c.new-waiting.result.items)) recorded
+      ∙ ap (all_of (error_tokens s) s.errors.recorded) waiting in
+      let told = subst (λ fs. after.is_faulty ≡ (unmet.is_faulty || has_fault (map view fs))) c.deref.ensures.value c.in_ok-tell_found.ensures.faulty in
+      let faulty = told ∙ ap (λ b. unmet.is_faulty || b) (fault-in-order _ found c.in_ok-found.ensures ∙ ap has_fault all) in
+      unmet-as named _ _ first after last refl (keeps-faults after last c.in_ok-write_gathered.ensures.stays)
+      (unmet-alone named ask file bytes _ _ first unmet after face c.in_ok-tell_unmet.ensures.lines (c.in_ok-tell_found.ensures.lines ask file bytes there) faulty);
 }

@@ -2,8 +2,8 @@ use Rattle.std.proofs.Common.{sym}
 use Rattle.std.specs.Str.{chars}
 use Rattle.ecma_place.specs.Cursor.{Cursor}
 use Rattle.ecma_clean.specs.Sharing.{begin}
-use Rattle.ecma_canonical.proofs.JoinedLemmas.{joins_on, last_one-more}
-use Rattle.ecma_canonical.proofs.joined.canonical_text.Goals as goal
+use Rattle.ecma_joined.proofs.JoinedLemmas.{joins_on, last_one-more}
+use Rattle.ecma_joined.proofs.joined.canonical_text.Goals as goal
 
 pub kept-preserved : goal.kept-preserved
 kept-preserved c =

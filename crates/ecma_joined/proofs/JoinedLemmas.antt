@@ -8,7 +8,7 @@ use Rattle.ecma_place.specs.Text.{Text, slice_between}
 use Rattle.ecma_state.specs.declared.kept.Kept.{Kept}
 use Rattle.ecma_token.specs.declared.kind.TokenKind.{TokenKind}
 use Rattle.ecma_clean.specs.Canonical.{Own, between, canonical_behind, canonical_of, is_template_text, own_in}
-use Rattle.ecma_canonical.specs.Joined.{between_behind, last_kind}
+use Rattle.ecma_joined.specs.Joined.{between_behind, last_kind}
 
 -- what stands before a token without its place
 abbrev before_own : Option Own → Own → Text

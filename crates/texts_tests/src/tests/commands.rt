@@ -5,7 +5,7 @@ use std::alloc::{AllocError, Global};
 
 /// What is done with a text.
 #[derive(Clone, Copy)]
-pub enum Command {
+pub(super) enum Command {
     Read,
     /// Reads to the end, and some times behind it.
     ReadAll,
@@ -49,7 +49,7 @@ fn step_of(alloc: Global, command: Command) -> Result<Step, AllocError> {
 }
 
 /// The steps of commands over a text of so many bytes.
-pub fn steps_of(
+pub(super) fn steps_of(
     alloc: Global,
     commands: &[Command],
     bytes: usize,

@@ -1,13 +1,23 @@
-//! What the tests of messages, debug texts and copies share; the questions of kinds need nothing of it.
+//! Each public call of values once, as tables, and what the tests of messages, debug texts and copies share.
 ghost use Rattle.std.specs.Prelude.{◌≤◌};
 
+mod atoms;
+mod characters;
+mod comments;
 mod copies;
+mod cursor;
 mod debug_texts;
 mod fixed_messages;
 mod kind_names;
 mod messages;
 mod names;
+mod operators;
+mod places;
 mod questions;
+mod reserved;
+mod runs;
+mod settings;
+mod words;
 
 use ecma_span::{Atom, BytePos, Span};
 use ecma_token::{SyntaxError, Token};

@@ -5,7 +5,7 @@ ghost use Rattle.std.specs.Str.{chars};
 ghost use Rattle.clean_runs.specs.Parts.{joint};
 ghost use Rattle.ecma_clean.specs.Canonical.{canonical_of, is_template_text, own_in};
 ghost use Rattle.ecma_clean.specs.Sharing.{begin};
-ghost use Rattle.ecma_canonical.specs.Joined.{StandsIn, between_behind};
+ghost use Rattle.ecma_joined.specs.Joined.{StandsIn, between_behind};
 
 use ecma_place::{BytePos, StringInput};
 use ecma_state::kept::Kept;
@@ -40,10 +40,10 @@ fn before_token(token: &Kept) -> &'static str
 /// two of them nothing where one is template text, else a line feed where the second's flag is set, else one space.
 ///
 /// This is a function of what is kept alone. That the text is read to the same tokens holds where they were kept by a clean
-/// run of plain steps, as [`canonical`](crate::clean_text::canonical) says.
+/// run of plain steps, as `canonical` of `ecma_canonical` says.
 ///
 /// The caller knows that the text fits its places ([`StringInput::fits`]), and that each span lies in it, on places of the
-/// text and its end not before its beginning, as those that [`replay`](ecma_replay::replay) keeps of the same text do. No
+/// text and its end not before its beginning, as those that `replay` keeps of the same text do. No
 /// tokens have the empty text, whatever the source is.
 ///
 /// # Errors

@@ -2,8 +2,8 @@ use Rattle.std.proofs.Common.{◌≡◌, map, string_bytes, encode_utf8_all, tak
 use Rattle.std.specs.Str.{chars}
 use Rattle.ecma_clean.specs.Canonical.{canonical_of, own_in}
 use Rattle.ecma_clean.specs.Sharing.{begin}
-use Rattle.ecma_canonical.specs.Joined.{last_kind}
-use Rattle.ecma_canonical.proofs.joined.canonical_text.Given as goal
+use Rattle.ecma_joined.specs.Joined.{last_kind}
+use Rattle.ecma_joined.proofs.joined.canonical_text.Given as goal
 
 abbrev pub invariant-kept : goal.invariant-kept
 invariant-kept l =

@@ -1,5 +1,0 @@
-//! Tests of `ecma_place`.
-#![tactic(auto)]
-
-#[cfg(test)]
-mod tests;

@@ -1,5 +1,0 @@
-//! Tests of `ecma_syntax`.
-#![tactic(auto)]
-
-#[cfg(test)]
-mod tests;

@@ -1,5 +1,0 @@
-//! Tests of `ecma_token`.
-#![tactic(auto)]
-
-#[cfg(test)]
-mod tests;
