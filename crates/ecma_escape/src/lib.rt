@@ -9,7 +9,7 @@
 //!
 //! To change an escape rule: a character: `single_value` in `ecma_grammar/specs/Escapes.antt` and `escape.rt`; a form
 //! also `specs/EscapeMeanings.antt`, `specs/EscapeParts.antt`. Prove `ecma_grammar`, `ecma_escape`, `ecma_literal`,
-//! `ecma_joining`.
+//! `ecma_template`, `ecma_joining`.
 #![tactic(auto)]
 
 pub mod escape;

@@ -4,8 +4,3 @@ pub mod ExpressionLaws
 pub mod ExpressionPieces
 pub mod PlainRuns
 pub mod PlainStrings
-pub mod TemplateFound
-pub mod TemplateLaws
-pub mod TemplatePieces
-pub mod PlainTemplateFound
-pub mod VerbatimPieces

@@ -124,14 +124,6 @@ plain-closed quote old one two t first moved ran value free none =
     quote-next quote (rest two) (free-close quote old one two _ first moved all.value all.moved none))
     (cases_Bool (opens_escape (rest two)))
 
--- the cursor comes back to where it stood, before a character
-pub back : (old now : Cursor) (c p : ℕ) → IsFurther old now → p ≡ place old → slice_get (rest old) 0 ≡ Some c → moved_to (index_of now p) now ≡ old
-back old now c p f e first =
-    let within : old.at ≤ length old.text = omega (arith, length-drop old.at old.text, ap length (first-cons (rest old) c first)) in
-    let off : p - old.start ≡ byte_len (take old.at old.text) = omega (arith, e) in
-    let index : index_of old p ≡ old.at = ap (λ (k : ℕ). count_within k old.text) off ∙ count_within-byte_len old.text old.at within in
-    rw (f.start, f.text) (ap (λ (i : ℕ). moved_to i old) index)
-
 -- the text of the run, seen from behind the closing quote
 pub run-text : (one two far : Cursor) (n from to : ℕ) → two ≡ passed n one → far ≡ passed 1 two → from ≡ place one → to ≡ place two
     → encode_utf8_all (slice_range far.text (index_of far from) (index_of far to)) ≡ encode_utf8_all (take n (rest one))

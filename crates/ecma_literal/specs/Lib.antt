@@ -1,4 +1,1 @@
-pub mod PlainTemplates
-pub mod VerbatimTexts
 pub mod WrittenExpressions
-pub mod WrittenTemplates

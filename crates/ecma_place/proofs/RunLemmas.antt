@@ -6,9 +6,9 @@ use Rattle.std.proofs.Math.Seq.{take-nil}
 use Rattle.std.proofs.lemmas.List.Sums.{take_while-cons}
 use Rattle.std.proofs.lemmas.Str.{encodes-append}
 use Rattle.std.proofs.lemmas.Bool.Decides.{leb_tells}
-use Rattle.ecma_place.specs.Cursor.{Cursor, rest, place, place_at, passed, count_within, index_of, HasPlace}
+use Rattle.ecma_place.specs.Cursor.{Cursor, rest, place, place_at, passed, moved_to, count_within, index_of, HasPlace}
 use Rattle.ecma_place.specs.Text.{byte_len}
-use Rattle.ecma_place.proofs.CursorLemmas.{count_within-none, count_within-more, byte_len-cons}
+use Rattle.ecma_place.proofs.CursorLemmas.{count_within-none, count_within-more, count_within-byte_len, byte_len-cons}
 
 -- the run of characters from `now` on that pass p ends where the run from `old` on does
 pub record IsOnRun (p : ℕ → Bool) (old now : Cursor) : Type 0 where
@@ -178,5 +178,13 @@ further-place-le old now f = rw (f.start, f.text) (place_at-le old old.at now.at
 -- the cursor's place is a place of the text for as long as it moves on
 pub further-HasPlace : (old now : Cursor) (p : ℕ) → IsFurther old now → p ≡ place old → HasPlace now p
 further-HasPlace old now p f e = rw (f.start, f.text) (old.at, e)
+
+-- the cursor comes back to where it stood, before a character
+pub further-back : (old now : Cursor) (c p : ℕ) → IsFurther old now → p ≡ place old → slice_get (rest old) 0 ≡ Some c → moved_to (index_of now p) now ≡ old
+further-back old now c p f e first =
+    let within : old.at ≤ length old.text = omega (arith, length-drop old.at old.text, ap length (first-cons (rest old) c first)) in
+    let off : p - old.start ≡ byte_len (take old.at old.text) = omega (arith, e) in
+    let index : index_of old p ≡ old.at = ap (λ (k : ℕ). count_within k old.text) off ∙ count_within-byte_len old.text old.at within in
+    rw (f.start, f.text) (ap (λ (i : ℕ). moved_to i old) index)
 
 pub ruleset runs = (further-start, further-step, further-place-le, run-start, run-step, run-stop, run-end, flag-start, flag-step, flag-stop, flag-end, run-place-le, text-passed)

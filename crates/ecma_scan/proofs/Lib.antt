@@ -54,9 +54,9 @@ pub use Rattle.ecma_escape.proofs.StringFound
 pub use Rattle.ecma_escape.proofs.StringLaws
 pub use Rattle.ecma_escape.proofs.StringReading
 pub use Rattle.ecma_grammar.proofs.TellingLaws
-pub use Rattle.ecma_literal.proofs.TemplateFound
-pub use Rattle.ecma_literal.proofs.TemplateLaws
-pub use Rattle.ecma_literal.proofs.TemplatePieces
+pub use Rattle.ecma_template.proofs.TemplateFound
+pub use Rattle.ecma_template.proofs.TemplateLaws
+pub use Rattle.ecma_template.proofs.TemplatePieces
 pub use Rattle.ecma_gap.proofs.WhiteLemmas
 pub use Rattle.ecma_escape.proofs.WordLaws
 pub use Rattle.ecma_escape.proofs.WordReading

@@ -13,12 +13,10 @@ pub use ecma_gap::{
     skip_white_space, skip_whitespace, white_space,
 };
 pub use ecma_grammar::{Blame, Found, GapMode, found, gap_mode};
-pub use ecma_literal::{
-    PlainTemplate, eat_plain_string, eat_plain_template, expression, scan_regexp, scan_string,
-    scan_template, string, template,
-};
+pub use ecma_literal::{eat_plain_string, expression, scan_regexp, scan_string, string};
 pub use ecma_number::{eat_plain_number, number, scan_number};
 pub use ecma_punctuator::{
     PunctuatorKind, alone, alone_kind, eat_punctuator, punctuator, punctuator_kind, scan_punct,
     scan_shebang, shebang, stands_alone,
 };
+pub use ecma_template::{PlainTemplate, eat_plain_template, scan_template, template};

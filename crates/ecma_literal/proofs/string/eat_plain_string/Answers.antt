@@ -1,8 +1,8 @@
 use Rattle.std.proofs.Common.{Some, ap, arith, refl, sym, ◌∙◌}
 use Rattle.ecma_place.proofs.MoveLemmas.{place-passed-le}
-use Rattle.ecma_place.proofs.RunLemmas.{IsFurther, further-HasPlace, further-start, further-step}
+use Rattle.ecma_place.proofs.RunLemmas.{IsFurther, further-HasPlace, further-back, further-start, further-step}
 use Rattle.ecma_escape.proofs.StringFound.{literal-raw}
-use Rattle.ecma_literal.proofs.PlainStrings.{back, eaten, plain-closed, plain-found, plain-scanned, run-text, uneaten}
+use Rattle.ecma_literal.proofs.PlainStrings.{eaten, plain-closed, plain-found, plain-scanned, run-text, uneaten}
 use Rattle.ecma_literal.proofs.string.eat_plain_string.Goals as goal
 
 pub returns-then-not-eat_byte-clause-plain : goal.returns-then-not-eat_byte-clause-plain
@@ -16,7 +16,7 @@ returns-then-not-eat_byte-clause-same c =
     let stayed = uneaten c.eat_byte.result c.pass_plain.new.input c.eat_byte.new.self c.if-not-eat_byte.true c.eat_byte.ensures.moved in
     let run = further-step _ _ _ _ (further-step _ _ _ _ (further-start c.args.input.now) c.opening_quote-quote.ensures.moved) c.pass_plain.ensures in
     let further : IsFurther c.args.input.now c.eat_byte.new.self = rw stayed run in
-    c.reset_to.ensures ∙ back c.args.input.now c.eat_byte.new.self _ _ further c.cur_pos-start.ensures c.opening_quote-quote.ensures.quote
+    c.reset_to.ensures ∙ further-back c.args.input.now c.eat_byte.new.self _ _ further c.cur_pos-start.ensures c.opening_quote-quote.ensures.quote
 
 pub slice-requires-clause-from_place : goal.slice-requires-clause-from_place
 slice-requires-clause-from_place c =

@@ -1,0 +1,5 @@
+pub mod PlainTemplateFound
+pub mod TemplateFound
+pub mod TemplateLaws
+pub mod TemplatePieces
+pub mod VerbatimPieces

@@ -1,0 +1,3 @@
+pub mod PlainTemplates
+pub mod VerbatimTexts
+pub mod WrittenTemplates
