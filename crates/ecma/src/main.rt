@@ -65,6 +65,17 @@ enum Ended {
     Closed(u8),
 }
 
+/// Writes the faults of a text, and that its canonical text is too long, and answers the status.
+fn tell_faults(rt: &HostRuntime, name: &str, report: &Report) -> u8 {
+    let status = if report.is_faulty { FAULTY } else { 0 };
+    let status = send(&mut rt.stderr(), status, &report.faults);
+    if report.is_too_long {
+        refuse(rt, name, TOO_LONG).max(status)
+    } else {
+        status
+    }
+}
+
 /// Writes what is asked for of a text, and its faults.
 fn tell_text<'t>(rt: &HostRuntime, job: Job<'t>, name: &'t str, text: &'t str) -> Ended
     requires { length text.now < 2 ^ 32 }
@@ -75,13 +86,7 @@ fn tell_text<'t>(rt: &HostRuntime, job: Job<'t>, name: &'t str, text: &'t str) -
     let told = tell(&mut report, job.named, &mut out);
     job.progress.clear(rt);
     match told {
-        Ok(()) if report.is_too_long && !report.is_faulty => Ended::Status(refuse(
-            rt, name, TOO_LONG,
-        )),
-        Ok(()) => {
-            let status = if report.is_faulty { FAULTY } else { 0 };
-            Ended::Status(send(&mut rt.stderr(), status, &report.faults))
-        }
+        Ok(()) => Ended::Status(tell_faults(rt, name, &report)),
         Err(Stop::Closed) => Ended::Closed(refuse_output(rt, out.failure())),
         Err(Stop::OutOfMemory) => Ended::Status(refuse(rt, name, "out of memory")),
     }

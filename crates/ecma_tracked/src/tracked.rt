@@ -211,7 +211,7 @@ impl<'a> Tracked<'a> {
     }
 
     /// Where this is, which [`Tracked::rewind`] goes back to. It takes as long whatever was read, and does not allocate where at
-    /// most 128 contexts are open, and at most 64 frames were before the token that was read last.
+    /// most 128 contexts are open, and at most 64 frames enclosed the token that was read last.
     ///
     /// # Errors
     ///
