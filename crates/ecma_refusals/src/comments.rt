@@ -154,10 +154,24 @@ fn go_on(
     from: u32,
 ) -> io::Result<()> {
     let mut copy = again!(rt, "refused copy", buffer.copy());
-    fill(rt, alloc, listed, &mut copy, (from, listed.count))?;
+    fill_copy(rt, alloc, listed, &mut copy, from)
+}
+
+fn fill_copy(
+    rt: &impl Print,
+    alloc: Global,
+    listed: Listed,
+    copy: &mut CommentsBuffer<'static>,
+    from: u32,
+) -> io::Result<()> {
+    fill(rt, alloc, listed, copy, (from, listed.count))?;
     let comments = copy.take_comments();
     let same = listed.are_first(&comments, listed.count);
-    println!(rt; "comments {}, same comments {same}", comments.len())
+    tell_number(rt, comments.len(), same)
+}
+
+fn tell_number(rt: &impl Print, count: usize, same: bool) -> io::Result<()> {
+    println!(rt; "comments {count}, same comments {same}")
 }
 
 /// Adds the comments of a list, with a copy that goes on before the first block, behind it and at the end.

@@ -86,39 +86,66 @@ fn add_again<'a>(
     number: u32,
     back: Error<'a>,
 ) -> io::Result<()> {
-    let same = has_errors(added, lexer, number)?;
-    let given = back.span() == span(number);
-    println!(rt;
-        "refused {}: same errors {same}, error back {given}",
-        added.name()
-    )?;
+    let told = tell_refused(rt, added, lexer, number, &back);
     match added.add(lexer, back) {
-        Ok(()) => Ok(()),
+        Ok(()) => told,
         Err(_) => Err(io::Error::from(io::ErrorKind::OutOfMemory)),
     }
 }
 
-/// Adds errors to a lexer, and says that the code is a module; where that is refused, again.
-fn add_all(rt: &impl Print, alloc: Global, added: Added, lexer: &mut Lexer) -> io::Result<()> {
-    println!(rt; "{}", added.name())?;
+/// Says whether a lexer that gave an error back is as it was.
+fn tell_refused(
+    rt: &impl Print,
+    added: Added,
+    lexer: &Lexer,
+    number: u32,
+    back: &Error,
+) -> io::Result<()> {
+    let same = has_errors(added, lexer, number)?;
+    tell_given(rt, added.name(), same, back.span() == span(number))
+}
+
+fn tell_given(rt: &impl Print, name: &str, same: bool, given: bool) -> io::Result<()> {
+    println!(rt; "refused {name}: same errors {same}, error back {given}")
+}
+
+fn tell_flags(rt: &impl Print, same: bool, waiting: usize, outside: bool) -> io::Result<()> {
+    println!(rt; "refused set_ctx: same errors {same}, waiting {waiting}, same flags {outside}")
+}
+
+/// Says that the code is a module; where that is refused, again.
+fn set_module(rt: &impl Print, added: Added, lexer: &mut Lexer) -> io::Result<()> {
+    if lexer.set_ctx(module()).is_ok() {
+        return Ok(());
+    }
+    let same = has_errors(added, lexer, TIMES)?;
+    tell_flags(rt, same, lexer.module_errors().len(), !lexer.ctx().module)?;
+    Ok(lexer.set_ctx(module())?)
+}
+
+fn add_each(rt: &impl Print, alloc: Global, added: Added, lexer: &mut Lexer) -> io::Result<()> {
     for number in 0..TIMES {
         add(rt, alloc, added, lexer, number)?;
     }
-    let waiting = lexer.module_errors().len();
-    if lexer.set_ctx(module()).is_err() {
-        let same = has_errors(added, lexer, TIMES)?;
-        let wait = lexer.module_errors().len();
-        let outside = !lexer.ctx().module;
-        println!(rt; "refused set_ctx: same errors {same}, waiting {wait}, same flags {outside}")?;
-        lexer.set_ctx(module())?;
-    }
-    let recorded = lexer.take_errors().len();
+    Ok(())
+}
+
+fn tell_numbers(rt: &impl Print, waiting: usize, recorded: usize) -> io::Result<()> {
     println!(rt; "waiting {waiting}, then recorded {recorded}")
+}
+
+/// Adds errors to a lexer, and says that the code is a module.
+fn add_all(rt: &impl Print, alloc: Global, added: Added, lexer: &mut Lexer) -> io::Result<()> {
+    add_each(rt, alloc, added, lexer)?;
+    let waiting = lexer.module_errors().len();
+    set_module(rt, added, lexer)?;
+    tell_numbers(rt, waiting, lexer.take_errors().len())
 }
 
 /// Adds errors of either kind.
 pub fn play(rt: &impl Print, alloc: Global) -> io::Result<()> {
     for added in [Added::Error, Added::ModuleModeError] {
+        println!(rt; "{}", added.name())?;
         add_all(rt, alloc, added, &mut opened(alloc, "a")?)?;
     }
     Ok(())

@@ -3,7 +3,7 @@ ghost use Rattle.std.specs.Prelude.{◌+◌, ◌<◌, ◌^◌, length};
 
 use ecma_canonical::{Canon, canonical};
 use ecma_place::StringInput;
-use ecma_replay::{Replay, gather, replay};
+use ecma_replay::{Gathered, Replay, gather, replay};
 use ecma_state::Step;
 use refused_reads::again;
 use refused_reads::rows::{DEEP, START, TEXTS, contexts, module, settings};
@@ -20,8 +20,18 @@ fn tell_replay(rt: &impl Print, found: &Replay) -> io::Result<()> {
     tell_comments(rt, &found.comments)
 }
 
-/// Gathers what was replayed, and says so where it comes to other tokens, or to another end, or to other numbers of recorded
-/// errors, of those that wait and of comments.
+/// Whether what was gathered has the tokens of what was replayed, its end, and its numbers of recorded errors, of those
+/// that wait and of comments.
+fn is_same(gathered: &Gathered, found: &Replay) -> bool {
+    let same_numbers = gathered.errors.len() == found.errors.len()
+        && gathered.waiting.len() == found.waiting.len()
+        && gathered.comments.len() == found.comments.len();
+    same_numbers
+        && gathered.ended == found.ended
+        && gathered.kept.as_slice() == found.kept.as_slice()
+}
+
+/// Gathers what was replayed, and says so where it comes to something else.
 fn gather_text(
     rt: &impl Print,
     alloc: Global,
@@ -37,14 +47,23 @@ fn gather_text(
         "refused gather",
         gather(alloc, &settings, text, START, steps)
     );
-    let same_tokens = gathered.kept.as_slice() == found.kept.as_slice();
-    let same_numbers = gathered.errors.len() == found.errors.len()
-        && gathered.waiting.len() == found.waiting.len()
-        && gathered.comments.len() == found.comments.len();
-    if !(same_tokens && same_numbers && gathered.ended == found.ended) {
-        println!(rt; "gathered otherwise")?;
+    if is_same(&gathered, found) {
+        return Ok(());
     }
-    Ok(())
+    println!(rt; "gathered otherwise")
+}
+
+fn tell_both(
+    rt: &impl Print,
+    alloc: Global,
+    text: &str,
+    steps: &[Step],
+    found: &Replay,
+) -> io::Result<()>
+    requires { 0 + length text.now < 2 ^ 32 }
+{
+    tell_replay(rt, found)?;
+    gather_text(rt, alloc, text, steps, found)
 }
 
 fn replay_text(rt: &impl Print, alloc: Global, text: &str, steps: &[Step]) -> io::Result<()>
@@ -56,8 +75,7 @@ fn replay_text(rt: &impl Print, alloc: Global, text: &str, steps: &[Step]) -> io
         "refused replay",
         replay(alloc, &settings, text, START, steps)
     );
-    tell_replay(rt, &found)?;
-    gather_text(rt, alloc, text, steps, &found)
+    tell_both(rt, alloc, text, steps, &found)
 }
 
 fn tell_canon(rt: &impl Print, alloc: Global, text: &str, steps: &[Step]) -> io::Result<()>

@@ -29,12 +29,16 @@ enum Asked {
     Imports,
 }
 
-fn add_replay(job: &mut Job, played: &Replay) {
-    for answer in &played.answers {
+fn add_answers(job: &mut Job, answers: &[Answer]) {
+    for answer in answers {
         if let Answer::Token(token) = answer {
             job.digest.add_token(token);
         }
     }
+}
+
+fn add_replay(job: &mut Job, played: &Replay) {
+    add_answers(job, &played.answers);
     job.digest.add_kept(&played.kept);
     job.digest.add_errors(played.errors.as_slice());
     job.digest.add_errors(played.waiting.as_slice());
@@ -61,27 +65,62 @@ fn add_pieces(job: &mut Job, pieces: &[Piece]) {
     }
 }
 
+fn play_tokens(job: &mut Job, text: &str, steps: &[Step]) -> Result<(), AllocError>
+    requires { length text.now < 2 ^ 32 }
+{
+    let settings = options(false, false).settings(true);
+    let played = replay(job.alloc, &settings, text, START, steps)?;
+    add_replay(job, &played);
+    Ok(())
+}
+
+fn play_canonical(job: &mut Job, text: &str, steps: &[Step]) -> Result<(), AllocError>
+    requires { length text.now < 2 ^ 32 }
+{
+    let settings = options(false, false).settings(true);
+    let canon = canonical(job.alloc, &settings, text, START, steps)?;
+    add_canon(job, &canon);
+    Ok(())
+}
+
+fn play_pieces(job: &mut Job, text: &str, steps: &[Step]) -> Result<(), AllocError>
+    requires { length text.now < 2 ^ 32 }
+{
+    let settings = options(false, false).settings(true);
+    let pieces = classes_of_steps(job.alloc, &settings, text, START, steps)?;
+    add_pieces(job, &pieces);
+    Ok(())
+}
+
+fn play_html(job: &mut Job, text: &str, steps: &[Step]) -> Result<(), AllocError>
+    requires { length text.now < 2 ^ 32 }
+{
+    let settings = options(false, false).settings(true);
+    let html = html_of_steps(job.alloc, &settings, text, steps)?;
+    job.digest.add_bytes(&html);
+    Ok(())
+}
+
+fn play_imports(job: &mut Job, text: &str, steps: &[Step]) -> Result<(), AllocError>
+    requires { length text.now < 2 ^ 32 }
+{
+    let settings = options(false, false).settings(true);
+    let imports = imports_of_steps(job.alloc, &settings, text, steps)?;
+    job.digest.add_bytes(&imports);
+    Ok(())
+}
+
 /// Plays the steps over the text that they were made for.
 fn play(job: &mut Job, asked: Asked, text: &str, steps: &[Step]) -> Result<(), AllocError>
     requires { length text.now < 2 ^ 32 }
 {
-    let settings = options(false, false).settings(true);
-    let alloc = job.alloc;
     match asked {
-        Asked::Tokens => add_replay(job, &replay(alloc, &settings, text, START, steps)?),
-        Asked::Canonical => add_canon(job, &canonical(alloc, &settings, text, START, steps)?),
-        Asked::Pieces => add_pieces(
-            job,
-            &classes_of_steps(alloc, &settings, text, START, steps)?,
-        ),
-        Asked::Html => job
-            .digest
-            .add_bytes(&html_of_steps(alloc, &settings, text, steps)?),
-        Asked::Imports => job
-            .digest
-            .add_bytes(&imports_of_steps(alloc, &settings, text, steps)?),
+        Asked::Tokens => play_tokens(job, text, steps),
+        Asked::Canonical => play_canonical(job, text, steps),
+        Asked::Pieces => play_pieces(job, text, steps),
+        Asked::Html => play_html(job, text, steps),
+        Asked::Imports => play_imports(job, text, steps),
     }
-    Ok(())
 }
 
 /// Makes the steps of a text, and plays them.

@@ -14,9 +14,11 @@ use ecma_replay::replay;
 use ecma_report::report::{More, Report, Row};
 use ecma_samples::{Pool, Sample};
 use ecma_slashes::steps_by_flag;
-use ecma_state::Kept;
+use ecma_state::{Kept, Settings, Step};
 use ecma_styles::Class;
 use std::alloc::{AllocError, Global};
+
+const START: BytePos = BytePos(0);
 
 /// What a program writes of a text, asked for by a word.
 fn write_lines(job: &mut Job, word: &str, text: &str) -> Result<(), AllocError> {
@@ -48,6 +50,20 @@ fn push_rows(report: &mut Report, kept: &[Kept]) -> Result<(), AllocError> {
     Ok(())
 }
 
+/// Pushes a row for each token that these steps read.
+fn push_played(
+    alloc: Global,
+    settings: &Settings,
+    report: &mut Report,
+    text: &str,
+    steps: &[Step],
+) -> Result<(), AllocError>
+    requires { length text.now < 2 ^ 32 }
+{
+    let played = replay(alloc, settings, text, START, steps)?;
+    push_rows(report, &played.kept)
+}
+
 /// Pushes a row for each token of a text.
 fn push_tokens(
     alloc: Global,
@@ -57,10 +73,9 @@ fn push_tokens(
 ) -> Result<(), AllocError>
     requires { length text.now < 2 ^ 32 }
 {
-    let (start, settings) = (BytePos(0), options.settings(true));
-    let steps = steps_by_flag(alloc, &settings, options.context(), text, start)?;
-    let played = replay(alloc, &settings, text, start, &steps)?;
-    push_rows(report, &played.kept)
+    let settings = options.settings(true);
+    let steps = steps_by_flag(alloc, &settings, options.context(), text, START)?;
+    push_played(alloc, &settings, report, text, &steps)
 }
 
 /// Reports the tokens of a text as the command does, in lines or as JSON.

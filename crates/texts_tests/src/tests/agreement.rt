@@ -78,8 +78,8 @@ fn steps_by(alloc: Global, random: &mut Random) -> Result<Vec<Step>, AllocError>
     steps_of(alloc, &commands, 0)
 }
 
-/// Plays a list of steps over a text in each way.
-fn assert_agreement(
+/// Plays a list of steps over a text as callers play it, and by copies.
+fn assert_copied(
     rt: &impl Abort,
     alloc: Global,
     text: &str,
@@ -88,6 +88,16 @@ fn assert_agreement(
     let replayed = replay_told(alloc, SCRIPT, text, steps, Way::Replayed)?;
     let copied = replay_told(alloc, SCRIPT, text, steps, Way::Copied)?;
     assert_text(rt, text, replayed.as_str(), copied.as_str());
+    Ok(())
+}
+
+/// Gathers what a list of steps reads of a text.
+fn assert_gathered(
+    rt: &impl Abort,
+    alloc: Global,
+    text: &str,
+    steps: &[Step],
+) -> Result<(), AllocError> {
     let gathered = gather_told(alloc, SCRIPT, text, steps)?;
     let left = replay_told(alloc, SCRIPT, text, steps, Way::WithoutAnswers)?;
     assert_text(rt, text, gathered.as_str(), left.as_str());
@@ -98,7 +108,8 @@ fn assert_list(rt: &impl Abort, alloc: Global, seed: u64) -> Result<(), AllocErr
     let mut random = Random::new(seed);
     let text = random.pick(TEXTS);
     let steps = steps_by(alloc, &mut random)?;
-    assert_agreement(rt, alloc, text, &steps)
+    assert_copied(rt, alloc, text, &steps)?;
+    assert_gathered(rt, alloc, text, &steps)
 }
 
 #[test]

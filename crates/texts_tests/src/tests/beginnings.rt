@@ -121,13 +121,25 @@ fn is_whole(alloc: Global, settings: Settings, text: &str) -> Result<bool, Alloc
     }
 }
 
+/// The beginning of a text up to there, where a character begins, is read whole.
+fn assert_beginning(
+    rt: &impl Abort,
+    alloc: Global,
+    settings: Settings,
+    text: &str,
+    end: usize,
+) -> Result<(), AllocError> {
+    if let Some(beginning) = text.get(..end) {
+        assert!(rt; is_whole(alloc, settings, beginning)?, "{beginning:?}");
+    }
+    Ok(())
+}
+
 /// Each beginning of a text is read whole, in both languages, strict and not.
 fn assert_beginnings(rt: &impl Abort, alloc: Global, text: &str) -> Result<(), AllocError> {
     for settings in WAYS {
         for end in 0..=text.len() {
-            if let Some(beginning) = text.get(..end) {
-                assert!(rt; is_whole(alloc, *settings, beginning)?, "{beginning:?}");
-            }
+            assert_beginning(rt, alloc, *settings, text, end)?;
         }
     }
     Ok(())

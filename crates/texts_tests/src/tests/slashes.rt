@@ -175,15 +175,27 @@ fn assert_by_flag(
     has_error: bool,
 ) -> Result<(), AllocError> {
     let steps = flag_steps(alloc, text)?;
-    let found = replay_told(alloc, PLAIN, text, &steps, Way::WithoutAnswers)?;
+    assert_steps(rt, alloc, text, &steps)?;
+    assert!(rt; is_clean(alloc, text, &steps)? != has_error, "{text}");
+    Ok(())
+}
+
+fn assert_steps(
+    rt: &impl Abort,
+    alloc: Global,
+    text: &str,
+    steps: &[Step],
+) -> Result<(), AllocError> {
+    let found = replay_told(alloc, PLAIN, text, steps, Way::WithoutAnswers)?;
     let wanted = steps_told(alloc, case_of(text, Slashes::ByFlag))?;
     assert_text(rt, text, found.as_str(), wanted.as_str());
-    let canon = canon_told(alloc, PLAIN, text, &steps)?;
-    assert!(rt;
-        (canon.as_str() == NOT_CLEAN) == has_error,
-        "{text}: {canon}"
-    );
     Ok(())
+}
+
+/// Whether a text has a canonical text.
+fn is_clean(alloc: Global, text: &str, steps: &[Step]) -> Result<bool, AllocError> {
+    let canon = canon_told(alloc, PLAIN, text, steps)?;
+    Ok(canon.as_str() != NOT_CLEAN)
 }
 
 #[test]

@@ -63,13 +63,15 @@ fn equal_where_the_bytes_are(rt: HostRuntime) -> Result<(), Fail> {
     Ok(())
 }
 
+/// Both, as they are and within a width, and their debug texts.
+fn printed(alloc: Global, borrowed: &Atom, owned: &Atom) -> Result<String, AllocError> {
+    format!(in alloc; "{borrowed}|{owned}|{owned:>3}|{owned:<2}|{borrowed:?} {owned:?}")
+}
+
 #[test]
 fn prints_as_a_text_does(rt: HostRuntime) -> Result<(), Fail> {
-    let borrowed = Atom::from("été \"a\"\n");
     let owned = Atom::from(String::from_str(rt.alloc(), "€")?);
-    let text = format!(in rt.alloc();
-        "{borrowed}|{owned}|{owned:>3}|{owned:<2}|{borrowed:?} {owned:?}"
-    )?;
+    let text = printed(rt.alloc(), &Atom::from("été \"a\"\n"), &owned)?;
     assert!(rt; text.as_str() == "été \"a\"\n|€|  €|€ |\"été \\\"a\\\"\\n\" \"€\"");
     Ok(())
 }

@@ -56,25 +56,28 @@ fn hand_over<'a, C: Comments<'a>>(store: &mut C) -> Result<(), Comment<'a>> {
     store.add_trailing(BytePos(7), comment_of(CommentKind::Line, 8, 13, "€"))
 }
 
+/// Whether a comment leads a token, its token's place, its kind, where it begins, and its text.
+type Row = (bool, u32, CommentKind, u32, &'static str);
+
+fn is_row(entry: Option<&(bool, BytePos, Comment)>, row: Row) -> bool {
+    let Some((leads, pos, comment)) = entry else {
+        return false;
+    };
+    let found = (*leads, pos.0, comment.kind, comment.span.lo.0);
+    found == (row.0, row.1, row.2, row.3) && comment.text.as_str() == row.4
+}
+
 #[test]
 fn hands_comments_to_a_store(rt: HostRuntime) {
     let mut store = Store {
         entries: Vec::new(rt.alloc()),
         room: 3,
     };
-    assert!(rt; hand_over(&mut store).is_ok() && store.entries.len() == 2);
-    for (entry, leads, pos, kind, lo, text) in [
-        (&store.entries[0], true, 6, CommentKind::Block, 0, "é"),
-        (&store.entries[1], false, 7, CommentKind::Line, 8, "€"),
-    ] {
-        assert!(rt;
-            entry.0 == leads
-                && entry.1 == BytePos(pos)
-                && entry.2.kind == kind
-                && entry.2.span.lo == BytePos(lo)
-                && entry.2.text.as_str() == text
-        );
-    }
+    let is_handed = hand_over(&mut store).is_ok() && store.entries.len() == 2;
+    let (first, second) = (store.entries.get(0), store.entries.get(1));
+    assert!(rt; is_handed);
+    assert!(rt; is_row(first, (true, 6, CommentKind::Block, 0, "é")));
+    assert!(rt; is_row(second, (false, 7, CommentKind::Line, 8, "€")));
 }
 
 #[test]

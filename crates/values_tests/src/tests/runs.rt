@@ -56,14 +56,25 @@ fn ends_with_the_text(rt: HostRuntime) -> Result<(), Fail> {
     Ok(())
 }
 
+/// So many members before a character, and members behind it.
+fn text_before(
+    alloc: Global,
+    members: &str,
+    count: usize,
+    end: char,
+) -> Result<String, AllocError> {
+    let mut text = text_of(alloc, members, count)?;
+    text.push(end)?;
+    text.push_str(members)?;
+    Ok(text)
+}
+
 #[test]
 fn ends_before_a_byte_outside(rt: HostRuntime) -> Result<(), Fail> {
     for (class, members, ends) in CLASSES {
         for count in LENGTHS {
             for end in ends.chars() {
-                let mut text = text_of(rt.alloc(), *members, *count)?;
-                text.push(end)?;
-                text.push_str(*members)?;
+                let text = text_before(rt.alloc(), *members, *count, end)?;
                 let run = run_behind_first(text.as_str(), *class);
                 assert!(rt; run == Some(*count as u32), "{class:?} before {end}");
             }

@@ -105,15 +105,29 @@ fn written<T>(
     Ok(text)
 }
 
+/// Whether these are the options that a text says.
+fn reads_as(alloc: Global, text: &str, options: Syntax) -> Result<bool, Fail> {
+    let read: Syntax = serde_json::from_str(alloc, text)?;
+    Ok(read == options)
+}
+
+/// Whether this is the text that options are written as.
+fn writes_as(alloc: Global, options: Syntax, text: &str) -> Result<bool, Fail> {
+    let written = serde_json::to_string(alloc, &options)?;
+    Ok(written.as_str() == text)
+}
+
 #[test]
 fn es_options_read(rt: HostRuntime) -> Result<(), Fail> {
     for (key, options) in ES_OPTIONS {
-        let text = format!(in rt.alloc(); "{{\"syntax\":\"ecmascript\",\"{}\":true}}", key)?;
-        let syntax: Syntax = serde_json::from_str(rt.alloc(), text.as_str())?;
-        let off = format!(in rt.alloc(); "{{\"{}\":false,\"syntax\":\"ecmascript\"}}", key)?;
-        let plain: Syntax = serde_json::from_str(rt.alloc(), off.as_str())?;
+        let on = format!(in rt.alloc(); "{{\"syntax\":\"ecmascript\",\"{}\":true}}", key)?;
         assert!(rt;
-            syntax == Syntax::Es(*options) && plain == Syntax::default(),
+            reads_as(rt.alloc(), on.as_str(), Syntax::Es(*options))?,
+            "{key}"
+        );
+        let off = format!(in rt.alloc(); "{{\"{}\":false,\"syntax\":\"ecmascript\"}}", key)?;
+        assert!(rt;
+            reads_as(rt.alloc(), off.as_str(), Syntax::default())?,
             "{key}"
         );
     }
@@ -123,11 +137,10 @@ fn es_options_read(rt: HostRuntime) -> Result<(), Fail> {
 #[test]
 fn es_options_written(rt: HostRuntime) -> Result<(), Fail> {
     for (key, options) in ES_OPTIONS {
-        let syntax = Syntax::Es(*options);
-        let text = serde_json::to_string(rt.alloc(), &syntax)?;
         let want = written(rt.alloc(), "ecmascript", ES_OPTIONS, *key)?;
-        let again: Syntax = serde_json::from_str(rt.alloc(), text.as_str())?;
-        assert!(rt; text.as_str() == want.as_str() && again == syntax, "{key}");
+        let syntax = Syntax::Es(*options);
+        assert!(rt; writes_as(rt.alloc(), syntax, want.as_str())?, "{key}");
+        assert!(rt; reads_as(rt.alloc(), want.as_str(), syntax)?, "{key}");
     }
     Ok(())
 }
@@ -148,10 +161,9 @@ fn ts_options(rt: HostRuntime) -> Result<(), Fail> {
     for (key, options) in rows {
         let syntax = Syntax::Typescript(options);
         let text = format!(in rt.alloc(); "{{\"syntax\":\"typescript\",\"{}\":true}}", key)?;
-        let read: Syntax = serde_json::from_str(rt.alloc(), text.as_str())?;
+        assert!(rt; reads_as(rt.alloc(), text.as_str(), syntax)?, "{key}");
         let want = written(rt.alloc(), "typescript", &rows, key)?;
-        let put = serde_json::to_string(rt.alloc(), &syntax)?;
-        assert!(rt; read == syntax && put.as_str() == want.as_str(), "{key}");
+        assert!(rt; writes_as(rt.alloc(), syntax, want.as_str())?, "{key}");
     }
     Ok(())
 }

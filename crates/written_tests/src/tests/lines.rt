@@ -214,30 +214,36 @@ fn tells_of_faults(rt: HostRuntime) -> Result<(), Fail> {
     assert_words(&rt, alloc, &["errors"], b"\xff", 3, b"not UTF-8\n")
 }
 
+/// Words that name nothing, or something twice.
+const BAD_WORDS: &[&[&str]] = &[
+    &["comments", "tokens"],
+    &["comments", "comments"],
+    &["comment"],
+    &["Tokens"],
+    &[""],
+    &["ts"],
+    &["tokens", "tokens"],
+    &["errors", "x"],
+    &["errors", "ts", "ts"],
+    &["tokens", "module", "ts", "module"],
+    &["tokens", "strict", "strict"],
+];
+
+fn assert_all_bad(rt: &impl Abort, alloc: Global, all: &[&[&str]]) -> Result<(), Fail> {
+    for words in all {
+        assert_bad(rt, alloc, words)?;
+    }
+    Ok(())
+}
+
 #[test]
 fn judges_the_words(rt: HostRuntime) -> Result<(), Fail> {
     let alloc = rt.alloc();
     assert_words(&rt, alloc, &["tokens"], b";", 0, b"0 1 lf Semi ;\n")?;
-    assert_words(
-        &rt,
-        alloc,
-        &["tokens", "strict", "ts", "module"],
-        b";",
-        0,
-        b"0 1 lf Semi ;\n",
-    )?;
+    let options = &["tokens", "strict", "ts", "module"];
+    assert_words(&rt, alloc, options, b";", 0, b"0 1 lf Semi ;\n")?;
     assert_words(&rt, alloc, &["comments"], b";", 0, b"")?;
-    assert_bad(&rt, alloc, &["comments", "tokens"])?;
-    assert_bad(&rt, alloc, &["comments", "comments"])?;
-    assert_bad(&rt, alloc, &["comment"])?;
-    assert_bad(&rt, alloc, &["Tokens"])?;
-    assert_bad(&rt, alloc, &[""])?;
-    assert_bad(&rt, alloc, &["ts"])?;
-    assert_bad(&rt, alloc, &["tokens", "tokens"])?;
-    assert_bad(&rt, alloc, &["errors", "x"])?;
-    assert_bad(&rt, alloc, &["errors", "ts", "ts"])?;
-    assert_bad(&rt, alloc, &["tokens", "module", "ts", "module"])?;
-    assert_bad(&rt, alloc, &["tokens", "strict", "strict"])
+    assert_all_bad(&rt, alloc, BAD_WORDS)
 }
 
 #[test]
@@ -330,25 +336,23 @@ fn assert_rows(
     Ok(())
 }
 
+/// Words of which one is no number of a slash, or not above the one before.
+const BAD_NUMBERS: &[&[&str]] = &[
+    &["reread", "1"],
+    &["tokens", "reread"],
+    &["tokens", "reread", "0"],
+    &["tokens", "reread", "01"],
+    &["tokens", "reread", "+1"],
+    &["tokens", "reread", "1x"],
+    &["tokens", "reread", ""],
+    &["tokens", "reread", "18446744073709551616"],
+    &["tokens", "reread", "2", "ts", "reread", "2"],
+    &["tokens", "reread", "10", "reread", "9"],
+];
+
 #[test]
 fn judges_the_numbers(rt: HostRuntime) -> Result<(), Fail> {
-    let alloc = rt.alloc();
-    let bad: [&[&str]; 10] = [
-        &["reread", "1"],
-        &["tokens", "reread"],
-        &["tokens", "reread", "0"],
-        &["tokens", "reread", "01"],
-        &["tokens", "reread", "+1"],
-        &["tokens", "reread", "1x"],
-        &["tokens", "reread", ""],
-        &["tokens", "reread", "18446744073709551616"],
-        &["tokens", "reread", "2", "ts", "reread", "2"],
-        &["tokens", "reread", "10", "reread", "9"],
-    ];
-    for words in bad {
-        assert_bad(&rt, alloc, words)?;
-    }
-    Ok(())
+    assert_all_bad(&rt, rt.alloc(), BAD_NUMBERS)
 }
 
 #[test]
@@ -699,12 +703,15 @@ fn assert_taken(
     taken: &[&str],
 ) -> Result<(), Fail> {
     let arguments = arguments(&(Started { arguments: started }, alloc))?;
-    let words = words(arguments.as_slice());
+    assert_words_are(rt, words(arguments.as_slice()), taken);
+    Ok(())
+}
+
+fn assert_words_are(rt: &impl Abort, words: &[String], taken: &[&str]) {
     assert!(rt; words.len() == taken.len());
     for (word, wanted) in words.iter().zip(taken) {
         assert_bytes(rt, word.as_bytes(), wanted.as_bytes());
     }
-    Ok(())
 }
 
 #[test]
@@ -713,9 +720,8 @@ fn takes_all_arguments_but_the_first(rt: HostRuntime) -> Result<(), Fail> {
     assert_taken(&rt, alloc, &[], &[])?;
     assert_taken(&rt, alloc, &["ecma_lex"], &[])?;
     assert_taken(&rt, alloc, &["ecma_lex", "errors"], &["errors"])?;
-    let started = ["ecma_lex", "tokens", "ts", "reread", "3"].as_slice();
-    let taken = ["tokens", "ts", "reread", "3"].as_slice();
-    assert_taken(&rt, alloc, started, taken)
+    let started = &["ecma_lex", "tokens", "ts", "reread", "3"];
+    assert_taken(&rt, alloc, started, &["tokens", "ts", "reread", "3"])
 }
 
 /// An input, how many bytes a page takes in all and at a call, what it does then, and what went out: a beginning of the
@@ -755,11 +761,15 @@ fn writes_a_byte_at_a_time(rt: HostRuntime) {
 fn answers_whole_or_out_of_memory(rt: HostRuntime) {
     let mut writer = Page::new(PAGE, PAGE, WhenFull::Fails);
     let status = run(rt.alloc(), &[], &mut b"a b".as_slice(), &mut writer);
+    assert_whole_or_refused(&rt, status, writer.held());
+}
+
+fn assert_whole_or_refused(rt: &impl Abort, status: u8, held: &[u8]) {
     if status == 0 {
-        assert_bytes(&rt, writer.held(), b"0 1 lf Ident a\n2 3 - Ident b\n");
+        assert_bytes(rt, held, b"0 1 lf Ident a\n2 3 - Ident b\n");
     } else {
         assert!(rt; status == 5);
-        assert_bytes(&rt, writer.held(), b"out of memory\n");
+        assert_bytes(rt, held, b"out of memory\n");
     }
 }
 

@@ -162,6 +162,49 @@ fn push_spaced(bytes: &mut Vec<u8>, text: &str) -> Result<(), AllocError> {
     Ok(())
 }
 
+/// Adds the name of a file where lines name it.
+fn push_name(bytes: &mut Vec<u8>, among: Among, file: &str) -> Result<(), AllocError> {
+    if !among.names {
+        return Ok(());
+    }
+    push_escaped(bytes, file.as_bytes())?;
+    bytes.push(b':')?;
+    Ok(())
+}
+
+/// Adds the text of a row as its line has it.
+fn push_text(bytes: &mut Vec<u8>, row: Row) -> Result<(), AllocError> {
+    match row.more {
+        More::Message => push_spaced(bytes, row.text),
+        _ => push_escaped(bytes, row.text.as_bytes()),
+    }
+}
+
+/// Where a row begins.
+fn position_of(alloc: Global, source: &str, row: Row) -> Result<Position, AllocError> {
+    Ok(LineStarts::of(alloc, source.as_bytes())?.position(row.span.lo))
+}
+
+/// Adds a row of a text with the end of its line.
+fn push_row_bytes(
+    alloc: Global,
+    bytes: &mut Vec<u8>,
+    (asked, among): (Asked, Among),
+    file: &str,
+    position: Position,
+    row: Row,
+) -> Result<(), AllocError> {
+    if asked.json {
+        bytes.extend_from_slice(object(alloc, file, position, row)?.as_bytes())?;
+    } else {
+        push_name(bytes, among, file)?;
+        bytes.extend_from_slice(head(alloc, asked.lines, position, row)?.as_bytes())?;
+        push_text(bytes, row)?;
+    }
+    bytes.push(b'\n')?;
+    Ok(())
+}
+
 /// A row of a text with the end of its line.
 fn row_bytes(
     alloc: Global,
@@ -171,24 +214,9 @@ fn row_bytes(
     source: &str,
     row: Row,
 ) -> Result<Vec<u8>, AllocError> {
-    let position = LineStarts::of(alloc, source.as_bytes())?.position(row.span.lo);
+    let position = position_of(alloc, source, row)?;
     let mut bytes = Vec::new(alloc);
-    if asked.json {
-        let line = object(alloc, file, position, row)?;
-        bytes.extend_from_slice(line.as_bytes())?;
-    } else {
-        if among.names {
-            push_escaped(&mut bytes, file.as_bytes())?;
-            bytes.push(b':')?;
-        }
-        let head = head(alloc, asked.lines, position, row)?;
-        bytes.extend_from_slice(head.as_bytes())?;
-        match row.more {
-            More::Message => push_spaced(&mut bytes, row.text)?,
-            _ => push_escaped(&mut bytes, row.text.as_bytes())?,
-        }
-    }
-    bytes.push(b'\n')?;
+    push_row_bytes(alloc, &mut bytes, (asked, among), file, position, row)?;
     Ok(bytes)
 }
 
@@ -465,23 +493,39 @@ const ORDERS: &[(&str, &[u32])] = &[
     ("lines apart", &[1, 16, 4, 13, 2, 9, 5, 17, 3, 18, 7, 0, 15]),
 ];
 
+/// A row that begins there.
+fn row_at(place: u32) -> Row<'static> {
+    let place = BytePos(place);
+    Row {
+        kind: "name",
+        span: Span {
+            lo: place,
+            hi: place,
+        },
+        more: More::Nothing,
+        text: "a",
+    }
+}
+
+/// Adds the row that begins there to a report, and as it is wanted.
+fn push_both(
+    alloc: Global,
+    report: &mut Report,
+    wanted: &mut Vec<u8>,
+    asked: Asked,
+    place: u32,
+) -> Result<(), AllocError> {
+    let row = row_at(place);
+    report.push_row(row)?;
+    wanted.extend_from_slice(&row_bytes(alloc, asked, ALONE, "a.js", LINES, row)?)
+}
+
 /// Whether rows that begin at these places, added to one report, have the line and the column of each.
 fn are_placed(alloc: Global, asked: Asked, places: &[u32]) -> Result<bool, AllocError> {
     let mut report = Report::new(alloc, asked, "a.js", LINES);
     let mut wanted = Vec::new(alloc);
     for place in places {
-        let place = BytePos(*place);
-        let row = Row {
-            kind: "name",
-            span: Span {
-                lo: place,
-                hi: place,
-            },
-            more: More::Nothing,
-            text: "a",
-        };
-        report.push_row(row)?;
-        wanted.extend_from_slice(&row_bytes(alloc, asked, ALONE, "a.js", LINES, row)?)?;
+        push_both(alloc, &mut report, &mut wanted, asked, *place)?;
     }
     Ok(report.out.as_slice() == wanted.as_slice())
 }

@@ -31,14 +31,18 @@ const CASES: &[Case] = &[
     ),
 ];
 
+fn error_at(alloc: Global, place: u32) -> Result<Error<'static>, AllocError> {
+    let span = Span {
+        lo: BytePos(place),
+        hi: BytePos(100),
+    };
+    Error::new(alloc, span, SyntaxError::UnterminatedTpl)
+}
+
 fn errors_at(alloc: Global, places: &[u32]) -> Result<Vec<Error<'static>>, AllocError> {
     let mut errors = Vec::new(alloc);
     for place in places {
-        let span = Span {
-            lo: BytePos(*place),
-            hi: BytePos(100),
-        };
-        errors.push(Error::new(alloc, span, SyntaxError::UnterminatedTpl)?)?;
+        errors.push(error_at(alloc, *place)?)?;
     }
     Ok(errors)
 }
@@ -51,6 +55,18 @@ fn is_at(found: &[Found], number: usize, place: u32, name: &str) -> bool {
     }
 }
 
+/// Whether the errors begin there, and come from there.
+fn are_at(found: &[Found], wanted: &[(u32, &str)]) -> bool {
+    let mut number: usize = 0;
+    for (place, name) in wanted {
+        if !is_at(found, number, *place, name) {
+            return false;
+        }
+        number = number.saturating_add(1);
+    }
+    found.len() == number
+}
+
 fn is_in_order(alloc: Global, case: &Case) -> Result<bool, AllocError> {
     let (tokens, recorded, waiting, wanted) = case;
     let found = in_order(
@@ -59,14 +75,7 @@ fn is_in_order(alloc: Global, case: &Case) -> Result<bool, AllocError> {
         errors_at(alloc, recorded)?,
         errors_at(alloc, waiting)?,
     )?;
-    let mut number: usize = 0;
-    for (place, name) in *wanted {
-        if !is_at(&found, number, *place, name) {
-            return Ok(false);
-        }
-        number = number.saturating_add(1);
-    }
-    Ok(found.len() == number)
+    Ok(are_at(&found, wanted))
 }
 
 #[test]
