@@ -1,4 +1,5 @@
 //! What is told of texts: rows over each face, with what the command wrote before its faces could be called.
+use clap::ArgMatches;
 use ecma_command::words::{
     Among, Asked, Chosen, Face, Named, command, is_by_flag, is_chosen, slash_places,
 };
@@ -546,15 +547,14 @@ fn is_written<'t>(
     )
 }
 
-/// Whether this is told of a text.
-fn is_told(alloc: Global, told: &Told) -> Result<bool, AllocError> {
-    let (line, text, is_faulty, rows, faults) = *told;
-    let command = command(alloc)?;
-    let words = words_of(alloc, line)?;
-    let Ok(matches) = command.try_get_matches_from(&words) else {
-        return Ok(false);
-    };
-    let Some((name, behind)) = matches.subcommand() else {
+/// Whether this is told of a text, as the words behind a subcommand ask.
+fn is_told_by(
+    alloc: Global,
+    name: &str,
+    behind: &ArgMatches,
+    told: &Told,
+) -> Result<bool, AllocError> {
+    let Some(asked) = Asked::of(name, behind, false) else {
         return Ok(false);
     };
     let places = slash_places(alloc, behind)?;
@@ -562,11 +562,22 @@ fn is_told(alloc: Global, told: &Told) -> Result<bool, AllocError> {
         places: &places,
         by_flag: is_by_flag(behind),
     };
+    let (_, text, is_faulty, rows, faults) = *told;
     let wanted = (is_faulty, rows, faults);
-    let Some(asked) = Asked::of(name, behind, false) else {
+    is_written(alloc, asked, Among::of(behind, false), named, text, wanted)
+}
+
+/// Whether this is told of a text.
+fn is_told(alloc: Global, told: &Told) -> Result<bool, AllocError> {
+    let command = command(alloc)?;
+    let words = words_of(alloc, told.0)?;
+    let Ok(matches) = command.try_get_matches_from(&words) else {
         return Ok(false);
     };
-    is_written(alloc, asked, Among::of(behind, false), named, text, wanted)
+    match matches.subcommand() {
+        Some((name, behind)) => is_told_by(alloc, name, behind, told),
+        None => Ok(false),
+    }
 }
 
 /// Asserts that all of this is told.

@@ -91,13 +91,18 @@ pub fn write_some(
     Ok(())
 }
 
+fn write_item(
+    out: &mut String,
+    text: &str,
+    item: Result<TokenAndSpan, AllocError>,
+) -> Result<(), AllocError> {
+    write_span(out, text, span_of(item?))
+}
+
 /// Writes the tokens that a tracked lexer gives as an iterator.
 pub fn write_items(out: &mut String, text: &str, tracked: &mut Tracked) -> Result<(), AllocError> {
     for item in tracked {
-        match item {
-            Ok(token) => write_span(out, text, span_of(token))?,
-            Err(refused) => return Err(refused),
-        }
+        write_item(out, text, item)?;
     }
     Ok(())
 }
