@@ -1,7 +1,7 @@
 // Forms of TypeScript and real files, with TypeScript's tree.
 import { corpus, differs, installed, rowsOf, textOf, unitsOf } from './rows.mjs';
 
-/** Forms that real files seldom have; what TypeScript 4.8 does not read is in modules_tests alone. */
+/** Forms that real files seldom have; what TypeScript 4.8 does not read is in tokens_tests alone. */
 const FORMS = [
  'import type A from "a"; import type { B } from "b"; import type * as C from "c"; import type, { x } from "t"; import type from "u";',
  'import x = require("y"); import type z = require("w"); export import q = require("r"); import m = A.B.C; export import n = A.B;',

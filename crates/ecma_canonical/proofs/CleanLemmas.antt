@@ -10,10 +10,10 @@ use Rattle.ecma_place.specs.Cursor.{Cursor}
 use Rattle.ecma_token.specs.Kinds.{kind_of}
 use Rattle.ecma_token.specs.View.{SpannedView, error_view}
 use Rattle.ecma_token.specs.declared.error.Error.{Error}
-use Rattle.ecma_clean.specs.Clean.{each_step, ends_clean, is_clean, is_plain_step, takes_none}
-use Rattle.ecma_clean.specs.Canonical.{canonical_of, own_in}
-use Rattle.ecma_clean.specs.Sharing.{IsReadCleanly, begin, canonical_text_of}
-use Rattle.ecma_clean.proofs.CanonicalLaws.{canonical_is_read}
+use Rattle.ecma_joined.specs.Clean.{each_step, ends_clean, is_clean, is_plain_step, takes_none}
+use Rattle.ecma_joined.specs.Canonical.{canonical_of, own_in}
+use Rattle.ecma_joined.specs.Sharing.{IsReadCleanly, begin, canonical_text_of}
+use Rattle.ecma_joined.proofs.CanonicalLaws.{canonical_is_read}
 use Rattle.ecma_place.specs.Text.{Text}
 use Rattle.ecma_canonical.specs.Canonical.{IsCanonicalText, IsTooLong}
 use Rattle.ecma_replay.specs.Replay.{Gathers, Replays, answer_view}

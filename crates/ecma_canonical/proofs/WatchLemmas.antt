@@ -8,7 +8,7 @@ use Rattle.std.proofs.lemmas.Option.{slice_get-map}
 use Rattle.ecma_place.specs.Cursor.{Cursor}
 use Rattle.ecma_place.specs.declared.place.BytePos.{BytePos}
 use Rattle.ecma_token.specs.View.{SpannedView}
-use Rattle.ecma_clean.specs.Clean.{each_step, is_plain_step, takes_none, was_again}
+use Rattle.ecma_joined.specs.Clean.{each_step, is_plain_step, takes_none, was_again}
 use Rattle.ecma_replay.specs.Replay.{answer_view}
 use Rattle.ecma_replay.specs.declared.answer.Answer.{Answer as GivenAnswer}
 use Rattle.ecma_canonical.specs.Watching.{WatcherValue, back_to, behind_step, followed, followed_all, is_done, is_token, nothing_watched, watch_of, watcher_of, with_step}

@@ -5,8 +5,8 @@ use Rattle.ecma_place.specs.Text.{Text, byte_len}
 use Rattle.ecma_state.specs.Run.{session, start_of}
 use Rattle.ecma_state.specs.declared.settings.Settings.{Settings}
 use Rattle.ecma_state.specs.declared.step.Step.{Step}
-use Rattle.ecma_clean.specs.Clean.{ends_clean, is_clean}
-use Rattle.ecma_clean.specs.Sharing.{IsCanonical, IsReadCleanly, begin, canonical_text_of, owned}
+use Rattle.ecma_joined.specs.Clean.{ends_clean, is_clean}
+use Rattle.ecma_joined.specs.Sharing.{IsCanonical, IsReadCleanly, begin, canonical_text_of, owned}
 use Rattle.ecma_replay.specs.Replay.{Gathers}
 use Rattle.ecma_replay.specs.declared.gathered.Gathered.{Gathered}
 use Rattle.ecma_canonical.specs.declared.clean_text.Canon.{Canon}

@@ -1,6 +1,6 @@
 -- What is told of the steps of a run by what they answered.
 use Rattle.std.specs.Prelude.{Bool, true, false, not, ◌&&◌, ◌||◌, List, [], ◌∷◌, ◌++◌, Option, Some, None, is_some, map, slice_get}
-use Rattle.ecma_clean.specs.Clean.{each_step, is_plain_step, takes_none, was_again}
+use Rattle.ecma_joined.specs.Clean.{each_step, is_plain_step, takes_none, was_again}
 use Rattle.ecma_canonical.specs.declared.watch.Watch.{Watch}
 use Rattle.ecma_state.specs.Counting.{Counted}
 use Rattle.ecma_state.specs.Run.{Answer, Token', End, Done, Errors', NoSlash, NoSave, NoContext, act_all}

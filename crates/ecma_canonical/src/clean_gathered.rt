@@ -3,7 +3,7 @@ ghost use Rattle.std.specs.Prelude.{◌+◌, ◌<◌, ◌^◌, List, length, IfO
 ghost use Rattle.std.specs.Str.{chars};
 ghost use Rattle.ecma_state.specs.declared.settings.Settings.{Settings};
 ghost use Rattle.ecma_state.specs.declared.step.Step.{Step};
-ghost use Rattle.ecma_clean.specs.Sharing.{begin};
+ghost use Rattle.ecma_joined.specs.Sharing.{begin};
 ghost use Rattle.ecma_canonical.specs.Canonical.{GathersPlainly, IsCanon};
 
 use crate::clean_text::{Canon, canon_of_clean, ends_clean};

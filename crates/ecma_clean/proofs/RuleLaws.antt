@@ -7,13 +7,13 @@ use Rattle.std.specs.List.{list_all, list_any}
 use Rattle.ecma_place.specs.Cursor.{Cursor, passed, place, rest}
 use Rattle.ecma_place.specs.Text.{Text}
 use Rattle.ecma_place.specs.declared.place.BytePos.{BytePos}
-use Rattle.ecma_scan.specs.Found.{Fault, Scanned, fault_behind, found_at, token_behind, value_behind}
-use Rattle.ecma_scan.specs.GapViews.{GapView}
-use Rattle.ecma_scan.specs.Locality.{has_clean_faults, is_accepted, is_always, is_clean}
-use Rattle.ecma_scan.specs.Numbers.{number}
-use Rattle.ecma_scan.specs.declared.found.Blame.{Blame}
-use Rattle.ecma_scan.specs.declared.found.Blame.TheVariants.{Always, Strict, Module}
-use Rattle.ecma_scan.proofs.NumberRules.{clean_by_both_rules}
+use Rattle.ecma_clean_reads.specs.Found.{Fault, Scanned, fault_behind, found_at, token_behind, value_behind}
+use Rattle.ecma_clean_reads.specs.GapViews.{GapView}
+use Rattle.ecma_clean_reads.specs.Locality.{has_clean_faults, is_accepted, is_always, is_clean}
+use Rattle.ecma_clean_reads.specs.Numbers.{number}
+use Rattle.ecma_clean_reads.specs.declared.found.Blame.{Blame}
+use Rattle.ecma_clean_reads.specs.declared.found.Blame.TheVariants.{Always, Strict, Module}
+use Rattle.ecma_clean_reads.proofs.NumberRules.{clean_by_both_rules}
 use Rattle.ecma_state.specs.Contexts.{Contexts}
 use Rattle.ecma_state.specs.Counting.{counting}
 use Rattle.ecma_state.specs.Reading.{Reading, behind_gap, gap_in, reading, reading_behind, reading_code, reading_if, stands_shebang, token_reading}

@@ -8,7 +8,7 @@ use Rattle.clean_runs.specs.Moments.{Moment, calm_moments, moment}
 use Rattle.clean_runs.specs.Walk.{calm_walk, is_calm, walked_if, with_moment}
 use Rattle.ecma_place.specs.Cursor.{Cursor, rest}
 use Rattle.ecma_place.specs.declared.place.BytePos.{BytePos}
-use Rattle.ecma_scan.specs.Gaps.{has_line_break}
+use Rattle.ecma_clean_reads.specs.Gaps.{has_line_break}
 use Rattle.ecma_clean_reads.proofs.EndLemmas.{reading-end}
 use Rattle.ecma_state.specs.Mode.{gap_mode}
 use Rattle.ecma_state.specs.Reading.{Reading, reading}

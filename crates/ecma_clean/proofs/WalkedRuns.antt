@@ -9,7 +9,7 @@ use Rattle.clean_runs.specs.Walk.{Walked, walk, walk_again, walk_first, walk_fou
 use Rattle.ecma_place.specs.Cursor.{Cursor, HasPlace, place, rest}
 use Rattle.ecma_place.specs.Text.{Text, place_of}
 use Rattle.ecma_place.specs.declared.place.BytePos.{BytePos}
-use Rattle.ecma_scan.specs.Expressions.{opens_expression}
+use Rattle.ecma_clean_reads.specs.Expressions.{opens_expression}
 use Rattle.ecma_clean_reads.proofs.SlashLemmas.{at-there, place-there}
 use Rattle.ecma_state.specs.Reading.{Reading, reading, reading_again}
 use Rattle.ecma_state.specs.Run.{NoSlash, act, act_on, at_place, mode_of, reread_from, start_of}

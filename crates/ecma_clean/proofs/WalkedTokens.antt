@@ -8,8 +8,8 @@ use Rattle.clean_runs.specs.Walk.{calm_walk, walk, walk_found}
 use Rattle.ecma_place.specs.Cursor.{Cursor, rest}
 use Rattle.ecma_place.specs.Text.{Text}
 use Rattle.ecma_place.specs.declared.place.BytePos.{BytePos}
-use Rattle.ecma_scan.specs.Expressions.{opens_expression}
-use Rattle.ecma_scan.specs.Found.{Fault}
+use Rattle.ecma_clean_reads.specs.Expressions.{opens_expression}
+use Rattle.ecma_clean_reads.specs.Found.{Fault}
 use Rattle.ecma_clean_reads.proofs.SlashLemmas.{at-there, begins-reading}
 use Rattle.ecma_state.specs.Reading.{Reading, reading}
 use Rattle.ecma_state.specs.Run.{act, act_on, acted_on, at_place, given_in, mode_of}

@@ -9,7 +9,7 @@ use Rattle.clean_runs.specs.Moments.{Moment}
 use Rattle.clean_runs.specs.Walk.{Walked, walked_if, with_moment, with_token}
 use Rattle.ecma_place.specs.Cursor.{Cursor}
 use Rattle.ecma_place.specs.declared.place.BytePos.{BytePos}
-use Rattle.ecma_scan.specs.Found.{Fault}
+use Rattle.ecma_clean_reads.specs.Found.{Fault}
 use Rattle.ecma_state.specs.Disposition.{Errors}
 use Rattle.ecma_state.specs.Reading.{Reading, reading, reading_again}
 use Rattle.ecma_state.specs.Run.{act, act_all, act_on, acted_on, at_place, given_in, mode_of, reading_from}

@@ -1,8 +1,8 @@
 -- What becomes of the faults of a clean read: none is recorded, and something waits behind it that did before or is new.
 use Rattle.std.proofs.Common.{◌≡◌, ◌∙◌, Bool, true, false, not, ◌||◌, cond, List, [], ◌∷◌, ◌++◌, refl, sym, ap}
-use Rattle.ecma_scan.specs.declared.found.Blame.{Blame}
-use Rattle.ecma_scan.specs.declared.found.Blame.TheVariants.{Always, Strict, Module}
-use Rattle.ecma_scan.specs.Found.{Fault}
+use Rattle.ecma_parts.specs.declared.found.Blame.{Blame}
+use Rattle.ecma_parts.specs.declared.found.Blame.TheVariants.{Always, Strict, Module}
+use Rattle.ecma_parts.specs.Found.{Fault}
 use Rattle.ecma_state.specs.Disposition.{Disposition, Dropped, Errors, Recorded, Waiting, disposed, disposition, of_recorded, with_fault, with_faults}
 use Rattle.ecma_state.specs.TokenAt.{is_empty}
 use Rattle.ecma_syntax.specs.declared.context.Context.{Context}

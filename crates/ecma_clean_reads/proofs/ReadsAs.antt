@@ -5,18 +5,18 @@ use Rattle.clean_runs.specs.Grammar.{Found, token, ended, faulty}
 use Rattle.clean_runs.specs.Parts.{code_found, scan_in}
 use Rattle.ecma_place.specs.Cursor.{Cursor, passed, place, rest}
 use Rattle.ecma_place.specs.Text.{Text, byte_len}
-use Rattle.ecma_scan.specs.Expressions.{opens_expression, regular_expression}
-use Rattle.ecma_scan.specs.Found.{Fault, FoundView, Scanned, fault_behind, found_at, span_of, token_behind}
-use Rattle.ecma_scan.specs.GapViews.{GapView}
-use Rattle.ecma_scan.specs.Gaps as gaps
-use Rattle.ecma_scan.specs.Gaps.{gap_faults, gap_spelling}
-use Rattle.ecma_scan.specs.Shebangs.{opens_shebang}
-use Rattle.ecma_scan.proofs.GapFaults.{gap_faults_move}
-use Rattle.ecma_reads.proofs.FrontLemmas.{expression-front, shebang-front, token_at-front}
-use Rattle.ecma_reads.proofs.ReadingLemmas.{placed-faults}
-use Rattle.ecma_joining.proofs.FaultlessLaws.{expression_is_faultless}
-use Rattle.ecma_reads.proofs.EndLemmas.{token-extent}
-use Rattle.ecma_reads.proofs.SlashLemmas.{again-kind, expression-no-slash}
+use Rattle.ecma_parts.specs.Expressions.{opens_expression, regular_expression}
+use Rattle.ecma_parts.specs.Found.{Fault, FoundView, Scanned, fault_behind, found_at, span_of, token_behind}
+use Rattle.ecma_parts.specs.GapViews.{GapView}
+use Rattle.ecma_parts.specs.Gaps as gaps
+use Rattle.ecma_parts.specs.Gaps.{gap_faults, gap_spelling}
+use Rattle.ecma_parts.specs.Shebangs.{opens_shebang}
+use Rattle.ecma_parts.proofs.GapFaults.{gap_faults_move}
+use Rattle.ecma_parts.proofs.FrontLemmas.{expression-front, shebang-front, token_at-front}
+use Rattle.ecma_parts.proofs.ReadingLemmas.{placed-faults}
+use Rattle.ecma_parts.proofs.FaultlessLaws.{expression_is_faultless}
+use Rattle.ecma_parts.proofs.EndLemmas.{token-extent}
+use Rattle.ecma_parts.proofs.SlashLemmas.{again-kind, expression-no-slash}
 use Rattle.ecma_state.specs.Mode.{gap_mode}
 use Rattle.ecma_state.specs.Reading.{Reading, behind_gap, gap_in, reading, reading_again, reading_behind, reading_code, reading_if, shebang_reading, shebang_token, spanned, token_reading}
 use Rattle.ecma_state.specs.State.{is_error, is_slash}
@@ -25,7 +25,7 @@ use Rattle.ecma_state.specs.declared.lookahead.Lookahead.{Lookahead}
 use Rattle.ecma_state.specs.declared.lookahead.Lookahead.TheVariants as opens
 use Rattle.ecma_state.specs.Transition.{tpl_on_top}
 use Rattle.ecma_state.specs.declared.mode.Mode.{Mode}
-use Rattle.ecma_reads.proofs.PlacedKinds.{kind-behind, placed-kind}
+use Rattle.ecma_parts.proofs.PlacedKinds.{kind-behind, placed-kind}
 use Rattle.ecma_syntax.specs.declared.context.Context.{Context}
 use Rattle.ecma_place.specs.declared.place.BytePos.{BytePos}
 use Rattle.ecma_place.specs.declared.comment.Comment.{Comment}

@@ -4,8 +4,8 @@ use Rattle.ecma_place.specs.Cursor.{Cursor, place, rest}
 use Rattle.ecma_place.specs.Text.{Text, byte_len, place_of, slice_between}
 use Rattle.ecma_place.specs.declared.place.Span.{Span}
 use Rattle.ecma_place.proofs.TextLemmas.{byte_len-append, slice_between-parts}
-use Rattle.ecma_scan.specs.Found.{FoundView, Scanned, span_of, token_behind, value_behind}
-use Rattle.ecma_scan.specs.Templates.{template_value}
+use Rattle.ecma_parts.specs.Found.{FoundView, Scanned, span_of, token_behind, value_behind}
+use Rattle.ecma_parts.specs.Templates.{template_value}
 use Rattle.ecma_state.specs.Reading.{spanned}
 use Rattle.ecma_state.specs.Session.{kept_of}
 use Rattle.ecma_state.specs.State.{is_error}
@@ -13,7 +13,7 @@ use Rattle.ecma_state.specs.TokenAt.{placed, token_of}
 use Rattle.ecma_state.specs.declared.mode.Mode.{Mode}
 use Rattle.ecma_state.specs.declared.lookahead.Lookahead.{Lookahead}
 use Rattle.ecma_state.specs.declared.lookahead.Lookahead.TheVariants as opens
-use Rattle.ecma_reads.proofs.PlacedKinds.{kind-behind}
+use Rattle.ecma_parts.proofs.PlacedKinds.{kind-behind}
 use Rattle.ecma_token.specs.Kinds.{kind_of}
 use Rattle.ecma_token.specs.View.{ErrorView, SpannedView, TokenView, error_token, plain_token, refused_template}
 use Rattle.ecma_token.specs.declared.kind.TokenKind.{TokenKind}

@@ -3,3 +3,9 @@ pub mod Stages
 pub use Rattle.ecma_parts.specs.BareReads
 pub use Rattle.ecma_parts.specs.Bearing
 pub use Rattle.ecma_parts.specs.Instance
+pub use Rattle.ecma_parts.specs.Expressions
+pub use Rattle.ecma_parts.specs.Found
+pub use Rattle.ecma_parts.specs.GapViews
+pub use Rattle.ecma_parts.specs.Gaps
+pub use Rattle.ecma_parts.specs.Locality
+pub use Rattle.ecma_parts.specs.Numbers

@@ -2,3 +2,5 @@
 //! grammar's parts find; and a run that went wrong stays so. What `ecma_clean` names of `ecma_parts` and `ecma_reads` is
 //! passed on.
 #![tactic(auto)]
+
+pub use ecma_parts::found;

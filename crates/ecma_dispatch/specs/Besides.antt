@@ -1,7 +1,7 @@
 -- What a read finds besides the token, as the code has it, and what becomes of that.
 use Rattle.std.specs.Prelude.{◌≡◌, ◌++◌, Bool, List, [], map, Option}
 use Rattle.ecma_place.specs.declared.comment.Comment.{Comment}
-use Rattle.ecma_scan.specs.Found.{Fault, fault_view}
+use Rattle.ecma_reads.specs.Found.{Fault, fault_view}
 use Rattle.ecma_state.specs.Disposition.{with_faults}
 use Rattle.ecma_state.specs.Reading.{Reading}
 use Rattle.ecma_state.specs.Run.{comments_behind}

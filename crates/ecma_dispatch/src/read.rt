@@ -2,16 +2,16 @@
 ghost use Rattle.std.specs.Prelude.{◌≡◌, ◌≤◌, true, None, option_map, if◌then◌else◌, IfOk, IsOk, OnOk};
 ghost use Rattle.ecma_dispatch.specs.Besides.{IsBeside};
 ghost use Rattle.ecma_token.specs.View.{spanned_view, token_view};
-ghost use Rattle.ecma_scan.specs.Found.{found_view, value_view};
+ghost use Rattle.ecma_reads.specs.Found.{found_view, value_view};
 ghost use Rattle.ecma_place.specs.Cursor.{rest, place};
-ghost use Rattle.ecma_scan.specs.Expressions.{opens_expression};
-ghost use Rattle.ecma_scan.specs.Shebangs.{opens_shebang};
+ghost use Rattle.ecma_reads.specs.Expressions.{opens_expression};
+ghost use Rattle.ecma_reads.specs.Shebangs.{opens_shebang};
 ghost use Rattle.ecma_state.specs.Reading.{reading, reading_again, reading_code, shebang_reading, spanned, is_free, is_free_again, is_free_code};
 ghost use Rattle.ecma_state.specs.TokenAt as tokens;
 
 use crate::token_at::{Taken, token_at};
 use ecma_place::{Comment, StringInput};
-use ecma_scan::{Blame, Found, scan_gap, scan_regexp, scan_shebang};
+use ecma_reads::{Blame, Found, scan_gap, scan_regexp, scan_shebang};
 use ecma_state::mode::Mode;
 use ecma_token::{Error, Token, TokenAndSpan};
 use std::alloc::{AllocError, Global};

@@ -2,14 +2,14 @@
 ghost use Rattle.std.specs.Prelude.{◌≡◌, ◌≤◌, true, Some, length, slice_get, is_ok, IfOk, IsOk, OnOk};
 ghost use Rattle.ecma_place.specs.Cursor.{rest, place, passed};
 ghost use Rattle.ecma_token.specs.View.{token_view};
-ghost use Rattle.ecma_scan.specs.Found.{found_view, found_at, token_behind, value_view};
-ghost use Rattle.ecma_scan.specs.Bars.{opens_bars, bars_comments_at, bars_spelling, bars_token};
-ghost use Rattle.ecma_scan.specs.Words.{identifier_name, opens_word};
+ghost use Rattle.ecma_reads.specs.Found.{found_view, found_at, token_behind, value_view};
+ghost use Rattle.ecma_reads.specs.Bars.{opens_bars, bars_comments_at, bars_spelling, bars_token};
+ghost use Rattle.ecma_reads.specs.Words.{identifier_name, opens_word};
 ghost use Rattle.ecma_state.specs.Mode.{gap_mode};
 ghost use Rattle.ecma_state.specs.TokenAt as tokens;
 
 use ecma_place::{Comment, Span, StringInput};
-use ecma_scan::{
+use ecma_reads::{
     Bars, Found, scan_bars, scan_number, scan_punct, scan_string, scan_template, scan_word,
 };
 use ecma_state::lookahead::Lookahead;

@@ -2,12 +2,7 @@ pub mod EscapeBytes
 pub mod EscapeForms
 pub mod EscapeReading
 pub mod EscapeSpans
-pub mod NameReading
-pub mod NameRuns
 pub mod PieceReading
-pub mod ShortReading
 pub mod StringFound
 pub mod StringLaws
 pub mod StringReading
-pub mod WordLaws
-pub mod WordReading

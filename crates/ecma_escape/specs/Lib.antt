@@ -1,4 +1,3 @@
 pub mod EscapeMeanings
 pub mod EscapeParts
-pub mod NameParts
 pub mod PieceParts

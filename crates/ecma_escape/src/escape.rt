@@ -369,7 +369,7 @@ pub fn refusal_span(refusal: Refusal, within: Use, start: BytePos, end: BytePos)
 }
 
 /// The error of a refused escape that reaches from `start` to `end`.
-pub(crate) fn refusal_error<'a>(
+pub fn error_of_refusal<'a>(
     alloc: Global,
     refusal: Refusal,
     within: Use,
@@ -442,7 +442,7 @@ pub fn push_escape<'a>(
     let start = input.cur_pos();
     let answer = read_escape(input, within);
     if let Meaning::Refused(refusal) = answer {
-        let error = refusal_error(alloc, refusal, within, start, input.cur_pos())?;
+        let error = error_of_refusal(alloc, refusal, within, start, input.cur_pos())?;
         return Ok(Some(error));
     }
     push_value(text, answer, input.slice(start, input.cur_pos()))?;

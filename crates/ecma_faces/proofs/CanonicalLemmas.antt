@@ -14,9 +14,9 @@ use Rattle.ecma_state.specs.Run.{session}
 use Rattle.ecma_state.specs.Session.{has_ended, kept_back, kept_of, kept_tokens}
 use Rattle.ecma_state.specs.TokenAt.{is_empty}
 use Rattle.ecma_state.specs.declared.kept.Kept.{Kept}
-use Rattle.ecma_clean.specs.Canonical.{Own, canonical_behind, canonical_of, own_in}
-use Rattle.ecma_clean.specs.Clean.{ends_clean}
-use Rattle.ecma_clean.specs.Sharing.{canonical_text_of}
+use Rattle.ecma_joined.specs.Canonical.{Own, canonical_behind, canonical_of, own_in}
+use Rattle.ecma_joined.specs.Clean.{ends_clean}
+use Rattle.ecma_joined.specs.Sharing.{canonical_text_of}
 use Rattle.ecma_joined.specs.Joined.{StandsIn, between_behind}
 use Rattle.ecma_canonical.proofs.CleanLemmas.{all-reversed, mapped-empty, text-fits, text-too_long}
 use Rattle.ecma_joined.proofs.JoinedLemmas.{between_bytes}

@@ -5,7 +5,7 @@ use Rattle.ecma_token.specs.View.{SpannedView}
 use Rattle.ecma_token.specs.declared.kind.TokenKind.{TokenKind}
 use Rattle.ecma_state.specs.Session.{kept_of}
 use Rattle.ecma_state.specs.State.{is_error}
-use Rattle.ecma_clean.specs.Clean.{is_clean}
+use Rattle.ecma_joined.specs.Clean.{is_clean}
 use Rattle.ecma_options.specs.Begin.{whole}
 use Rattle.ecma_reader.specs.Rereads.{SlashRule}
 use Rattle.ecma_joined.specs.Joined.{between_behind}

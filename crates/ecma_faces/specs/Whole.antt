@@ -8,8 +8,8 @@ use Rattle.ecma_state.specs.declared.kept.Kept.{Kept}
 use Rattle.ecma_state.specs.declared.settings.Settings.{Settings}
 use Rattle.ecma_state.specs.declared.step.Step.{Step}
 use Rattle.ecma_canonical.specs.Canonical.{IsCanonicalText, IsTooLong}
-use Rattle.ecma_clean.specs.Clean.{is_clean}
-use Rattle.ecma_clean.specs.Sharing.{begin}
+use Rattle.ecma_joined.specs.Clean.{is_clean}
+use Rattle.ecma_joined.specs.Sharing.{begin}
 use Rattle.ecma_options.specs.Begin.{context, settings, whole}
 use Rattle.ecma_reader.specs.Rereads.{SlashRule, text_steps_by}
 use Rattle.ecma_faults.specs.Faults.{FoundView, IsByPlace, all_of}

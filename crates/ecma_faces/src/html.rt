@@ -2,7 +2,7 @@
 ghost use Rattle.std.specs.Prelude.{◌≡◌, ◌<◌, ◌^◌, ◌++◌, List, [], false, true, length, map, ℕ, IfOk, OnOk};
 ghost use Rattle.std.specs.Str.{chars};
 ghost use Rattle.ecma_classes.specs.Classes.{begin};
-ghost use Rattle.ecma_pieces.specs.Covered.{MayBeCovered};
+ghost use Rattle.ecma_looks.specs.Covered.{MayBeCovered};
 ghost use Rattle.ecma_faults.specs.Faults.{view};
 ghost use Rattle.ecma_html.specs.Marked.{AreInOrder};
 ghost use Rattle.ecma_html.specs.Parts.{begin_of, end_of, left_html};

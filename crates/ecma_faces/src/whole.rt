@@ -2,7 +2,7 @@
 ghost use Rattle.std.specs.Prelude.{◌≡◌, ◌++◌, ◌∷◌, ◌<◌, ◌^◌, [], List, false, length, map, true, ℕ, IfOk, OnOk};
 ghost use Rattle.std.specs.Str.{chars};
 ghost use Rattle.ecma_classes.specs.Classes.{begin, classes_of};
-ghost use Rattle.ecma_pieces.specs.Covered.{MayBeCovered};
+ghost use Rattle.ecma_looks.specs.Covered.{MayBeCovered};
 ghost use Rattle.ecma_faults.specs.Faults.{view};
 ghost use Rattle.ecma_html.specs.Marked.{AreInOrder};
 ghost use Rattle.ecma_looks.specs.Shown.{IsShown};

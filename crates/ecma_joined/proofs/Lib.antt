@@ -1,1 +1,2 @@
 pub mod JoinedLemmas
+pub use Rattle.ecma_clean.proofs.CanonicalLaws

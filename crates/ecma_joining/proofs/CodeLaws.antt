@@ -24,7 +24,7 @@ use Rattle.ecma_scan.specs.Words.{opens_word, word}
 use Rattle.ecma_scan.proofs.Fronts.{separated}
 use Rattle.ecma_scan.proofs.NumberLocal.{number_begins_no_gap, number_local, spelling_is}
 use Rattle.ecma_scan.proofs.PunctuatorLaws.{found_local, found_passes, punctuator_begins_no_gap}
-use Rattle.ecma_scan.proofs.SeparationLaws.{string_begins_no_gap, word_begins_no_gap}
+use Rattle.ecma_grammar_laws.proofs.SeparationLaws.{string_begins_no_gap, word_begins_no_gap}
 use Rattle.ecma_scan.proofs.StringLaws.{string_is_local}
 use Rattle.ecma_scan.proofs.WordLaws.{word_is_local}
 

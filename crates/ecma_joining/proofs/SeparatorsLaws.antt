@@ -19,7 +19,7 @@ use Rattle.ecma_scan.specs.Shebangs.{opens_shebang}
 use Rattle.ecma_scan.specs.Words.{opens_word}
 use Rattle.ecma_scan.proofs.ExpressionLaws.{first_slash_is_local}
 use Rattle.ecma_scan.proofs.GapLaws.{line_feed_is_the_gap, no_element, nothing_is_the_gap, space_is_the_gap}
-use Rattle.ecma_scan.proofs.SeparationLaws.{expression_begins_no_gap}
+use Rattle.ecma_grammar_laws.proofs.SeparationLaws.{expression_begins_no_gap}
 
 -- what a gap tells, by its elements
 of_gap : (mode : GapMode) (text : Text) (es : List Element) (flag : Bool) (left : Text) → gap mode text ≡ es → has_line_break mode text ≡ flag → faults_of None 0 es ≡ []

@@ -13,3 +13,4 @@ pub mod OrderLemmas
 pub mod StepLemmas
 pub mod TilingLemmas
 pub mod ToldLemmas
+pub use Rattle.ecma_grammar_laws.proofs.CommentLaws

@@ -1,1 +1,2 @@
 pub mod PartLemmas
+pub use Rattle.ecma_pieces.proofs.CoveredLemmas

@@ -6,12 +6,12 @@ use Rattle.ecma_reads.proofs.FrontLemmas.{expression-front}
 use Rattle.ecma_joining.specs.OwnContexts.{are_own}
 use Rattle.ecma_place.specs.Atom.{AtomView}
 use Rattle.ecma_place.specs.Text.{Text}
-use Rattle.ecma_scan.proofs.ExpressionLaws.{expression_is_local}
-use Rattle.ecma_scan.specs.Expressions.{body_cutter, body_pieces, closed_expression, flags, open_expression, opens_expression, regex_value, regular_expression}
-use Rattle.ecma_scan.specs.Found.{Scanned}
-use Rattle.ecma_scan.specs.Fronts.{next_is}
-use Rattle.ecma_scan.specs.Locality.{is_clean, separates}
-use Rattle.ecma_scan.specs.Pieces.{remainder, spelled}
+use Rattle.ecma_reads.proofs.ExpressionLaws.{expression_is_local}
+use Rattle.ecma_reads.specs.Expressions.{body_cutter, body_pieces, closed_expression, flags, open_expression, opens_expression, regex_value, regular_expression}
+use Rattle.ecma_reads.specs.Found.{Scanned}
+use Rattle.ecma_reads.specs.Fronts.{next_is}
+use Rattle.ecma_reads.specs.Locality.{is_clean, separates}
+use Rattle.ecma_reads.specs.Pieces.{remainder, spelled}
 use Rattle.ecma_state.specs.State.{is_error, is_shebang, is_slash}
 use Rattle.ecma_state.specs.TokenAt.{token_of}
 use Rattle.ecma_token.specs.Kinds.{kind_of}

@@ -1,9 +1,9 @@
 -- What is neither refused nor has a fault that is recorded is read cleanly.
 use Rattle.std.proofs.Common.{◌≡◌, ◌∙◌, Bool, true, false, not, ◌&&◌, ◌||◌, List, [], ◌∷◌, Result, Ok, Err, refl, ap}
-use Rattle.ecma_scan.specs.declared.found.Blame.{Blame}
-use Rattle.ecma_scan.specs.declared.found.Blame.TheVariants.{Always, Strict, Module}
-use Rattle.ecma_scan.specs.Found.{Fault, Scanned}
-use Rattle.ecma_scan.specs.Locality.{has_clean_faults, is_accepted, is_always, is_clean}
+use Rattle.ecma_reads.specs.declared.found.Blame.{Blame}
+use Rattle.ecma_reads.specs.declared.found.Blame.TheVariants.{Always, Strict, Module}
+use Rattle.ecma_reads.specs.Found.{Fault, Scanned}
+use Rattle.ecma_reads.specs.Locality.{has_clean_faults, is_accepted, is_always, is_clean}
 use Rattle.ecma_state.specs.State.{is_error}
 use Rattle.ecma_state.specs.TokenAt.{token_of}
 use Rattle.ecma_syntax.specs.declared.context.Context.{Context}

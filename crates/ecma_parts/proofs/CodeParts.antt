@@ -14,13 +14,13 @@ use Rattle.ecma_joining.specs.CodeKinds.{is_closer, is_closer_text, is_text_or_l
 use Rattle.ecma_joining.specs.OwnContexts.{opens_text}
 use Rattle.ecma_joining.specs.Separators.{CloserAgain, IsGap, SlashAgain, separator}
 use Rattle.ecma_place.specs.Text.{Text}
-use Rattle.ecma_scan.specs.Expressions.{opens_expression, regular_expression}
-use Rattle.ecma_scan.specs.Found.{Scanned, token_behind, value_behind}
-use Rattle.ecma_scan.specs.Gaps.{element, elements_under, faults_of, gap_cutter, has_line_break}
-use Rattle.ecma_scan.specs.Locality.{ends_template, is_clean, separates}
-use Rattle.ecma_scan.specs.Pieces.{spelled}
-use Rattle.ecma_scan.specs.Shebangs.{opens_shebang}
-use Rattle.ecma_scan.specs.Templates.{template_value}
+use Rattle.ecma_reads.specs.Expressions.{opens_expression, regular_expression}
+use Rattle.ecma_reads.specs.Found.{Scanned, token_behind, value_behind}
+use Rattle.ecma_reads.specs.Gaps.{element, elements_under, faults_of, gap_cutter, has_line_break}
+use Rattle.ecma_reads.specs.Locality.{ends_template, is_clean, separates}
+use Rattle.ecma_reads.specs.Pieces.{spelled}
+use Rattle.ecma_reads.specs.Shebangs.{opens_shebang}
+use Rattle.ecma_reads.specs.Templates.{template_value}
 use Rattle.ecma_state.specs.Contexts.{innermost}
 use Rattle.ecma_state.specs.Mode.{is_template}
 use Rattle.ecma_state.specs.State.{is_shebang, is_slash}

@@ -8,12 +8,12 @@ use Rattle.ecma_joining.proofs.CodeLaws.{code_is_token}
 use Rattle.ecma_joining.specs.Code.{code_at, code_mode}
 use Rattle.ecma_joining.specs.Separators.{IsGap}
 use Rattle.ecma_place.specs.Text.{Text}
-use Rattle.ecma_scan.specs.Found.{Fault, Scanned}
-use Rattle.ecma_scan.specs.Gaps.{behind_gap, gap_faults, has_line_break}
-use Rattle.ecma_scan.specs.Locality.{has_clean_faults, is_accepted, is_always, is_clean}
-use Rattle.ecma_scan.specs.declared.found.Blame.{Blame}
-use Rattle.ecma_scan.specs.declared.found.Blame.TheVariants.{Always, Module, Strict}
-use Rattle.ecma_scan.specs.declared.gap_mode.GapMode.{GapMode}
+use Rattle.ecma_reads.specs.Found.{Fault, Scanned}
+use Rattle.ecma_reads.specs.Gaps.{behind_gap, gap_faults, has_line_break}
+use Rattle.ecma_reads.specs.Locality.{has_clean_faults, is_accepted, is_always, is_clean}
+use Rattle.ecma_reads.specs.declared.found.Blame.{Blame}
+use Rattle.ecma_reads.specs.declared.found.Blame.TheVariants.{Always, Module, Strict}
+use Rattle.ecma_reads.specs.declared.gap_mode.GapMode.{GapMode}
 use Rattle.ecma_state.specs.Contexts.{innermost}
 use Rattle.ecma_state.specs.Mode.{gap_mode, is_template}
 use Rattle.ecma_state.specs.State.{is_error}

@@ -6,3 +6,11 @@ pub mod InstanceLaws
 pub mod PlainBearings
 pub mod TemplateCode
 pub mod TextParts
+pub use Rattle.ecma_joining.proofs.FaultlessLaws
+pub use Rattle.ecma_reads.proofs.EndLemmas
+pub use Rattle.ecma_reads.proofs.FrontLemmas
+pub use Rattle.ecma_reads.proofs.GapFaults
+pub use Rattle.ecma_reads.proofs.PlacedKinds
+pub use Rattle.ecma_reads.proofs.ReadingLemmas
+pub use Rattle.ecma_reads.proofs.SlashLemmas
+pub use Rattle.ecma_reads.proofs.NumberRules

@@ -8,14 +8,14 @@ use Rattle.ecma_joining.proofs.TextsLaws.{texts_stand_alone}
 use Rattle.ecma_joining.specs.Texts.{text_at, text_in}
 use Rattle.ecma_place.specs.Character.{is_line_terminator}
 use Rattle.ecma_place.specs.Text.{Text}
-use Rattle.ecma_scan.specs.Bars.{opens_bars}
-use Rattle.ecma_scan.specs.Found.{Scanned}
-use Rattle.ecma_scan.specs.Gaps.{elements_under, faults_of, gap_cutter}
-use Rattle.ecma_scan.specs.Numbers.{opens_number}
-use Rattle.ecma_scan.specs.Pieces.{pieces, remainder, spelled}
-use Rattle.ecma_scan.specs.Strings.{opens_string}
-use Rattle.ecma_scan.specs.Templates.{AtBackQuote, AtDollarBrace, AtEnd, TemplateEnd, TemplatePiece, is_break, last_refusal, mark_of, raw_text, template_cutter, template_end, template_of, template_text, template_token, text_of, token_of_refusal}
-use Rattle.ecma_scan.specs.Words.{opens_word}
+use Rattle.ecma_reads.specs.Bars.{opens_bars}
+use Rattle.ecma_reads.specs.Found.{Scanned}
+use Rattle.ecma_reads.specs.Gaps.{elements_under, faults_of, gap_cutter}
+use Rattle.ecma_reads.specs.Numbers.{opens_number}
+use Rattle.ecma_reads.specs.Pieces.{pieces, remainder, spelled}
+use Rattle.ecma_reads.specs.Strings.{opens_string}
+use Rattle.ecma_reads.specs.Templates.{AtBackQuote, AtDollarBrace, AtEnd, TemplateEnd, TemplatePiece, is_break, last_refusal, mark_of, raw_text, template_cutter, template_end, template_of, template_text, template_token, text_of, token_of_refusal}
+use Rattle.ecma_reads.specs.Words.{opens_word}
 use Rattle.ecma_state.specs.Contexts.{Contexts, innermost}
 use Rattle.ecma_state.specs.Mode.{is_template, is_tpl_element}
 use Rattle.ecma_state.specs.State.{is_error}

@@ -5,11 +5,11 @@ use Rattle.ecma_joining.proofs.BoundariesLaws.{shebang_stands_alone}
 use Rattle.ecma_joining.proofs.OwnContextsLemmas.{contexts_stay_own}
 use Rattle.ecma_joining.specs.OwnContexts.{are_own}
 use Rattle.ecma_place.specs.Text.{Text}
-use Rattle.ecma_scan.specs.Found.{scanned}
-use Rattle.ecma_scan.specs.Fronts.{next_is}
-use Rattle.ecma_scan.specs.Locality.{ends_line, ends_template}
-use Rattle.ecma_scan.specs.Shebangs.{opens_shebang, shebang_of, shebang_spelling}
-use Rattle.ecma_scan.specs.Templates.{last_refusal, token_of_refusal}
+use Rattle.ecma_reads.specs.Found.{scanned}
+use Rattle.ecma_reads.specs.Fronts.{next_is}
+use Rattle.ecma_reads.specs.Locality.{ends_line, ends_template}
+use Rattle.ecma_reads.specs.Shebangs.{opens_shebang, shebang_of, shebang_spelling}
+use Rattle.ecma_reads.specs.Templates.{last_refusal, token_of_refusal}
 use Rattle.ecma_state.specs.State.{is_shebang, is_slash}
 use Rattle.ecma_state.specs.Transition.{tpl_on_top, transition}
 use Rattle.ecma_token.specs.Kinds.{kind_of}

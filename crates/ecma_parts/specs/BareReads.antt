@@ -3,14 +3,14 @@ use Rattle.std.specs.Prelude.{Bool, true, false, not, ◌||◌, List, [], ◌∷
 use Rattle.std.specs.List.{list_any}
 use Rattle.clean_runs.specs.Grammar.{Token, Found, token, ended, faulty}
 use Rattle.ecma_place.specs.Text.{Text}
-use Rattle.ecma_scan.specs.declared.found.Blame.{Blame}
-use Rattle.ecma_scan.specs.declared.found.Blame.TheVariants.{Always, Strict, Module}
-use Rattle.ecma_scan.specs.Expressions.{regular_expression}
-use Rattle.ecma_scan.specs.Found.{Fault, Scanned}
-use Rattle.ecma_scan.specs.Fronts.{next_is}
-use Rattle.ecma_scan.specs.Gaps.{behind_gap, gap_faults, has_line_break}
-use Rattle.ecma_scan.specs.Pieces.{pieces}
-use Rattle.ecma_scan.specs.Templates.{AtBackQuote, AtDollarBrace, TemplatePiece, is_break, mark_of, template_cutter, template_token}
+use Rattle.ecma_reads.specs.declared.found.Blame.{Blame}
+use Rattle.ecma_reads.specs.declared.found.Blame.TheVariants.{Always, Strict, Module}
+use Rattle.ecma_reads.specs.Expressions.{regular_expression}
+use Rattle.ecma_reads.specs.Found.{Fault, Scanned}
+use Rattle.ecma_reads.specs.Fronts.{next_is}
+use Rattle.ecma_reads.specs.Gaps.{behind_gap, gap_faults, has_line_break}
+use Rattle.ecma_reads.specs.Pieces.{pieces}
+use Rattle.ecma_reads.specs.Templates.{AtBackQuote, AtDollarBrace, TemplatePiece, is_break, mark_of, template_cutter, template_token}
 use Rattle.ecma_state.specs.Mode.{gap_mode}
 use Rattle.ecma_state.specs.Reading.{shebang_token}
 use Rattle.ecma_state.specs.State.{is_error}

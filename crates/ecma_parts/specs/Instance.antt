@@ -4,8 +4,8 @@ use Rattle.clean_runs.specs.Grammar.{Counting, Grammar, read, set, reread, withd
 use Rattle.clean_runs.specs.Parts as parts
 use Rattle.clean_runs.specs.Parts.{Parts, PartLaws, Role, grammar}
 use Rattle.ecma_joining.specs.Texts.{text_at}
-use Rattle.ecma_scan.specs.Locality.{ends_template}
-use Rattle.ecma_scan.specs.Shebangs.{opens_shebang}
+use Rattle.ecma_reads.specs.Locality.{ends_template}
+use Rattle.ecma_reads.specs.Shebangs.{opens_shebang}
 use Rattle.ecma_state.specs.Mode.{is_tpl_element}
 use Rattle.ecma_state.specs.State.{is_shebang, is_slash}
 use Rattle.ecma_state.specs.Transition.{tpl_on_top}

@@ -1,3 +1,11 @@
 pub mod BareReads
 pub mod Bearing
 pub mod Instance
+pub use Rattle.ecma_reads.specs.Expressions
+pub use Rattle.ecma_reads.specs.Found
+pub use Rattle.ecma_reads.specs.GapViews
+pub use Rattle.ecma_reads.specs.Gaps
+pub use Rattle.ecma_reads.specs.Shebangs
+pub use Rattle.ecma_reads.specs.Templates
+pub use Rattle.ecma_reads.specs.Numbers
+pub use Rattle.ecma_reads.specs.Locality

@@ -6,7 +6,7 @@ use Rattle.std.proofs.lemmas.List.{map-append}
 use Rattle.ecma_place.specs.declared.comment.Comment.{Comment}
 use Rattle.ecma_place.specs.declared.place.BytePos.{BytePos}
 use Rattle.ecma_place.specs.declared.place.Span.{Span}
-use Rattle.ecma_scan.specs.Comments.{LieBetween}
+use Rattle.ecma_reads.specs.Comments.{LieBetween}
 use Rattle.ecma_state.specs.Attachment.{attached, attachment, for_next, of_next, of_previous, waiting_for}
 use Rattle.ecma_comments.specs.declared.attachment.Around.{Around}
 use Rattle.ecma_comments.specs.declared.comments_buffer.BufferedComment.{BufferedComment}

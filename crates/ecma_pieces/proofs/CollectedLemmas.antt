@@ -8,8 +8,8 @@ use Rattle.ecma_place.specs.declared.place.BytePos.{BytePos}
 use Rattle.ecma_place.specs.declared.place.Span.{Span}
 use Rattle.ecma_token.specs.Kinds.{kind_of}
 use Rattle.ecma_token.specs.View.{SpannedView}
-use Rattle.ecma_scan.specs.Expressions.{regular_expression}
-use Rattle.ecma_scan.specs.Found.{found_at, token_behind}
+use Rattle.ecma_reads.specs.Expressions.{regular_expression}
+use Rattle.ecma_reads.specs.Found.{found_at, token_behind}
 use Rattle.ecma_state.specs.Contexts.{Contexts}
 use Rattle.ecma_state.specs.Reading.{Reading, reading, reading_again, spanned}
 use Rattle.ecma_state.specs.Run.{act_all, act_on, acted_on, at_place, given_in, mode_of, popped_from, reading_from, reread_from, start_of}

@@ -12,15 +12,15 @@ use Rattle.ecma_place.specs.declared.place.Span.{Span}
 use Rattle.ecma_place.proofs.CursorLemmas.{byte_len-cons}
 use Rattle.ecma_place.proofs.MoveLemmas.{byte_len-append, place-passed}
 use Rattle.ecma_token.specs.declared.kind.TokenKind.{TokenKind}
-use Rattle.ecma_scan.specs.declared.gap_mode.GapMode.{GapMode}
-use Rattle.ecma_scan.specs.Bars.{bars_elements, behind_bars_line, common_cutter, common_element}
-use Rattle.ecma_scan.specs.Comments.{behind_element, comment_of, comments_of, paired}
-use Rattle.ecma_scan.specs.Found.{span_of}
-use Rattle.ecma_scan.specs.Fronts.{begins_with, line, next_is}
-use Rattle.ecma_scan.specs.Gaps.{AreElements, Blank, BlockComment, Element, HtmlClosing, HtmlOpening, IsElement, LineComment, Marker, OpenComment, block_of, comment_body, element_text, elements, end_of, flag_behind, gap, gap_cutter, marks}
-use Rattle.ecma_scan.specs.Pieces.{onward, pieces_behind, remainder, spelled}
-use Rattle.ecma_scan.proofs.GapForms.{elements_are_ruled}
-use Rattle.ecma_scan.proofs.GapLaws.{gap_cases}
+use Rattle.ecma_reads.specs.declared.gap_mode.GapMode.{GapMode}
+use Rattle.ecma_reads.specs.Bars.{bars_elements, behind_bars_line, common_cutter, common_element}
+use Rattle.ecma_reads.specs.Comments.{behind_element, comment_of, comments_of, paired}
+use Rattle.ecma_reads.specs.Found.{span_of}
+use Rattle.ecma_reads.specs.Fronts.{begins_with, line, next_is}
+use Rattle.ecma_reads.specs.Gaps.{AreElements, Blank, BlockComment, Element, HtmlClosing, HtmlOpening, IsElement, LineComment, Marker, OpenComment, block_of, comment_body, element_text, elements, end_of, flag_behind, gap, gap_cutter, marks}
+use Rattle.ecma_reads.specs.Pieces.{onward, pieces_behind, remainder, spelled}
+use Rattle.ecma_reads.proofs.GapForms.{elements_are_ruled}
+use Rattle.ecma_reads.proofs.GapLaws.{gap_cases}
 use Rattle.ecma_classes.proofs.MemberLemmas.{IsIn, in_either}
 use Rattle.ecma_pieces.proofs.ListLemmas.{only}
 

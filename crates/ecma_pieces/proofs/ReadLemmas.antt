@@ -10,15 +10,15 @@ use Rattle.ecma_place.specs.declared.place.Span.{Span}
 use Rattle.ecma_place.proofs.MoveLemmas.{place-passed, place-passed-le}
 use Rattle.ecma_token.specs.Kinds.{kind_of}
 use Rattle.ecma_token.specs.View.{SpannedView, TokenView}
-use Rattle.ecma_scan.specs.declared.gap_mode.GapMode.{GapMode}
-use Rattle.ecma_scan.specs.Bars.{bars_elements, bars_spelling}
-use Rattle.ecma_scan.specs.Comments.{LieBetween, collected, comments_of}
-use Rattle.ecma_scan.specs.Found.{Scanned}
-use Rattle.ecma_scan.specs.GapViews.{GapView}
-use Rattle.ecma_scan.specs.Gaps.{gap, gap_spelling}
-use Rattle.ecma_scan.specs.Gaps as gaps
-use Rattle.ecma_scan.proofs.CommentLaws.{comments_lie, comments_lie_in_order}
-use Rattle.ecma_scan.proofs.GapLaws.{gap_is_front}
+use Rattle.ecma_reads.specs.declared.gap_mode.GapMode.{GapMode}
+use Rattle.ecma_reads.specs.Bars.{bars_elements, bars_spelling}
+use Rattle.ecma_reads.specs.Comments.{LieBetween, collected, comments_of}
+use Rattle.ecma_reads.specs.Found.{Scanned}
+use Rattle.ecma_reads.specs.GapViews.{GapView}
+use Rattle.ecma_reads.specs.Gaps.{gap, gap_spelling}
+use Rattle.ecma_reads.specs.Gaps as gaps
+use Rattle.ecma_laws.proofs.CommentLaws.{comments_lie, comments_lie_in_order}
+use Rattle.ecma_reads.proofs.GapLaws.{gap_is_front}
 use Rattle.ecma_state.specs.Mode.{gap_mode}
 use Rattle.ecma_state.specs.Reading.{Reading, behind_gap, gap_in, reading, reading_behind, reading_code, reading_if, shebang_reading, shebang_token, spanned, stands_shebang}
 use Rattle.ecma_state.specs.State.{is_slash}

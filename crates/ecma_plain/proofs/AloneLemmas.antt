@@ -9,15 +9,15 @@ use Rattle.ecma_place.specs.Text.{Text}
 use Rattle.ecma_place.proofs.RunLemmas.{first-cons}
 use Rattle.ecma_token.specs.declared.token.Radix.TheVariants.{Decimal}
 use Rattle.ecma_token.specs.declared.token.Token.{Token}
-use Rattle.ecma_scan.proofs.PunctuatorLemmas.{first_of-none}
-use Rattle.ecma_scan.specs.Alone.{IsSpelledBy, StandsAlone}
-use Rattle.ecma_scan.specs.Bars.{opens_bars}
-use Rattle.ecma_scan.specs.Numbers.{digit, opens_fraction, opens_number}
-use Rattle.ecma_scan.specs.Strings.{opens_string}
-use Rattle.ecma_scan.specs.Words.{opens_word}
-use Rattle.ecma_scan.specs.Punctuators.{begins_more, count_behind, first_of, is_lone, longest, punctuator_in, punctuators, spells}
-use Rattle.ecma_scan.specs.PunctuatorKinds.{kind_token}
-use Rattle.ecma_scan.specs.declared.punctuator_kind.PunctuatorKind.{PunctuatorKind}
+use Rattle.ecma_reads.proofs.PunctuatorLemmas.{first_of-none}
+use Rattle.ecma_reads.specs.Alone.{IsSpelledBy, StandsAlone}
+use Rattle.ecma_reads.specs.Bars.{opens_bars}
+use Rattle.ecma_reads.specs.Numbers.{digit, opens_fraction, opens_number}
+use Rattle.ecma_reads.specs.Strings.{opens_string}
+use Rattle.ecma_reads.specs.Words.{opens_word}
+use Rattle.ecma_reads.specs.Punctuators.{begins_more, count_behind, first_of, is_lone, longest, punctuator_in, punctuators, spells}
+use Rattle.ecma_reads.specs.PunctuatorKinds.{kind_token}
+use Rattle.ecma_reads.specs.declared.punctuator_kind.PunctuatorKind.{PunctuatorKind}
 use Rattle.ecma_state.specs.Mode.{is_template}
 use Rattle.ecma_state.specs.TokenAt.{lookahead, lookahead_from}
 use Rattle.ecma_state.specs.declared.mode.Mode.{Mode}

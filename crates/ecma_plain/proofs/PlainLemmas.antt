@@ -14,21 +14,21 @@ use Rattle.ecma_token.specs.View.{SpannedView, TokenView, plain_token, token_vie
 use Rattle.ecma_token.specs.declared.token.Token as token
 use Rattle.ecma_place.proofs.CursorLemmas.{ascii-is}
 use Rattle.ecma_gap.proofs.BlankGapLemmas.{told}
-use Rattle.ecma_scan.specs.BlankGaps.{IsBlankGap, IsTold, may_begin, told_of}
-use Rattle.ecma_scan.specs.declared.blank_gap.BlankGap.{BlankGap}
-use Rattle.ecma_scan.specs.Comments.{collected, comments_at}
-use Rattle.ecma_scan.specs.Found.{found_at, scanned, span_of, token_behind}
-use Rattle.ecma_scan.specs.Gaps.{gap_faults_at, has_line_break}
-use Rattle.ecma_scan.specs.Punctuators.{Punctuator, punctuator_in, spelling_in, token_in}
-use Rattle.ecma_scan.proofs.PunctuatorLemmas.{punctuator-front, punctuator-seen}
-use Rattle.ecma_scan.specs.GapViews.{GapView}
-use Rattle.ecma_scan.specs.Shebangs.{opens_shebang}
-use Rattle.ecma_scan.specs.Numbers.{number}
-use Rattle.ecma_scan.specs.Strings.{string_literal}
-use Rattle.ecma_scan.specs.Templates.{template_found, template_text}
-use Rattle.ecma_scan.specs.Words.{word}
+use Rattle.ecma_reads.specs.BlankGaps.{IsBlankGap, IsTold, may_begin, told_of}
+use Rattle.ecma_reads.specs.declared.blank_gap.BlankGap.{BlankGap}
+use Rattle.ecma_reads.specs.Comments.{collected, comments_at}
+use Rattle.ecma_reads.specs.Found.{found_at, scanned, span_of, token_behind}
+use Rattle.ecma_reads.specs.Gaps.{gap_faults_at, has_line_break}
+use Rattle.ecma_reads.specs.Punctuators.{Punctuator, punctuator_in, spelling_in, token_in}
+use Rattle.ecma_reads.proofs.PunctuatorLemmas.{punctuator-front, punctuator-seen}
+use Rattle.ecma_reads.specs.GapViews.{GapView}
+use Rattle.ecma_reads.specs.Shebangs.{opens_shebang}
+use Rattle.ecma_reads.specs.Numbers.{number}
+use Rattle.ecma_reads.specs.Strings.{string_literal}
+use Rattle.ecma_reads.specs.Templates.{template_found, template_text}
+use Rattle.ecma_reads.specs.Words.{word}
 use Rattle.ecma_state.specs.Mode.{gap_mode, is_template, is_tpl_element, keeps_space, passes_space, type_mode}
-use Rattle.ecma_scan.specs.PlainTemplates.{found_between}
+use Rattle.ecma_reads.specs.PlainTemplates.{found_between}
 use Rattle.ecma_plain.specs.Plain.{IsPlain, ReadsText, StandsPlain, plain_reading, plain_view, text_reading, text_view}
 use Rattle.ecma_state.specs.Reading.{Reading, gap_in, is_free, is_free_behind, is_free_code, reading, reading_if, reading_token, token_reading}
 use Rattle.ecma_state.specs.TokenAt.{as_token, comments_in, is_free_at, is_free_token, lookahead, placed, ts1085, punctuator_or_stray, read_opened, token_at, token_comments, word_token}

@@ -8,10 +8,10 @@ use Rattle.ecma_token.specs.View.{SpannedView, TokenView, spanned_view}
 use Rattle.ecma_syntax.specs.Word.{word_kind, word_of}
 use Rattle.ecma_syntax.specs.declared.context.Context.{Context}
 use Rattle.ecma_syntax.specs.declared.word.WordKind.{WordKind}
-use Rattle.ecma_scan.specs.Found.{FoundView, scanned}
-use Rattle.ecma_scan.specs.Words.{word}
-use Rattle.ecma_scan.specs.BlankGaps.{IsBlankGap}
-use Rattle.ecma_scan.specs.declared.blank_gap.BlankGap.{BlankGap}
+use Rattle.ecma_reads.specs.Found.{FoundView, scanned}
+use Rattle.ecma_reads.specs.Words.{word}
+use Rattle.ecma_reads.specs.BlankGaps.{IsBlankGap}
+use Rattle.ecma_reads.specs.declared.blank_gap.BlankGap.{BlankGap}
 use Rattle.ecma_state.specs.Mode.{gap_mode, is_template}
 use Rattle.ecma_state.specs.Reading.{Reading}
 use Rattle.ecma_state.specs.Session.{kept_of}

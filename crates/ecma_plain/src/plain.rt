@@ -4,12 +4,12 @@ ghost use Rattle.ecma_place.specs.Cursor.{Cursor, HasPlace, rest, place, passed}
 ghost use Rattle.ecma_syntax.specs.declared.settings.NumberRule.{NumberRule};
 ghost use Rattle.ecma_syntax.specs.declared.settings.NumberRule.TheVariants.{Crate};
 ghost use Rattle.ecma_token.specs.View.{spanned_view, token_view};
-ghost use Rattle.ecma_scan.specs.Found.{found_at, found_view, span_of, token_behind};
-ghost use Rattle.ecma_scan.specs.Numbers.{number, opens_number};
-ghost use Rattle.ecma_scan.specs.Strings.{opens_string, string_literal};
-ghost use Rattle.ecma_scan.specs.Templates.{template_found, template_text};
+ghost use Rattle.ecma_reads.specs.Found.{found_at, found_view, span_of, token_behind};
+ghost use Rattle.ecma_reads.specs.Numbers.{number, opens_number};
+ghost use Rattle.ecma_reads.specs.Strings.{opens_string, string_literal};
+ghost use Rattle.ecma_reads.specs.Templates.{template_found, template_text};
 ghost use Rattle.ecma_plain.specs.Plain.{IsAhead, IsKept, IsPlain, PassesWord, StandsPlain, begins_word, plain_reading, plain_view, text_view};
-ghost use Rattle.ecma_scan.specs.Alone.{IsSpelledBy, StandsAlone};
+ghost use Rattle.ecma_reads.specs.Alone.{IsSpelledBy, StandsAlone};
 ghost use Rattle.ecma_state.specs.Mode.{is_template, is_tpl_element};
 ghost use Rattle.ecma_state.specs.Reading.{reading};
 ghost use Rattle.ecma_state.specs.TokenAt.{is_free_token, lookahead, ts1085};
@@ -18,7 +18,7 @@ ghost use Rattle.ecma_state.specs.declared.mode.Mode.{Mode};
 ghost use Rattle.ecma_state.specs.declared.lookahead.Lookahead.{Lookahead};
 
 use ecma_place::{BytePos, CharExt, Span, StringInput};
-use ecma_scan::{
+use ecma_reads::{
     BlankGap, Found, PunctuatorKind, eat_plain_kind, eat_plain_number, eat_plain_string,
     eat_punctuator, scan_blank_gap, scan_number, scan_string, scan_template, skip_white_space,
 };

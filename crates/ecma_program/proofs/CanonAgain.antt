@@ -14,8 +14,8 @@ use Rattle.ecma_place.specs.Text.{Text}
 use Rattle.ecma_place.specs.declared.place.BytePos.{BytePos}
 use Rattle.ecma_token.specs.Kinds.{kind_of}
 use Rattle.ecma_token.specs.View.{SpannedView}
-use Rattle.ecma_scan.specs.Expressions.{regular_expression}
-use Rattle.ecma_scan.specs.Found.{found_at, token_behind}
+use Rattle.ecma_reads.specs.Expressions.{regular_expression}
+use Rattle.ecma_reads.specs.Found.{found_at, token_behind}
 use Rattle.ecma_state.specs.Counting.{count_step, counting, none_yet}
 use Rattle.ecma_state.specs.Reading.{Reading, spanned}
 use Rattle.ecma_state.specs.Run.{act_all, act_on, at_place, given_in, reading_from, reading_of, reread_from, session, start_of}
@@ -33,11 +33,11 @@ use Rattle.ecma_reads.proofs.EndingLemmas.{reads_out}
 use Rattle.ecma_reads.proofs.SlashLemmas.{again-kind, expression-no-slash}
 use Rattle.ecma_slashes.proofs.PlainRuns.{each-append}
 use Rattle.ecma_slashes.proofs.RunLemmas.{Counts, both-count, none-counts}
-use Rattle.ecma_clean_reads.specs.Canonical.{Own, between, canonical_behind, canonical_of, is_template_text, own_in}
+use Rattle.ecma_joined.specs.Canonical.{Own, between, canonical_behind, canonical_of, is_template_text, own_in}
 use Rattle.ecma_state.specs.Clean.{each_step, ends_clean, is_clean, is_plain_step, takes_none, was_again}
-use Rattle.ecma_clean_reads.specs.Stages.{Stage, stages}
-use Rattle.ecma_clean.specs.Sharing.{canonical_text_of}
-use Rattle.ecma_clean.proofs.CanonicalLaws.{canonical_is_read, canonical_runs_alike}
+use Rattle.ecma_joined.specs.Stages.{Stage, stages}
+use Rattle.ecma_joined.specs.Sharing.{canonical_text_of}
+use Rattle.ecma_joined.proofs.CanonicalLaws.{canonical_is_read, canonical_runs_alike}
 use Rattle.ecma_options.specs.Begin.{begin, context, settings, whole}
 use Rattle.ecma_options.specs.declared.options.Options.{Options}
 use Rattle.ecma_stdio.specs.declared.fault.Fault.{Fault}

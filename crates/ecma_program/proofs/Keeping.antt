@@ -9,7 +9,7 @@ use Rattle.std.proofs.lemmas.Grind.{reverse_onto}
 use Rattle.std.proofs.lemmas.List.Sums.{fold-append}
 use Rattle.ecma_token.specs.Kinds.{kind_of}
 use Rattle.ecma_token.specs.View.{SpannedView}
-use Rattle.ecma_clean_reads.specs.Canonical.{canonical_of, own_in}
+use Rattle.ecma_joined.specs.Canonical.{canonical_of, own_in}
 use Rattle.ecma_state.specs.Clean.{ends_clean}
 use Rattle.ecma_state.specs.Disposition as lists
 use Rattle.ecma_state.specs.Ending.{behind_reads, comments_of, enough, errors_of, read_out, reads, tokens_of}

@@ -1,7 +1,7 @@
 -- What is written of the canonical text of a text's tokens: its bytes, and nothing behind them.
 use Rattle.std.specs.Prelude.{◌≡◌, ℕ, true, false, List, Some, Result, Ok, Err, encode_utf8_all, if◌then◌else◌, length, map, nat_lt}
 use Rattle.std.specs.Str.{IsUtf8}
-use Rattle.ecma_clean_reads.specs.Canonical.{Agree, Own, canonical_of, own_in}
+use Rattle.ecma_joined.specs.Canonical.{Agree, Own, canonical_of, own_in}
 use Rattle.ecma_state.specs.Clean.{ends_clean}
 use Rattle.ecma_state.specs.Ending.{read_out}
 use Rattle.ecma_state.specs.Session.{Session, kept_tokens}

@@ -7,3 +7,10 @@ pub mod ProgressLemmas
 pub mod ReadingLemmas
 pub mod SlashLemmas
 pub mod TokenLemmas
+pub use Rattle.ecma_scan.proofs.Fronts
+pub use Rattle.ecma_scan.proofs.PunctuatorLemmas
+pub use Rattle.ecma_scan.proofs.ExpressionLaws
+pub use Rattle.ecma_scan.proofs.GapFaults
+pub use Rattle.ecma_scan.proofs.GapForms
+pub use Rattle.ecma_scan.proofs.GapLaws
+pub use Rattle.ecma_scan.proofs.NumberRules

@@ -2,11 +2,11 @@
 //!
 //! A list of 64 comments moves them into a block when one more is added. Where that is refused nothing changes that a call
 //! answers, so that no line tells of it: such requests are only made between two lines [`SHARED`].
+use crate::again;
+use crate::reads::many::SHARED;
+use crate::reads::told::tell_comments;
 use ecma_place::{Atom, BytePos, Comment, CommentKind, Span};
 use ecma_state::{BufferedComment, BufferedCommentKind, CommentsBuffer};
-use refused_reads::again;
-use refused_reads::many::SHARED;
-use refused_reads::told::tell_comments;
 use std::alloc::{AllocError, Global};
 use std::io;
 

@@ -1,10 +1,10 @@
 //! Pieces that cover a text.
+use crate::again;
+use crate::reads::rows::{START, settings};
 use ecma_classes::{Piece, classes};
 use ecma_pieces::classes_of_steps;
 use ecma_place::StringInput;
 use ecma_state::Step;
-use refused_reads::again;
-use refused_reads::rows::{START, settings};
 use std::alloc::Global;
 use std::io;
 

@@ -1,6 +1,6 @@
 //! Contexts among as many as do not allocate.
+use crate::reads::rows::contexts;
 use ecma_state::{TokenContext, TokenContexts};
-use refused_reads::rows::contexts;
 use std::alloc::Global;
 use std::io;
 

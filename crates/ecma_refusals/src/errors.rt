@@ -1,9 +1,9 @@
 //! Errors and flags that a parser sets.
+use crate::again;
+use crate::reads::rows::{module, opened};
 use ecma_place::{BytePos, Span, Spanned};
 use ecma_stream::{Lexer, Tokens};
 use ecma_token::{Error, SyntaxError};
-use refused_reads::again;
-use refused_reads::rows::{module, opened};
 use std::alloc::Global;
 use std::io;
 

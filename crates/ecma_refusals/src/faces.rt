@@ -1,5 +1,7 @@
 //! Texts read with their slashes named, as HTML, what they import, and where their lines begin.
 
+use crate::again;
+use crate::reads::rows::{START, settings};
 use ecma_html::html_text;
 use ecma_imports::imports_text;
 use ecma_place::BytePos;
@@ -7,8 +9,6 @@ use ecma_positions::LineStarts;
 use ecma_slashes::{Slashes, count_rereads, steps_by, steps_by_flag};
 use ecma_state::Step;
 use ecma_syntax::Context;
-use refused_reads::again;
-use refused_reads::rows::{START, settings};
 use std::alloc::Global;
 use std::{io, str};
 

@@ -3,21 +3,23 @@
 //! Where memory is refused a call says in one line what is there then; then it is made again, so that all other lines
 //! are those of a run in which nothing is refused. `bench/refusals` refuses each request in turn and compares.
 //!
-//! Reading is in `refused_reads`. Here `errors` adds errors, `comments` comments, also so many that copies share them, and `deep`
+//! Reading is in `reads`, and `again` makes a call again that was refused. `errors` adds errors, `comments` comments, also so many that copies share them, and `deep`
 //! contexts; `whole` plays lists of steps, `cover` covers texts with pieces, `faces` has HTML, imports, and where lines begin,
 //! `numbers` rows of numbers, `stored` checkpoints as bytes.
 #![tactic(auto)]
 
+mod again;
 mod comments;
 mod cover;
 mod deep;
 mod errors;
 mod faces;
 mod numbers;
+mod reads;
 mod stored;
 mod whole;
 
-use refused_reads::{many, reading, told};
+use crate::reads::{many, reading, told};
 use std::io;
 
 fn main(rt: HostRuntime) -> io::Result<()> {

@@ -1,11 +1,11 @@
 //! A checkpoint as bytes, and a lexer that goes on from it over the rest of a text.
+use crate::again;
+use crate::reads::rows::{opened_deep, settings};
 use ecma_checkpoint::Checkpoint;
 use ecma_place::Span;
 use ecma_resuming::{begin_of, resume};
 use ecma_stored::{decode, encode};
 use ecma_stream::{Lexer, Tokens};
-use refused_reads::again;
-use refused_reads::rows::{opened_deep, settings};
 use std::alloc::Global;
 use std::io;
 

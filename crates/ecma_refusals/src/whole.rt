@@ -1,13 +1,13 @@
 //! Lists of steps played over texts, and the canonical texts of these.
 ghost use Rattle.std.specs.Prelude.{◌+◌, ◌<◌, ◌^◌, length};
 
+use crate::again;
+use crate::reads::rows::{DEEP, START, TEXTS, contexts, module, settings};
+use crate::reads::told::{tell_comments, tell_errors};
 use ecma_canonical::{Canon, canonical};
 use ecma_place::StringInput;
 use ecma_replay::{Gathered, Replay, gather, replay};
 use ecma_state::Step;
-use refused_reads::again;
-use refused_reads::rows::{DEEP, START, TEXTS, contexts, module, settings};
-use refused_reads::told::{tell_comments, tell_errors};
 use std::alloc::Global;
 use std::io;
 

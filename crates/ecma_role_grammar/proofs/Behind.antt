@@ -32,7 +32,7 @@ use Rattle.ecma_role_table.specs.Parts.{part_of_keyword, part_of_known, part_of_
 use Rattle.ecma_role_table.specs.Table.{row}
 use Rattle.ecma_role_moves.specs.Moves.{brace, bracket, candidate_from, changed, colon, comma, landed, moved, paren, semi, turned_to}
 use Rattle.ecma_role_moves.specs.Nest.{Nested, dropped, no_function, pending, pushed, top, under}
-use Rattle.ecma_roles.specs.Track.{TrackView, read_once, read_times, reading, stepped}
+use Rattle.ecma_role_tracks.specs.Track.{TrackView, read_once, read_times, reading, stepped}
 use Rattle.ecma_role_grammar.specs.Tokens.{part, token}
 use Rattle.ecma_role_grammar.proofs.Starts.{again, taken}
 use Rattle.ecma_role_grammar.proofs.Places.{Braces, Complete, Ended, Grouped, InterfaceOr, LabelOr, Plain, Postfix, ReadsOn, TypeOr, Whole, Yielding, at, at_landed, completed, ended, goes_on, is_label_end, sign_part}

@@ -18,7 +18,7 @@ use Rattle.ecma_role_table.specs.Statements as statements
 use Rattle.ecma_role_table.specs.Table.{row}
 use Rattle.ecma_role_moves.specs.Moves.{brace, changed, fresh_of, moved, turned_to}
 use Rattle.ecma_role_moves.specs.Nest.{Nested, dropped, dropped_from, nested, no_function, pending, top}
-use Rattle.ecma_roles.specs.Track.{read_once, read_times, reading, stepped}
+use Rattle.ecma_role_tracks.specs.Track.{read_once, read_times, reading, stepped}
 use Rattle.ecma_role_grammar.specs.Tokens.{Token, part, token}
 use Rattle.ecma_role_grammar.specs.Grammar.{Parameters, begins_anew, begins_anew_kind, in_parens, is_declaration, is_declaring, is_identifier, is_lexical, is_on_line, reserved, with_in}
 use Rattle.ecma_role_grammar.specs.Laws.{around_of}

@@ -23,7 +23,7 @@ use Rattle.ecma_role_table.specs.Statements as statements
 use Rattle.ecma_role_table.specs.Table.{row}
 use Rattle.ecma_role_moves.specs.Moves.{semi, fresh_of, changed, colon, landed, moved, paren, turned_to}
 use Rattle.ecma_role_moves.specs.Nest.{Nested, dropped, dropped_from, nested, no_function, pending, pushed, top}
-use Rattle.ecma_roles.specs.Track.{TrackView, read_once, read_times, stepped}
+use Rattle.ecma_role_tracks.specs.Track.{TrackView, read_once, read_times, stepped}
 use Rattle.ecma_role_grammar.specs.Tokens.{Token, part, token}
 use Rattle.ecma_role_grammar.specs.Grammar.{in_parens, is_left_brace, is_declaring, of, is_on_line, begins_brace, Parameters, is_identifier, reserved, with_in, without_in}
 use Rattle.ecma_role_grammar.specs.Laws.{around_of}

@@ -23,7 +23,7 @@ use Rattle.ecma_role_table.specs.Statements as statements
 use Rattle.ecma_role_table.specs.Table.{row}
 use Rattle.ecma_role_moves.specs.Moves.{semi, fresh_of, changed, comma, moved}
 use Rattle.ecma_role_moves.specs.Nest.{function, within, Nested, dropped, dropped_from, nested, no_function, pushed}
-use Rattle.ecma_roles.specs.Track.{TrackView, read_once, read_times, stepped}
+use Rattle.ecma_role_tracks.specs.Track.{TrackView, read_once, read_times, stepped}
 use Rattle.ecma_role_moves.proofs.NestLemmas.{dropped_none}
 use Rattle.ecma_role_grammar.specs.Tokens.{Token, part, token}
 use Rattle.ecma_role_grammar.specs.Grammar.{is_declaring, is_lexical, async, in_function, star, Parameters, is_identifier, reserved, with_in, without_in}

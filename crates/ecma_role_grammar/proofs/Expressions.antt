@@ -22,7 +22,7 @@ use Rattle.ecma_role_table.specs.Parts.{part_of_kind}
 use Rattle.ecma_role_table.specs.Table.{row}
 use Rattle.ecma_role_moves.specs.Moves.{bracket, changed, colon, comma, comma_in, decorating, landed, moved, paren, turned_to}
 use Rattle.ecma_role_moves.specs.Nest.{Nested, dropped, dropped_from, framed, nested, pending, pushed, top}
-use Rattle.ecma_roles.specs.Track.{read_once, read_times, stepped}
+use Rattle.ecma_role_tracks.specs.Track.{read_once, read_times, stepped}
 use Rattle.ecma_role_moves.proofs.NestLemmas.{dropped_none}
 use Rattle.ecma_role_grammar.specs.Tokens.{Token, part, token}
 use Rattle.ecma_role_grammar.specs.Grammar.{Parameters, is_identifier, is_literal, is_postfix, is_prefix, reserved, with_in}

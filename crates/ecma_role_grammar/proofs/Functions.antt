@@ -25,7 +25,7 @@ use Rattle.ecma_role_table.specs.Statements as statements
 use Rattle.ecma_role_table.specs.Table.{row}
 use Rattle.ecma_role_moves.specs.Moves.{arrow, arrow_over, fresh_of, changed, decorating, moved, paren, turned_to}
 use Rattle.ecma_role_moves.specs.Nest.{function, within, Nested, dropped_from, framed, nested, no_function, pushed}
-use Rattle.ecma_roles.specs.Track.{read_once, read_times, reading, stepped}
+use Rattle.ecma_role_tracks.specs.Track.{read_once, read_times, reading, stepped}
 use Rattle.ecma_role_grammar.specs.Tokens.{Token, part, token}
 use Rattle.ecma_role_grammar.specs.Grammar.{Parameters, async, begins_brace, in_arrow, in_function, is_identifier, is_identifier_kind, is_optional_name, reserved, star, with_in}
 use Rattle.ecma_role_grammar.specs.Laws.{around_of}

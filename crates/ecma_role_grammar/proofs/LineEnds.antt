@@ -16,7 +16,7 @@ use Rattle.ecma_role_table.specs.declared.moves.Turn.TheVariants.{Again}
 use Rattle.ecma_role_table.specs.Table.{row}
 use Rattle.ecma_role_moves.specs.Moves.{changed, fresh_of, moved, turned_to}
 use Rattle.ecma_role_moves.specs.Nest.{Nested, dropped, nested, top, under}
-use Rattle.ecma_roles.specs.Track.{Reading, TrackView, ends_candidates, read_left, read_once, read_times, reading, stepped, track}
+use Rattle.ecma_role_tracks.specs.Track.{Reading, TrackView, ends_candidates, read_left, read_once, read_times, reading, stepped, track}
 use Rattle.ecma_role_grammar.specs.Tokens.{Token, part, token}
 use Rattle.ecma_role_grammar.specs.Grammar.{begins_anew, begins_anew_kind}
 use Rattle.ecma_role_grammar.proofs.Runs.{Run, begins_alike, is_slash, no_slash}
@@ -34,8 +34,8 @@ use Rattle.ecma_role_table.specs.declared.state.State.{State}
 use Rattle.ecma_role_table.specs.declared.moves.Move.TheVariants.{Fresh}
 use Rattle.ecma_role_table.specs.Complete.{after_operand}
 use Rattle.ecma_role_table.specs.Parts.{part_of_kind}
-use Rattle.ecma_roles.specs.Rank.{begins_statements, goes_on}
-use Rattle.ecma_roles.proofs.RankLemmas.{read_out_by_rank}
+use Rattle.ecma_role_tracks.specs.Rank.{begins_statements, goes_on}
+use Rattle.ecma_role_tracks.proofs.RankLemmas.{read_out_by_rank}
 
 abbrev pub is_anew : PartKind → Bool
 is_anew (Name m) = true

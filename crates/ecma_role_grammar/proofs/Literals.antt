@@ -15,7 +15,7 @@ use Rattle.ecma_role_table.specs.Parts.{part_of_kind}
 use Rattle.ecma_role_table.specs.Table.{row}
 use Rattle.ecma_role_moves.specs.Moves.{changed, comma, moved, turned_to}
 use Rattle.ecma_role_moves.specs.Nest.{Nested, dropped, dropped_from, framed, nested, no_function, pending, pushed}
-use Rattle.ecma_roles.specs.Track.{TrackView, read_once, read_times, stepped}
+use Rattle.ecma_role_tracks.specs.Track.{TrackView, read_once, read_times, stepped}
 use Rattle.ecma_role_grammar.specs.Tokens.{Token, part, token}
 use Rattle.ecma_role_grammar.specs.Grammar.{Parameters, is_on_line, reserved, with_in}
 use Rattle.ecma_role_grammar.specs.Laws.{around_of}

@@ -25,7 +25,7 @@ use Rattle.ecma_role_table.specs.Statements as statements
 use Rattle.ecma_role_table.specs.Table.{row}
 use Rattle.ecma_role_moves.specs.Moves.{brace, semi, bracket, changed, comma, moved, turned_to}
 use Rattle.ecma_role_moves.specs.Nest.{Nested, async_function, dropped, dropped_from, gains_async, loses_async, nested, no_function, pending, pushed}
-use Rattle.ecma_roles.specs.Track.{TrackView, read_once, read_times, reading, stepped}
+use Rattle.ecma_role_tracks.specs.Track.{TrackView, read_once, read_times, reading, stepped}
 use Rattle.ecma_role_grammar.specs.Tokens.{Token, part, token}
 use Rattle.ecma_role_grammar.specs.Grammar.{Parameters, async, in_function, is_accessor, is_async_word, is_identifier, is_identifier_kind, is_literal_name, is_on_line, is_optional_name, reserved, static, with_in, without_in}
 use Rattle.ecma_role_grammar.specs.Laws.{around_of}

@@ -19,7 +19,7 @@ use Rattle.ecma_role_table.specs.Statements as statements
 use Rattle.ecma_role_table.specs.Table.{row}
 use Rattle.ecma_role_moves.specs.Moves.{changed, moved}
 use Rattle.ecma_role_moves.specs.Nest.{Nested, dropped_from, function, gains_async, nested, no_function, pushed, within}
-use Rattle.ecma_roles.specs.Track.{TrackView, after_turn, read_once, read_times, reading, stepped}
+use Rattle.ecma_role_tracks.specs.Track.{TrackView, after_turn, read_once, read_times, reading, stepped}
 use Rattle.ecma_role_grammar.specs.Tokens.{Token, part, token}
 use Rattle.ecma_role_grammar.specs.Grammar.{Parameters, as_word, async, begins_brace, begins_declaration, begins_default, begins_function, from, in_function, is_async_word, is_default_declaration, is_export_name, is_left_brace, is_optional_name, reserved, star, with_in}
 use Rattle.ecma_role_grammar.specs.Laws.{around_of}

@@ -15,8 +15,8 @@ use Rattle.ecma_role_table.specs.declared.part.Sign.TheVariants as sign
 use Rattle.ecma_role_table.specs.Frames.{over_candidate, over_declared_for, over_for}
 use Rattle.ecma_role_moves.specs.Moves.{Landed, arrow_over, back_of, behind_comma, candidate_from, decorating, fresh_of}
 use Rattle.ecma_role_moves.specs.Nest.{Nested, gains_async, dropped, kind_in, nested, no_function, over_kinds, pending, pushed, top, under}
-use Rattle.ecma_roles.specs.Slashes.{expects_operand}
-use Rattle.ecma_roles.specs.Track.{TrackView, stepped, track}
+use Rattle.ecma_role_tracks.specs.Slashes.{expects_operand}
+use Rattle.ecma_role_tracks.specs.Track.{TrackView, stepped, track}
 use Rattle.ecma_role_moves.proofs.NestLemmas.{dropped_none}
 use Rattle.ecma_token_kind.specs.declared.kind.TokenKind.{TokenKind}
 use Rattle.ecma_token_kind.specs.declared.kind.TokenKind.TheVariants as kind

@@ -4,8 +4,8 @@ use Rattle.ecma_token_kind.specs.declared.kind.TokenKind.{TokenKind}
 use Rattle.ecma_token_kind.specs.declared.kind.TokenKind.TheVariants as kind
 use Rattle.ecma_word.specs.declared.operator.BinOpToken.TheVariants as binary
 use Rattle.ecma_word.specs.declared.operator.AssignOp.TheVariants as assigning
-use Rattle.ecma_roles.specs.Slashes.{expects_operand}
-use Rattle.ecma_roles.specs.Track.{TrackView, stepped, tracked}
+use Rattle.ecma_role_tracks.specs.Slashes.{expects_operand}
+use Rattle.ecma_role_tracks.specs.Track.{TrackView, stepped, tracked}
 use Rattle.ecma_role_grammar.specs.Tokens.{Role, Token, Division, RegularExpression, begins_operand, part, parts, role_of}
 
 -- a token in its role

@@ -11,8 +11,8 @@ use Rattle.ecma_role_table.specs.Statements as statements
 use Rattle.ecma_role_table.specs.Table.{row}
 use Rattle.ecma_role_moves.specs.Moves.{changed, moved}
 use Rattle.ecma_role_moves.specs.Nest.{dropped_from, nested, no_function}
-use Rattle.ecma_roles.specs.Slashes.{expects_operand}
-use Rattle.ecma_roles.specs.Track.{TrackView, read_once, read_times, track, tracked}
+use Rattle.ecma_role_tracks.specs.Slashes.{expects_operand}
+use Rattle.ecma_role_tracks.specs.Track.{TrackView, read_once, read_times, track, tracked}
 use Rattle.ecma_role_grammar.specs.Tokens.{Division, RegularExpression, Token, parts}
 use Rattle.ecma_role_grammar.specs.Grammar as g
 use Rattle.ecma_role_grammar.specs.Grammar.{Derives, Parameters, in_function, is_declaration, script, with_in}

@@ -21,8 +21,8 @@ use Rattle.ecma_role_table.specs.Table.{row}
 use Rattle.ecma_role_table.specs.Statements as statements
 use Rattle.ecma_role_moves.specs.Moves.{changed, moved, turned_to}
 use Rattle.ecma_role_moves.specs.Nest.{Nested}
-use Rattle.ecma_roles.specs.Track.{TrackView, read_once, read_times, reading, stepped, track}
-use Rattle.ecma_roles.proofs.TrackLemmas.{nothing_left, one_more}
+use Rattle.ecma_role_tracks.specs.Track.{TrackView, read_once, read_times, reading, stepped, track}
+use Rattle.ecma_role_tracks.proofs.TrackLemmas.{nothing_left, one_more}
 use Rattle.ecma_role_grammar.specs.Tokens.{Token, part, token}
 use Rattle.ecma_role_grammar.specs.Grammar.{Parameters, begins_brace, begins_declaration, begins_function, is_async_word, is_identifier}
 use Rattle.ecma_role_grammar.specs.Laws.{around_of}

@@ -10,7 +10,7 @@ use Rattle.ecma_role_table.specs.Table.{row}
 use Rattle.ecma_role_table.specs.Statements as statements
 use Rattle.ecma_role_moves.specs.Moves.{changed, fresh_of, landed, moved, semi, semi_at}
 use Rattle.ecma_role_moves.specs.Nest.{Nested, dropped, dropped_from, framed, nested, no_function, pushed, top}
-use Rattle.ecma_roles.specs.Track.{read_once, read_times, stepped}
+use Rattle.ecma_role_tracks.specs.Track.{read_once, read_times, stepped}
 use Rattle.ecma_role_moves.proofs.NestLemmas.{dropped_none}
 use Rattle.ecma_role_grammar.specs.Tokens.{Token, part, token}
 use Rattle.ecma_role_grammar.specs.Grammar.{Parameters, is_declaration, with_in}

@@ -10,7 +10,7 @@ use Rattle.ecma_role_table.specs.declared.frame.Around.{Around}
 use Rattle.ecma_role_table.specs.declared.state.State.{State}
 use Rattle.ecma_role_table.specs.declared.state.State.TheVariants as state
 use Rattle.ecma_role_moves.specs.Nest.{Nested, dropped, dropped_from, nested, no_function, over_kinds, pushed}
-use Rattle.ecma_roles.specs.Slashes.{expects_operand}
+use Rattle.ecma_role_tracks.specs.Slashes.{expects_operand}
 use Rattle.ecma_role_moves.specs.Moves.{arrow_over, candidate_from, decorating}
 use Rattle.ecma_role_moves.proofs.NestLemmas.{dropped_none}
 use Rattle.ecma_role_table.specs.Frames.{over_candidate, over_declared_for}
@@ -18,7 +18,7 @@ use Rattle.ecma_role_table.specs.declared.frame.Frame.{Frame}
 use Rattle.ecma_role_table.specs.declared.frame.FrameKind.{FrameKind}
 use Rattle.ecma_role_table.specs.declared.frame.FrameKind.TheVariants as frame
 use Rattle.ecma_role_table.specs.declared.frame.Kinds.TheVariants as kinds
-use Rattle.ecma_roles.specs.Track.{TrackView, first, stepped, track, tracked}
+use Rattle.ecma_role_tracks.specs.Track.{TrackView, first, stepped, track, tracked}
 use Rattle.ecma_role_grammar.specs.Tokens.{Role, Token, begins_operand, part, parts, role_of, token}
 use Rattle.ecma_role_grammar.specs.Grammar.{ArgumentList, Arguments, ArrowParameters, AssignmentExpression, AsyncArrowParameters, AttributeList, BinaryExpression, BindingElement, BindingElementList, BindingElisionElement, BindingPattern, BindingProperty, BindingPropertyList, BindingRest, BindingTarget, Block, Body, CallExpression, CaseClauses, Catch, ClassElement, ClassElementList, ClassElementName, ClassMember, ClassTail, ConciseBody, ConditionalExpression, Declaration, Derives, Element, ElementList, Elision, Expression, Finally, ForHead, ForOfHead, FormalParameterList, FormalParameters, ImportClause, LeftHandSideExpression, MemberExpression, MethodDefinition, ModuleEnd, ModuleItem, ModuleItemList, NamedSpecifiers, NewExpression, Nonterminal, OpenList, OpenStatement, OptionalChain, OptionalExpression, OptionalTest, Parameters, ParametersAndBody, PrimaryExpression, PropertyDefinition, PropertyDefinitionList, PropertyName, SpecifierList, Statement, StatementList, StatementListItem, TemplateLiteral, TemplateSpans, UnaryExpression, UpdateExpression, VariableDeclaration, VariableDeclarationList, accessor, argument, arguments, arguments_comma, array, array_holes, array_pattern, array_pattern_holes, array_pattern_rest, arrow, arrow_comma, arrow_list, arrow_list_rest, arrow_name, arrow_none, arrow_rest, assignment, assignment_conditional, async_arrow, async_comma, async_function_declaration, async_function_expression, async_generator_method, async_list, async_method, async_name, async_none, attribute, begins_brace, binary_in, binary_instanceof, binary_operation, binary_private, binary_unary, binding_member, binding_name, binding_name_value, binding_property, block, block_statement, body, body_open, break_label, break_statement, call_again, call_index, call_member, call_name, call_private, call_template, catch_block, catch_parameter, chain_call, chain_index, chain_more_call, chain_more_index, chain_more_name, chain_more_private, chain_name, chain_private, class_declaration, class_expression, class_extends, class_field, class_field_value, class_member, class_method, class_plain, class_semicolon, comma, computed_name, concise_body, conditional, conditional_binary, continue_label, continue_statement, debugger, do_while, element, element_behind_holes, element_name, element_name_value, element_pattern, element_pattern_value, element_private_name, element_property_name, element_spread, element_value, empty_object, empty_pattern, empty_statement, export_all, export_all_as, export_declaration, export_default, export_default_async, export_default_class, export_default_function, export_from, export_named, export_variables, expression, expression_statement, finally, for_await, for_expressions, for_in, for_of, for_of_head, for_statement, for_variable_in, for_variable_of, for_variables, function_body, function_declaration, function_expression, generator_method, hole, holes_array, holes_pattern, holes_rest_pattern, identifier_reference, if_else, if_statement, import_call, import_default, import_default_named, import_default_namespace, import_from, import_meta, import_module, import_named, import_namespace, in_arrow, in_function, in_parens, item_declaration, item_statement, labelled, labelled_function, left_call, left_new, left_optional, lexical_declaration, line_end, literal, literal_name, member_index, member_name, member_new, member_primary, member_private, member_template, method, module_code, module_end, module_end_comma, module_end_none, module_end_with, module_statements, more_argument, more_attributes, more_binding_properties, more_class_elements, more_clauses, more_elements, more_items, more_parameters, more_pattern_elements, more_properties, more_specifiers, more_spread, more_statements, more_variables, new_member, new_plain, new_target, no_arguments, no_clauses, no_elements, no_hole, no_items, no_parameters, no_specifiers, no_statements, no_test, object, object_comma, object_pattern, object_pattern_comma, object_pattern_rest, open_break, open_break_label, open_continue, open_continue_label, open_debugger, open_do, open_else, open_expression, open_for, open_for_await, open_if, open_labelled, open_lexical, open_lexical_line, open_line, open_list, open_return, open_return_value, open_throw, open_variables, open_while, open_with, optional_again, optional_call, optional_member, parameter, parameters, parameters_and_body, parameters_comma, parameters_rest, parenthesized, pattern_element, property, property_initialized, property_method, property_reference, property_spread, property_value, regular_expression, renamed, reserved, rest_name, rest_object_pattern, rest_parameter, rest_pattern, return_statement, return_value, specifier, specifiers, specifiers_comma, spread_argument, static_block, static_member, super_call, super_index, super_name, switch_default, switch_statement, target_name, target_pattern, template, template_literal, template_span, template_text, test, this_value, throw_statement, try_catch, try_catch_finally, try_finally, unary_await, unary_prefix, unary_update, update_left, update_postfix, variable, variable_name, variable_statement, variable_value, while_statement, with_in, with_statement, without_in, yield_alone, yield_from, yield_value}
 use Rattle.ecma_role_grammar.specs.Laws.{Begins, EndsExpression, EndsStatements, Expects, RolesAreRight, around_of, ends_expression}

@@ -6,8 +6,8 @@ use Rattle.ecma_role_table.specs.declared.state.State.{State}
 use Rattle.ecma_role_table.specs.declared.state.State.TheVariants as state
 use Rattle.ecma_role_moves.specs.Moves.{fresh_of}
 use Rattle.ecma_role_moves.specs.Nest.{dropped, over_kinds, top}
-use Rattle.ecma_roles.specs.Slashes.{completes, expects_operand}
-use Rattle.ecma_roles.specs.Track.{TrackView, first, tracked}
+use Rattle.ecma_role_tracks.specs.Slashes.{completes, expects_operand}
+use Rattle.ecma_role_tracks.specs.Track.{TrackView, first, tracked}
 use Rattle.ecma_role_grammar.specs.Tokens.{Role, Token, begins_operand, parts, role_of}
 use Rattle.ecma_role_grammar.specs.Grammar.{AssignmentExpression, Body, Derives, ModuleItemList, Parameters, StatementList, module_code}
 

@@ -7,8 +7,8 @@ use Rattle.ecma_role_table.specs.declared.part.PartKind.TheVariants.{Sign}
 use Rattle.ecma_role_table.specs.declared.part.Sign.TheVariants as sign
 use Rattle.ecma_role_table.specs.declared.frame.Frame.{Frame}
 use Rattle.ecma_role_table.specs.declared.state.State.{State}
-use Rattle.ecma_roles.specs.Track.{TrackView, first, stepped, track_of, tracked}
-use Rattle.ecma_roles.proofs.TrackedLemmas.{tracked_push}
+use Rattle.ecma_role_tracks.specs.Track.{TrackView, first, stepped, track_of, tracked}
+use Rattle.ecma_role_tracks.proofs.TrackedLemmas.{tracked_push}
 use Rattle.ecma_role_laws.specs.Brackets.{Bracket, Enclosed, Parentheses, Squares, Braces, Template, Substitution, HasNoClause, IsBalanced, behind_kind, behind_part, closed_braces, closed_parentheses, closed_squares, enclosed, enclosing, in_clause, in_code, in_template, in_text, is_closed_by}
 use Rattle.ecma_role_laws.proofs.Right.{is_code}
 use Rattle.ecma_role_laws.proofs.Steps.{IsSound, first_sound, step_sound, step_taken}

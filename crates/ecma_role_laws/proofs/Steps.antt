@@ -15,8 +15,8 @@ use Rattle.ecma_role_table.specs.declared.moves.Turn.TheVariants.{Again, Done}
 use Rattle.ecma_role_table.specs.Table.{row}
 use Rattle.ecma_role_moves.specs.Moves.{moved}
 use Rattle.ecma_role_moves.specs.Nest.{Nested, dropped, top, turned}
-use Rattle.ecma_roles.specs.Track.{Reading, TrackView, behind_pattern, ends_candidates, first, pattern_over, read_left, read_on, read_once, read_times, reading, readied, seen, stepped}
-use Rattle.ecma_roles.proofs.RankLemmas.{rank_small, read_out_by_rank}
+use Rattle.ecma_role_tracks.specs.Track.{Reading, TrackView, behind_pattern, ends_candidates, first, pattern_over, read_left, read_on, read_once, read_times, reading, readied, seen, stepped}
+use Rattle.ecma_role_tracks.proofs.RankLemmas.{rank_small, read_out_by_rank}
 use Rattle.ecma_role_laws.specs.Brackets.{Enclosed, enclosing}
 use Rattle.ecma_role_laws.proofs.Right.{is_code, is_fit, is_right, is_safe, meets, need}
 use Rattle.ecma_role_laws.proofs.RowsRight.{row_right}

@@ -14,8 +14,8 @@ use Rattle.ecma_role_table.specs.Operands.{template_text}
 use Rattle.ecma_role_table.specs.Table.{row}
 use Rattle.ecma_role_moves.specs.Moves.{changed, moved, substitution_in, template_over, turned_to}
 use Rattle.ecma_role_moves.specs.Nest.{Nested, popped, popped_from, top}
-use Rattle.ecma_roles.specs.Track.{TrackView, read_once, read_times, reading, stepped, track}
-use Rattle.ecma_roles.proofs.TrackLemmas.{nothing_left, one_more}
+use Rattle.ecma_role_tracks.specs.Track.{TrackView, read_once, read_times, reading, stepped, track}
+use Rattle.ecma_role_tracks.proofs.TrackLemmas.{nothing_left, one_more}
 use Rattle.ecma_role_laws.specs.Brackets.{Enclosed, Template, bracket_of, enclosed, enclosing, in_text}
 use Rattle.ecma_role_laws.proofs.Right.{ATemplate, is_bracket, meets, need}
 use Rattle.ecma_role_laws.proofs.Frames.{bracket_opened, top_of}

@@ -10,7 +10,7 @@ use Rattle.ecma_role_table.specs.declared.frame.FrameKind.{FrameKind}
 use Rattle.ecma_role_table.specs.declared.frame.FrameKind.TheVariants as frame
 use Rattle.ecma_role_table.specs.declared.state.State.{State}
 use Rattle.ecma_role_table.specs.declared.state.State.TheVariants as state
-use Rattle.ecma_roles.specs.Track.{TrackView, track_of, tracked}
+use Rattle.ecma_role_tracks.specs.Track.{TrackView, track_of, tracked}
 
 pub data Bracket : Type 0 where
   Parentheses : Bracket

@@ -21,9 +21,9 @@ use Rattle.ecma_role_moves.specs.Moves as moves
 use Rattle.ecma_role_moves.specs.Moves.{changed, landed, moved, turned_to}
 use Rattle.ecma_role_moves.specs.Nest.{Nested, dropped, kind_in, nested, no_function, over_kinds, pending, popped, popped_from, pushed, top, turned, under}
 use Rattle.ecma_roles.specs.Fast.{Takes, body_kind, brace_state, colon_state, comma_state, declares, decorates, follows, has_no_method, holds_statements, is_behind, is_complete, is_declared, is_group, is_operator, may_close, may_end, may_go_on, paren_state, semicolon_state}
-use Rattle.ecma_roles.specs.Track.{read_once, read_times, readied, reading, seen, stepped, track}
+use Rattle.ecma_role_tracks.specs.Track.{read_once, read_times, readied, reading, seen, stepped, track}
 use Rattle.ecma_role_moves.proofs.NestLemmas.{dropped_none, dropped_popped}
-use Rattle.ecma_roles.proofs.TrackLemmas.{nothing_left, one_more}
+use Rattle.ecma_role_tracks.proofs.TrackLemmas.{nothing_left, one_more}
 
 -- a token that is read once
 pub once : (s : State) (nest : Nested) (typescript had_line_break : Bool) (kind : PartKind) (next : State) (behind : Nested) → read_once (track s nest typescript) kind had_line_break ≡ turned_to (Done next) behind

@@ -18,7 +18,7 @@ use Rattle.ecma_role_table.specs.Table.{row}
 use Rattle.ecma_role_moves.specs.Moves.{changed, entered, moved, turned_to}
 use Rattle.ecma_role_moves.specs.Nest.{Nested, pushed}
 use Rattle.ecma_roles.specs.Fast.{Takes, is_operand, is_prefix, is_word}
-use Rattle.ecma_roles.specs.Track.{read_once, seen, track}
+use Rattle.ecma_role_tracks.specs.Track.{read_once, seen, track}
 use Rattle.ecma_roles.proofs.FastLemmas.{once, twice}
 
 -- an operand where one is expected

@@ -1,6 +1,2 @@
 pub mod FastLemmas
 pub mod FastWordLemmas
-pub mod RankLemmas
-pub mod RowRanks
-pub mod TrackLemmas
-pub mod TrackedLemmas

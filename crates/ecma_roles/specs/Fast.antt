@@ -10,7 +10,7 @@ use Rattle.ecma_role_table.specs.declared.part.Sign.TheVariants as sign
 use Rattle.ecma_role_table.specs.declared.state.State.{State}
 use Rattle.ecma_role_table.specs.declared.state.State.TheVariants as state
 use Rattle.ecma_role_moves.specs.Nest.{Nested}
-use Rattle.ecma_roles.specs.Track.{stepped, track}
+use Rattle.ecma_role_tracks.specs.Track.{stepped, track}
 
 -- a token of this kind leads from a state and what encloses the place to these
 abbrev pub Takes : State → Nested → PartKind → Bool → State → Nested → Type 0

@@ -1,4 +1,4 @@
 pub mod Fast
-pub mod Rank
-pub mod Slashes
-pub mod Track
+pub use Rattle.ecma_role_tracks.specs.Rank
+pub use Rattle.ecma_role_tracks.specs.Slashes
+pub use Rattle.ecma_role_tracks.specs.Track

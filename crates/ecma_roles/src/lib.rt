@@ -4,16 +4,15 @@
 //! says so. Promised: a step is the table's. `fast.rt`, and of words `fast_word.rt`, take in at once what most of real
 //! code consists of, without the table; `slash.rt` says where a slash begins a regular expression.
 //!
-//! `specs/Track.antt` says what one token more leads to, `specs/Slashes.antt` what is expected. `specs/Rank.antt` has a
-//! rank of states, which falls each time that a token is read again (`proofs/RowRanks.antt`, row by row, and
-//! `RankLemmas.antt`), so that eight readings are enough. `proofs/FastLemmas.antt` has the rows of tokens that are fast.
+//! `ecma_role_tracks` says what one token more leads to, and what is expected there; `specs/Fast.antt` what is taken in at
+//! once, and `proofs/FastLemmas.antt` and `FastWordLemmas.antt` have the rows of the table for it.
 #![tactic(auto)]
 
 mod fast;
 mod fast_word;
-pub mod laws;
 mod slash;
 pub mod track;
 
 pub use ecma_role_table::part::{Part, PartKind};
+pub use ecma_role_tracks::laws;
 pub use track::Track;

@@ -1,6 +1,6 @@
 //! Where a slash begins a regular expression.
 ghost use Rattle.std.specs.Prelude.{◌≡◌};
-ghost use Rattle.ecma_roles.specs.Slashes as slashes;
+ghost use Rattle.ecma_role_tracks.specs.Slashes as slashes;
 
 use ecma_role_moves::nest::Nest;
 use ecma_role_table::frame::{FrameKind, Kinds};

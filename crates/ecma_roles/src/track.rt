@@ -5,8 +5,8 @@ ghost use Rattle.ecma_role_table.specs.Parts.{part_of};
 ghost use Rattle.ecma_role_moves.specs.Nest as nests;
 ghost use Rattle.ecma_role_moves.specs.Nest.{IsShallow};
 ghost use Rattle.ecma_role_moves.specs.Moves.{turned_to};
-ghost use Rattle.ecma_roles.specs.Slashes as slashes;
-ghost use Rattle.ecma_roles.specs.Track as tracks;
+ghost use Rattle.ecma_role_tracks.specs.Slashes as slashes;
+ghost use Rattle.ecma_role_tracks.specs.Track as tracks;
 
 use crate::fast::{take, take_kind};
 use crate::slash::expects_operand;
@@ -34,7 +34,7 @@ pub struct Track {
 }
 
 impl Model for Track {
-    ghost use Rattle.ecma_roles.specs.Track.{TrackView, track};
+    ghost use Rattle.ecma_role_tracks.specs.Track.{TrackView, track};
 
     ghost Value = { TrackView };
 
@@ -105,7 +105,7 @@ fn ready(nest: &mut Nest, state: State, kind: PartKind, had_line_break: bool)
 /// Reads a token of this kind once. Inside the loop of [`read`] all that its arms have in common would be worked out for
 /// each token.
 #[inline(never)]
-#[tactic(auto, unfolding(crate::specs::Track::read_once))]
+#[tactic(auto, unfolding(ecma_role_tracks::specs::Track::read_once))]
 fn read_once(
     nest: &mut Nest,
     state: State,

@@ -3,7 +3,7 @@ use Rattle.std.proofs.Common.{◌≡◌, ◌∙◌, ℕ, ◌+◌, ◌<◌, ◌�
 use Rattle.std.specs.Prelude.{if◌then◌else◌, nat_lt}
 use Rattle.std.specs.Str.{chars}
 use Rattle.ecma_canonical.specs.Canonical.{IsCanonicalText, IsTooLong}
-use Rattle.ecma_clean.specs.Clean.{is_clean}
+use Rattle.ecma_canonical.specs.Clean.{is_clean}
 use Rattle.ecma_options.specs.Begin.{settings, whole}
 use Rattle.ecma_rows.specs.Asked.{AskedView}
 use Rattle.ecma_rows.specs.Canon.{canon_bytes, canon_clean, canon_met, steps_of}

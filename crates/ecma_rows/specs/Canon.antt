@@ -3,8 +3,8 @@ use Rattle.std.specs.Prelude.{ℕ, Bool, true, false, List, Result, Ok, Err, enc
 use Rattle.std.specs.Str.{chars}
 use Rattle.ecma_state.specs.declared.step.Step.{Step}
 use Rattle.ecma_reader.specs.Rereads.{text_steps_by}
-use Rattle.ecma_clean.specs.Clean.{is_clean}
-use Rattle.ecma_clean.specs.Sharing.{canonical_text_of}
+use Rattle.ecma_canonical.specs.Clean.{is_clean}
+use Rattle.ecma_canonical.specs.Sharing.{canonical_text_of}
 use Rattle.ecma_options.specs.Begin.{context, settings, whole}
 use Rattle.ecma_rows.specs.Asked.{AskedView}
 use Rattle.ecma_rows.specs.Told.{Told, Nothing, Rows, are_met}

@@ -22,10 +22,10 @@ pub use Rattle.ecma_gap.specs.BlankGaps
 pub use Rattle.ecma_gap.specs.GapRecords
 pub use Rattle.ecma_escape.specs.EscapeMeanings
 pub use Rattle.ecma_escape.specs.EscapeParts
-pub use Rattle.ecma_escape.specs.NameParts
+pub use Rattle.ecma_name.specs.NameParts
 pub use Rattle.ecma_escape.specs.PieceParts
 pub use Rattle.ecma_template.specs.PlainTemplates
-pub use Rattle.ecma_literal.specs.WrittenExpressions
+pub use Rattle.ecma_regexp.specs.WrittenExpressions
 pub use Rattle.ecma_template.specs.WrittenTemplates
 pub use Rattle.ecma_number.specs.PlainNumbers
 pub use Rattle.ecma_number.specs.WrittenNumbers

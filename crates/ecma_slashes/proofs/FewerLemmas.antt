@@ -8,9 +8,9 @@ use Rattle.ecma_place.specs.Text.{Text, byte_len}
 use Rattle.ecma_place.specs.declared.place.BytePos.{BytePos}
 use Rattle.ecma_place.proofs.CursorLemmas.{byte_len-cons}
 use Rattle.ecma_token.specs.View.{SpannedView}
-use Rattle.ecma_scan.specs.Expressions.{body_cutter, body_pieces, closed_expression, flags, open_expression, opens_expression, regular_expression}
-use Rattle.ecma_scan.specs.Fronts.{next_is}
-use Rattle.ecma_scan.specs.Pieces.{remainder, spelled}
+use Rattle.ecma_stream.specs.Expressions.{body_cutter, body_pieces, closed_expression, flags, open_expression, opens_expression, regular_expression}
+use Rattle.ecma_stream.specs.Fronts.{next_is}
+use Rattle.ecma_stream.specs.Pieces.{remainder, spelled}
 use Rattle.ecma_state.specs.Reading.{reading, reading_again}
 use Rattle.ecma_state.specs.Run.{at_place, mode_of, reading_of, state_behind, state_rereading}
 use Rattle.ecma_state.specs.Session.{LexerState, kept_in, kept_of}

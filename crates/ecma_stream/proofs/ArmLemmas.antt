@@ -8,8 +8,8 @@ use Rattle.ecma_place.proofs.RunLemmas.{first-cons}
 use Rattle.ecma_syntax.specs.declared.word.WordKind.{WordKind}
 use Rattle.ecma_token.specs.View.{SpannedView, spanned_view}
 use Rattle.ecma_token.specs.declared.token.TokenAndSpan.{TokenAndSpan}
-use Rattle.ecma_scan.specs.BlankGaps.{IsBlankGap}
-use Rattle.ecma_scan.specs.declared.blank_gap.BlankGap.{BlankGap}
+use Rattle.ecma_reads.specs.BlankGaps.{IsBlankGap}
+use Rattle.ecma_reads.specs.declared.blank_gap.BlankGap.{BlankGap}
 use Rattle.ecma_dispatch.specs.Besides.{bare, state_taking}
 use Rattle.ecma_state.specs.Mode.{gap_mode, is_template}
 use Rattle.ecma_state.specs.Reading.{Reading, reading}

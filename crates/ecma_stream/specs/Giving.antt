@@ -3,7 +3,7 @@ use Rattle.std.specs.Prelude.{◌≡◌, ◌≤◌, Bool, true, false, Option, N
 use Rattle.ecma_place.specs.Cursor.{HasPlace}
 use Rattle.ecma_place.specs.declared.place.BytePos.{BytePos}
 use Rattle.ecma_plain.specs.Plain.{StandsPlain}
-use Rattle.ecma_scan.specs.declared.blank_gap.BlankGap.{BlankGap}
+use Rattle.ecma_reads.specs.declared.blank_gap.BlankGap.{BlankGap}
 use Rattle.ecma_state.specs.Run.{at_place, mode_of, reading_of, state_behind}
 use Rattle.ecma_state.specs.Session.{LexerValue, lexer_state}
 use Rattle.ecma_token.specs.View.{spanned_view}

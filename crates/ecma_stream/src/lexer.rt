@@ -22,7 +22,7 @@ use crate::hand_over::HandsOver;
 use crate::tokens::Tokens;
 use ecma_dispatch::read::{Besides, Reading, read_again, read_from};
 use ecma_place::{BytePos, StringInput};
-use ecma_scan::BlankGap;
+use ecma_reads::BlankGap;
 use ecma_state::comments_buffer::{BufferedComment, CommentsBuffer};
 use ecma_state::error_list::ErrorList;
 use ecma_state::errors::ErrorLists;

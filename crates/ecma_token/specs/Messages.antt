@@ -1,5 +1,5 @@
 -- The message of each error, and the debug text of each token.
-use Rattle.std.specs.Prelude.{ℕ, List, [], ◌++◌, ◌-◌, codes, length, take, drop, nat_le, if◌then◌else◌, Option, Some, None, unwrap_or, string_bytes, encode_utf8}
+use Rattle.std.specs.Prelude.{ℕ, Bool, true, false, List, [], ◌++◌, ◌-◌, codes, length, take, drop, nat_le, if◌then◌else◌, Option, Some, None, unwrap_or, string_bytes, encode_utf8}
 use Rattle.std.specs.List.{join_by}
 use Rattle.ecma_token_kind.specs.Word.{word_text}
 use Rattle.ecma_token_kind.specs.Operators.{bin_op_text, assign_op_text}
@@ -119,6 +119,17 @@ abbrev mutual
   literal_text (JSXText value raw) = codes "jsx text (" ++ raw.bytes ++ codes ")"
   literal_text (Error' p kind at) = codes "<lexing error: " ++ unwrap_or (fixed_text kind) (made_text kind) ++ codes ">"
   literal_text token = []
+
+-- its message holds the text of a token or of another error
+abbrev pub quotes_another : SyntaxError → Bool
+quotes_another (Expected' p token got) = true
+quotes_another (WithLabel' p q kind at span note) = true
+quotes_another _ = false
+
+-- its debug text is that of an error
+abbrev pub quotes_error : Token → Bool
+quotes_error (Error' p kind at) = true
+quotes_error _ = false
 
 -- the debug text of a token
 abbrev pub token_text : Token → List ℕ

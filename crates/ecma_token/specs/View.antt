@@ -131,6 +131,16 @@ has_texts (JSXText value raw) = true
 has_texts (Shebang text) = true
 has_texts _ = false
 
+-- its two texts, of a token that holds two
+abbrev pub texts_of : Token → Option (AtomView × AtomView)
+texts_of (Template' raw (Ok' cooked)) = Some (raw, cooked)
+texts_of (Str value raw) = Some (value, raw)
+texts_of (Regex body flags) = Some (body, flags)
+texts_of (Num raw radix digits whole) = Some (raw, digits)
+texts_of (BigInt raw radix digits) = Some (raw, digits)
+texts_of (JSXText value raw) = Some (value, raw)
+texts_of _ = None
+
 -- it holds neither a text nor an error
 abbrev pub is_sign : Token → Bool
 is_sign (Template' raw cooked) = false
@@ -155,6 +165,13 @@ holds_words (TsNonNullAssertionNotAllowed word) = true
 holds_words (TS1029 left right) = true
 holds_words (TS1243 left right) = true
 holds_words _ = false
+
+-- it holds a text, or a list of texts, that is always owned, and no word, token or error
+abbrev pub holds_owned : SyntaxError → Bool
+holds_owned (UnaryInExp left at) = true
+holds_owned (Unexpected got wanted) = true
+holds_owned (UnexpectedTokenWithSuggestions all) = true
+holds_owned _ = false
 
 -- it holds nothing that owns memory
 abbrev pub can_own_nothing : SyntaxError → Bool

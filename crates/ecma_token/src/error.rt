@@ -1,6 +1,6 @@
 //! What a text can have wrong.
-ghost use Rattle.std.specs.Prelude.{◌≡◌, ◌&&◌, IfOk, IsOk, IsTrue, Some};
-ghost use Rattle.ecma_token.specs.View.{IsErrorAt, error_kind, error_span, error_view, holds_words, can_own_nothing, kind_owns_nothing, kind_view, word_of};
+ghost use Rattle.std.specs.Prelude.{◌≡◌, ◌&&◌, IfOk, IsOk, IsTrue, Some, string_bytes};
+ghost use Rattle.ecma_token.specs.View.{IsErrorAt, can_own_nothing, error_kind, error_span, error_view, expected, holds_owned, holds_words, kind_owns_nothing, kind_view, token_view, with_label, word_of};
 
 use crate::token::{Radix, Token};
 use ecma_fixed::FixedError;
@@ -196,11 +196,7 @@ impl<'a> Error<'a> {
         ensures { IfOk result (λ e. error_view e ≡ error_view self.now) }
     {
         let kind = self.inner.copy(alloc)?;
-        let inner = Box::new(alloc, kind)?;
-        Ok(Error {
-            inner,
-            span: self.span,
-        })
+        Error::new(alloc, self.span, kind)
     }
 }
 
@@ -212,6 +208,34 @@ impl<'a> Spanned for Error<'a> {
     }
 }
 
+/// This token was expected in the place of a copy of the text.
+fn expected_kind<'a>(
+    alloc: Global,
+    token: Token<'a>,
+    got: &String,
+) -> Result<SyntaxError<'a>, AllocError>
+    ensures { IfOk result (λ kind. kind_view kind ≡ expected (token_view token.entry) (string_bytes got.now)) }
+{
+    let token = Box::new(alloc, token)?;
+    Ok(SyntaxError::Expected(token, got.clone()?))
+}
+
+/// This error is reported at `span` too.
+fn labelled_kind<'a>(
+    alloc: Global,
+    inner: Error<'a>,
+    span: Span,
+    note: &'static str,
+) -> Result<SyntaxError<'a>, AllocError>
+    ensures { IfOk result (λ kind. kind_view kind ≡ with_label (kind_view (error_kind inner.entry)) (error_span inner.entry) span note.now) }
+{
+    Ok(SyntaxError::WithLabel {
+        inner: Box::new(alloc, inner)?,
+        span,
+        note,
+    })
+}
+
 impl<'a> SyntaxError<'a> {
     /// The same, with its texts borrowed or owned as here. Only owned texts, lists, tokens and errors
     /// allocate; a refused allocation changes nothing.
@@ -221,28 +245,13 @@ impl<'a> SyntaxError<'a> {
         ensures free { IsTrue (kind_owns_nothing self.now) → IsOk result }
     {
         match self {
-            SyntaxError::UnaryInExp { left, left_span } => Ok(SyntaxError::UnaryInExp {
-                left: left.clone()?,
-                left_span: *left_span,
-            }),
-            SyntaxError::Unexpected { got, expected } => Ok(SyntaxError::Unexpected {
-                got: got.clone()?,
-                expected,
-            }),
-            SyntaxError::UnexpectedTokenWithSuggestions { candidate_list } => Ok(
-                SyntaxError::UnexpectedTokenWithSuggestions {
-                    candidate_list: candidate_list.clone()?,
-                },
-            ),
-            SyntaxError::Expected(token, got) => Ok(SyntaxError::Expected(
-                Box::new(alloc, token.copy(alloc)?)?,
-                got.clone()?,
-            )),
-            SyntaxError::WithLabel { inner, span, note } => Ok(SyntaxError::WithLabel {
-                inner: Box::new(alloc, inner.copy(alloc)?)?,
-                span: *span,
-                note,
-            }),
+            SyntaxError::UnaryInExp { .. }
+            | SyntaxError::Unexpected { .. }
+            | SyntaxError::UnexpectedTokenWithSuggestions { .. } => self.copy_owned(),
+            SyntaxError::Expected(token, got) => expected_kind(alloc, token.copy(alloc)?, got),
+            SyntaxError::WithLabel { inner, span, note } => {
+                labelled_kind(alloc, inner.copy(alloc)?, *span, note)
+            }
             SyntaxError::EscapeInReservedWord { .. }
             | SyntaxError::JSXExpectedClosingTag { .. }
             | SyntaxError::TS1029(_, _)
@@ -262,8 +271,31 @@ impl<'a> SyntaxError<'a> {
         }
     }
 
-    /// The same, where it holds words. It is apart from `copy` since each text that may be refused costs a proof for all
-    /// that recurs beside it, and one word's copy is asked for in one place.
+    /// The same, where it holds a text, or a list of texts, that is always owned. It is apart from `copy` since each text that
+    /// may be refused costs a proof for all that recurs beside it.
+    fn copy_owned(&self) -> Result<SyntaxError<'a>, AllocError>
+        requires { IsTrue (holds_owned self.now) }
+        ensures { IfOk result (λ kind. kind_view kind ≡ kind_view self.now) }
+    {
+        match self {
+            SyntaxError::UnaryInExp { left, left_span } => Ok(SyntaxError::UnaryInExp {
+                left: left.clone()?,
+                left_span: *left_span,
+            }),
+            SyntaxError::Unexpected { got, expected } => Ok(SyntaxError::Unexpected {
+                got: got.clone()?,
+                expected,
+            }),
+            SyntaxError::UnexpectedTokenWithSuggestions { candidate_list } => Ok(
+                SyntaxError::UnexpectedTokenWithSuggestions {
+                    candidate_list: candidate_list.clone()?,
+                },
+            ),
+            _ => Err(AllocError),
+        }
+    }
+
+    /// The same, where it holds words. It is apart from `copy` too, and one word's copy is asked for in one place.
     fn copy_words(&self, alloc: Global) -> Result<SyntaxError<'a>, AllocError>
         requires { IsTrue (holds_words self.now) }
         ensures same { IfOk result (λ kind. kind_view kind ≡ kind_view self.now) }

@@ -1,10 +1,10 @@
 //! The messages that say what is wrong.
-ghost use Rattle.std.specs.Prelude.{◌≡◌, ◌++◌, IfOk, IsOk, IsSome};
+ghost use Rattle.std.specs.Prelude.{◌≡◌, ◌++◌, IfOk, IsFalse, IsOk, IsSome};
 ghost use Rattle.std.specs.Cow.{cow_str_bytes};
 ghost use Rattle.std.specs.Fmt.{WritesOnOk};
 ghost use Rattle.std.specs.List.{flat_map, join_by};
 ghost use Rattle.std.specs.Option.{option_copied};
-ghost use Rattle.ecma_token.specs.Messages.{alternatives, digit_text, fixed_text, message};
+ghost use Rattle.ecma_token.specs.Messages.{alternatives, digit_text, fixed_text, made_text, message, quotes_another};
 ghost use Rattle.ecma_token.specs.MessageView.{view_message};
 ghost use Rattle.ecma_token.specs.View.{error_kind, kind_view};
 
@@ -91,8 +91,22 @@ impl<'a> SyntaxError<'a> {
     }
 }
 
+// A text and what is round it.
+pub(crate) fn write_around<W: fmt::Write>(
+    f: &mut fmt::Formatter<W>,
+    before: &str,
+    text: &Atom,
+    after: &str,
+) -> fmt::Result
+    ensures { WritesOnOk W.write_str_gives f.old result (before.now ++ text.now.bytes ++ after.now) f.new }
+{
+    f.write_str(before)?;
+    f.write_str(text.as_str())?;
+    f.write_str(after)
+}
+
 // Two texts and what is round them.
-fn write_pair<W: fmt::Write>(
+pub(crate) fn write_pair<W: fmt::Write>(
     f: &mut fmt::Formatter<W>,
     before: &str,
     left: &Atom,
@@ -155,47 +169,33 @@ fn write_alternatives<W: fmt::Write>(f: &mut fmt::Formatter<W>, candidates: &[&s
     write_joined(f, "", last)
 }
 
-/// The message.
-impl<'a> fmt::Display for SyntaxError<'a> {
-    ghost use Rattle.std.specs.Prelude.{Some};
-
-    ghost output = { λ e. Some (message e) };
-
-    #[cycle(show)]
-    fn fmt<W: fmt::Write>(&self, f: &mut fmt::Formatter<W>) -> fmt::Result {
-        if let Some(text) = self.fixed_msg() {
-            return f.write_str(text);
-        }
+impl<'a> SyntaxError<'a> {
+    // The message, where it holds texts or a character, and neither a token nor another error. It is apart from `fmt` since
+    // each text that is written costs a proof for all that recurs beside it.
+    fn write_quoting<W: fmt::Write>(&self, f: &mut fmt::Formatter<W>) -> fmt::Result
+        requires { IsFalse (quotes_another self.now) }
+        ensures { WritesOnOk W.write_str_gives f.old result (made_text self.now) f.new }
+    {
         match self {
             SyntaxError::UnexpectedChar { c } => write!(f, "Unexpected character {}", Quoted(*c)),
-            SyntaxError::BadCharacterEscapeSequence { expected } => write!(
-                f,
-                "Bad character escape sequence, expected {expected}"
-            ),
+            SyntaxError::BadCharacterEscapeSequence { expected } => {
+                f.write_str("Bad character escape sequence, expected ")?;
+                f.write_str(expected)
+            }
             SyntaxError::DuplicatedRegExpFlags(c) => write!(
                 f,
                 "Duplicated regular expression flag '{c}'."
             ),
-            SyntaxError::Unexpected { got, expected } => write!(
-                f,
-                "Unexpected token `{got}`. Expected {expected}"
-            ),
+            SyntaxError::Unexpected { got, expected } => {
+                f.write_str("Unexpected token `")?;
+                f.write_str(got)?;
+                f.write_str("`. Expected ")?;
+                f.write_str(expected)
+            }
             SyntaxError::UnexpectedTokenWithSuggestions { candidate_list } => {
                 f.write_str("Unexpected token. Did you mean ")?;
                 write_alternatives(f, candidate_list)?;
                 f.write_str("?")
-            }
-            SyntaxError::Expected(token, got) => {
-                f.write_str("Expected '")?;
-                fmt::Debug::fmt(&**token, f)?;
-                write!(f, "', got '{got}'")
-            }
-            SyntaxError::ImportBindingIsString(word) => {
-                f.write_str(
-                    "A string literal cannot be used as an imported binding.\n- Did you mean `import { \"",
-                )?;
-                f.write_str(word.as_str())?;
-                f.write_str("\" as foo }`?")
             }
             SyntaxError::TS1029(left, right) => write_pair(
                 f,
@@ -213,50 +213,105 @@ impl<'a> fmt::Display for SyntaxError<'a> {
                 right,
                 "' modifier.",
             ),
-            SyntaxError::EscapeInReservedWord { word } => write!(
+            SyntaxError::EscapeInReservedWord { word } => write_around(
                 f,
-                "Unexpected escape sequence in reserved word: {word}"
+                "Unexpected escape sequence in reserved word: ",
+                word,
+                "",
             ),
-            SyntaxError::InvalidIdentInStrict(word) => write!(
+            SyntaxError::InvalidIdentInStrict(word) => write_around(
                 f,
-                "`{word}` cannot be used as an identifier in strict mode"
+                "`",
+                word,
+                "` cannot be used as an identifier in strict mode",
             ),
-            SyntaxError::DuplicateLabel(word) => write!(f, "Label {word} is already declared"),
-            SyntaxError::JSXExpectedClosingTag { tag } => write!(
+            SyntaxError::DuplicateLabel(word) => write_around(
                 f,
-                "Expected corresponding JSX closing tag for <{tag}>"
+                "Label ",
+                word,
+                " is already declared",
             ),
-            SyntaxError::PrivateNameModifier(word) => write!(
+            SyntaxError::JSXExpectedClosingTag { tag } => write_around(
                 f,
-                "'{word}' modifier cannot be used with a private identifier"
+                "Expected corresponding JSX closing tag for <",
+                tag,
+                ">",
             ),
-            SyntaxError::ExportExpectFrom(word) => write!(
+            SyntaxError::PrivateNameModifier(word) => write_around(
                 f,
-                "`{word}` cannot be used without `from` clause"
+                "'",
+                word,
+                "' modifier cannot be used with a private identifier",
             ),
-            SyntaxError::TS1030(word) => write!(f, "'{word}' modifier already seen."),
-            SyntaxError::TS1089(word) => write!(
+            SyntaxError::ExportExpectFrom(word) => write_around(
                 f,
-                "'{word}' modifier cannot appear on a constructor declaration"
+                "`",
+                word,
+                "` cannot be used without `from` clause",
             ),
-            SyntaxError::TS1273(word) => write!(
+            SyntaxError::TS1030(word) => write_around(f, "'", word, "' modifier already seen."),
+            SyntaxError::TS1089(word) => write_around(
                 f,
-                "'{word}' modifier cannot appear on a type parameter"
+                "'",
+                word,
+                "' modifier cannot appear on a constructor declaration",
             ),
-            SyntaxError::TS1274(word) => write!(
+            SyntaxError::TS1273(word) => write_around(
                 f,
-                "'{word}' modifier can only appear on a type parameter of a class, interface or type alias"
+                "'",
+                word,
+                "' modifier cannot appear on a type parameter",
             ),
-            SyntaxError::TS1277(word) => write!(
+            SyntaxError::TS1274(word) => write_around(
                 f,
-                "'{word}' modifier can only appear on a type parameter of a function, method or class"
+                "'",
+                word,
+                "' modifier can only appear on a type parameter of a class, interface or type alias",
             ),
-            SyntaxError::TsNonNullAssertionNotAllowed(word) => write!(
+            SyntaxError::TS1277(word) => write_around(
                 f,
-                "Typescript non-null assertion operator is not allowed with '{word}'"
+                "'",
+                word,
+                "' modifier can only appear on a type parameter of a function, method or class",
             ),
-            SyntaxError::WithLabel { inner, .. } => (**inner).fmt(f),
+            SyntaxError::TsNonNullAssertionNotAllowed(word) => write_around(
+                f,
+                "Typescript non-null assertion operator is not allowed with '",
+                word,
+                "'",
+            ),
+            SyntaxError::ImportBindingIsString(word) => write_around(
+                f,
+                "A string literal cannot be used as an imported binding.\n- Did you mean `import { \"",
+                word,
+                "\" as foo }`?",
+            ),
             _ => Ok(()),
+        }
+    }
+}
+
+/// The message.
+impl<'a> fmt::Display for SyntaxError<'a> {
+    ghost use Rattle.std.specs.Prelude.{Some};
+
+    ghost output = { λ e. Some (message e) };
+
+    #[cycle(show)]
+    fn fmt<W: fmt::Write>(&self, f: &mut fmt::Formatter<W>) -> fmt::Result {
+        if let Some(text) = self.fixed_msg() {
+            return f.write_str(text);
+        }
+        match self {
+            SyntaxError::Expected(token, got) => {
+                f.write_str("Expected '")?;
+                fmt::Debug::fmt(&**token, f)?;
+                f.write_str("', got '")?;
+                f.write_str(got)?;
+                f.write_str("'")
+            }
+            SyntaxError::WithLabel { inner, .. } => (**inner).fmt(f),
+            _ => self.write_quoting(f),
         }
     }
 }

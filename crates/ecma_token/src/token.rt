@@ -1,11 +1,13 @@
 //! Tokens.
-ghost use Rattle.std.specs.Prelude.{◌≡◌, IfOk, IsOk, IsTrue};
+ghost use Rattle.std.specs.Prelude.{◌≡◌, IfOk, IsFalse, IsOk, IsTrue, Some};
+ghost use Rattle.std.specs.Fmt.{WritesOnOk};
 ghost use Rattle.std.specs.Option.{option_copied};
 ghost use Rattle.ecma_token.specs.Kinds.{token_kind};
-ghost use Rattle.ecma_token.specs.Messages.{spelling, token_text};
-ghost use Rattle.ecma_token.specs.View.{has_texts, is_sign, owns_nothing, spanned_view, token_view};
+ghost use Rattle.ecma_token.specs.Messages.{literal_text, quotes_error, spelling, token_text};
+ghost use Rattle.ecma_token.specs.View.{has_texts, is_sign, owns_nothing, spanned_view, texts_of, token_view};
 
 use crate::error::{Error, copy_two};
+use crate::message::{write_around, write_pair};
 use ecma_span::{Atom, Span, Spanned};
 use ecma_token_kind::{AssignOp, BinOpToken, TokenKind, Word};
 use std::alloc::{AllocError, Global};
@@ -191,7 +193,7 @@ impl<'a> Token<'a> {
     }
 
     /// The same token, where it holds texts and no error. It is apart from `copy` since each text that may be refused
-    /// costs a proof for all that recurs beside it.
+    /// costs a proof for all that recurs beside it, and two texts' copies are asked for in one place.
     fn copy_texts(&self, alloc: Global) -> Result<Token<'a>, AllocError>
         requires { IsTrue (has_texts self.now) }
         ensures same { IfOk result (λ token. token_view token ≡ token_view self.now) }
@@ -199,55 +201,70 @@ impl<'a> Token<'a> {
     {
         match self {
             Token::Word(word) => Ok(Token::Word(word.copy(alloc)?)),
-            Token::Template {
-                raw,
-                cooked: Ok(cooked),
-            } => {
-                let (raw, cooked) = copy_two(raw, cooked, alloc)?;
-                Ok(Token::Template {
-                    raw,
-                    cooked: Ok(cooked),
-                })
-            }
-            Token::Str { value, raw } => {
-                let (value, raw) = copy_two(value, raw, alloc)?;
-                Ok(Token::Str { value, raw })
-            }
-            Token::Regex(body, flags) => {
-                let (body, flags) = copy_two(body, flags, alloc)?;
-                Ok(Token::Regex(body, flags))
-            }
-            Token::Num {
-                raw,
-                radix,
-                digits,
-                whole,
-            } => {
-                let (raw, digits) = copy_two(raw, digits, alloc)?;
-                Ok(Token::Num {
-                    raw,
-                    radix: *radix,
-                    digits,
-                    whole: *whole,
-                })
-            }
-            Token::BigInt { raw, radix, digits } => {
-                let (raw, digits) = copy_two(raw, digits, alloc)?;
-                Ok(Token::BigInt {
-                    raw,
-                    radix: *radix,
-                    digits,
-                })
-            }
             Token::JSXName { name } => Ok(Token::JSXName {
                 name: name.copy(alloc)?,
             }),
-            Token::JSXText { value, raw } => {
-                let (value, raw) = copy_two(value, raw, alloc)?;
-                Ok(Token::JSXText { value, raw })
-            }
             Token::Shebang(text) => Ok(Token::Shebang(text.copy(alloc)?)),
+            Token::Template {
+                raw: left,
+                cooked: Ok(right),
+            }
+            | Token::Str {
+                value: left,
+                raw: right,
+            }
+            | Token::Regex(left, right)
+            | Token::Num {
+                raw: left,
+                digits: right,
+                ..
+            }
+            | Token::BigInt {
+                raw: left,
+                digits: right,
+                ..
+            }
+            | Token::JSXText {
+                value: left,
+                raw: right,
+            } => {
+                let (left, right) = copy_two(left, right, alloc)?;
+                Ok(self.with_texts(left, right))
+            }
             _ => Err(AllocError),
+        }
+    }
+
+    /// The same token with these two texts.
+    fn with_texts(&self, left: Atom<'a>, right: Atom<'a>) -> Token<'a>
+        requires { Some (left, right) ≡ texts_of self.now }
+        ensures { token_view result ≡ token_view self.now }
+    {
+        match self {
+            Token::Template { .. } => Token::Template {
+                raw: left,
+                cooked: Ok(right),
+            },
+            Token::Str { .. } => Token::Str {
+                value: left,
+                raw: right,
+            },
+            Token::Regex(_, _) => Token::Regex(left, right),
+            Token::Num { radix, whole, .. } => Token::Num {
+                raw: left,
+                radix: *radix,
+                digits: right,
+                whole: *whole,
+            },
+            Token::BigInt { radix, .. } => Token::BigInt {
+                raw: left,
+                radix: *radix,
+                digits: right,
+            },
+            _ => Token::JSXText {
+                value: left,
+                raw: right,
+            },
         }
     }
 
@@ -282,6 +299,25 @@ impl<'a> Token<'a> {
             Token::JSXTagStart => Token::JSXTagStart,
             Token::JSXTagEnd => Token::JSXTagEnd,
             _ => Token::Arrow,
+        }
+    }
+
+    // The debug text of a literal. It is apart from `fmt`, as the message of an error is.
+    fn write_literal<W: fmt::Write>(&self, f: &mut fmt::Formatter<W>) -> fmt::Result
+        requires { IsFalse (quotes_error self.now) }
+        ensures { WritesOnOk W.write_str_gives f.old result (literal_text self.now) f.new }
+    {
+        match self {
+            Token::Template { raw, .. } => write_around(f, "template token (", raw, ")"),
+            Token::Str { value, raw } => write_pair(f, "string literal (", value, ", ", raw, ")"),
+            Token::Regex(body, flags) => write_pair(f, "regexp literal (", body, ", ", flags, ")"),
+            Token::Num { raw, .. } => write_around(f, "numeric literal (", raw, ")"),
+            Token::BigInt { raw, digits, .. } => {
+                write_pair(f, "bigint literal (", digits, ", ", raw, ")")
+            }
+            Token::JSXName { name } => write_around(f, "jsx name (", name, ")"),
+            Token::JSXText { raw, .. } => write_around(f, "jsx text (", raw, ")"),
+            _ => Ok(()),
         }
     }
 
@@ -334,19 +370,12 @@ impl<'a> fmt::Debug for Token<'a> {
             return f.write_str(text);
         }
         match self {
-            Token::Template { raw, .. } => write!(f, "template token ({raw})"),
-            Token::Str { value, raw } => write!(f, "string literal ({value}, {raw})"),
-            Token::Regex(body, flags) => write!(f, "regexp literal ({body}, {flags})"),
-            Token::Num { raw, .. } => write!(f, "numeric literal ({raw})"),
-            Token::BigInt { raw, digits, .. } => write!(f, "bigint literal ({digits}, {raw})"),
-            Token::JSXName { name } => write!(f, "jsx name ({name})"),
-            Token::JSXText { raw, .. } => write!(f, "jsx text ({raw})"),
             Token::Error(error) => {
                 f.write_str("<lexing error: ")?;
                 fmt::Display::fmt(error, f)?;
                 f.write_str(">")
             }
-            _ => Ok(()),
+            _ => self.write_literal(f),
         }
     }
 }

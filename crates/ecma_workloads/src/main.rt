@@ -1,9 +1,11 @@
 //! Jobs that users wait for, over texts that a number gives: `NAME SEED` does one, and writes a digest of all its
-//! results; with no words each is done in its small form.
+//! results. `drives COUNT SEED` plays random lists of steps, and writes how many differ by copies and by checkpoints. With
+//! no words each job is done in its small form, and 300 drives are played.
 #![tactic(auto)]
 
 mod awkward;
 mod digest;
+mod drives;
 mod job;
 mod keep;
 mod lookahead;
@@ -19,11 +21,14 @@ use std::alloc::AllocError;
 use std::io;
 use std::process::ExitCode;
 
-/// The status where the words name no job, or no seed.
+/// The status where the words name no job, no count or no seed.
 const BAD_WORDS: u8 = 2;
 
-/// The status where there was no memory, or the digest did not go out.
+/// The status where there was no memory, what is written did not go out, or a drive differs.
 const FAILED: u8 = 1;
+
+/// How many drives are played with no words.
+const DRIVES: u64 = 300;
 
 const JOBS: [&str; 6] = ["keep", "lookahead", "play", "report", "awkward", "modules"];
 
@@ -60,20 +65,37 @@ fn seed_of(word: &str) -> Option<u64> {
     if word == "0" { Some(0) } else { number(word) }
 }
 
+/// Plays so many drives, and answers the status.
+fn tell_drives(rt: &HostRuntime, count: u64, seed: u64) -> u8 {
+    match drives::run(rt, count, seed) {
+        Ok(true) => 0,
+        Ok(false) | Err(_) => FAILED,
+    }
+}
+
+/// Does each job in its small form, plays some drives, and answers the worst status.
+fn tell_all(rt: &HostRuntime) -> u8 {
+    let mut status = 0;
+    for name in JOBS {
+        status = tell_job(rt, name, 1, true).max(status);
+    }
+    tell_drives(rt, DRIVES, 1).max(status)
+}
+
 /// Does what the words ask for, and answers the status.
 fn run(rt: &HostRuntime, words: &[String]) -> u8 {
     match words {
-        [] => {
-            let mut status = 0;
-            for name in JOBS {
-                status = tell_job(rt, name, 1, true).max(status);
-            }
-            status
-        }
+        [] => tell_all(rt),
         [name, seed] => match seed_of(seed.as_str()) {
             Some(seed) => tell_job(rt, name.as_str(), seed, false),
             None => BAD_WORDS,
         },
+        [name, count, seed] if name.as_str() == "drives" => {
+            match (number(count.as_str()), seed_of(seed.as_str())) {
+                (Some(count), Some(seed)) => tell_drives(rt, count, seed),
+                _ => BAD_WORDS,
+            }
+        }
         _ => BAD_WORDS,
     }
 }

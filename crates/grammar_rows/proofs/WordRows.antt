@@ -21,7 +21,7 @@ use Rattle.ecma_grammar.specs.declared.found.Blame.TheVariants.{Always}
 use Rattle.ecma_grammar.specs.Found.{Fault, Scanned, scanned, span_of}
 use Rattle.ecma_grammar.specs.Fronts.{front, after, next_is}
 use Rattle.ecma_grammar.specs.Words.{identifier_name, word}
-use Rattle.ecma_escape.proofs.WordLaws.{plain_word_is_its_row}
+use Rattle.ecma_name.proofs.WordLaws.{plain_word_is_its_row}
 
 abbrev error : KindView → ℕ → ℕ → ErrorView
 error kind low high = record { kind = kind; span = span_of low high }

@@ -20,7 +20,7 @@ mod settings;
 mod words;
 
 use ecma_span::{Atom, BytePos, Span};
-use ecma_token::{SyntaxError, Token};
+use ecma_token::{Error, SyntaxError, Token};
 use std::alloc::{AllocError, Global};
 use std::process::Abort;
 use std::test::Fail;
@@ -50,38 +50,33 @@ fn assert_display(
     Ok(())
 }
 
-// Errors and tokens are dropped by a call: at the end of a scope the proof takes each variant apart.
-fn equals_its_copy(alloc: Global, error: &SyntaxError) -> Result<bool, AllocError> {
+// Whether the copy is equal, and its kind.
+fn equals_its_copy(alloc: Global, error: &Error) -> Result<bool, AllocError> {
     let copy = error.copy(alloc)?;
-    let equal = copy == *error;
-    drop(copy);
-    Ok(equal)
+    Ok(copy == *error && *copy.kind() == *error.kind())
 }
 
-fn assert_shown(
-    rt: &impl Abort,
-    alloc: Global,
-    error: &SyntaxError,
-    want: &str,
-) -> Result<(), Fail> {
-    assert_msg(rt, alloc, error, want)?;
-    assert_display(rt, alloc, error, want)?;
+// The error has this message, by `msg` and by `Display`, and is equal to its copy.
+fn assert_shown(rt: &impl Abort, alloc: Global, error: &Error, want: &str) -> Result<(), Fail> {
+    assert_msg(rt, alloc, error.kind(), want)?;
+    assert_display(rt, alloc, error.kind(), want)?;
     assert!(rt; equals_its_copy(alloc, error)?, "{want}");
     Ok(())
 }
 
-// The error has this message, by `msg` and by `Display`, and is equal to its copy.
+// The same of an error of this kind. An error is dropped by a call, but at the end of a kind the proof takes each variant
+// apart.
 fn assert_message(
     rt: &impl Abort,
     alloc: Global,
-    error: SyntaxError,
+    kind: SyntaxError,
     want: &str,
 ) -> Result<(), Fail> {
-    let shown = assert_shown(rt, alloc, &error, want);
-    drop(error);
-    shown
+    let error = Error::new(alloc, span(0, 1), kind)?;
+    assert_shown(rt, alloc, &error, want)
 }
 
+// Tokens are dropped by a call: at the end of a scope the proof takes each variant apart.
 fn token_equals_its_copy(alloc: Global, token: &Token) -> Result<bool, AllocError> {
     let copy = token.copy(alloc)?;
     let equal = copy == *token;

@@ -3,7 +3,7 @@
 ghost use Rattle.std.specs.Prelude.{◌≡◌, ◌<◌, ◌≤◌, true, false, None, Some, [], length, IfNone, IfOk, IfSome, IsOk, OnOk, OnErr};
 ghost use Rattle.ecma_token.specs.View.{spanned_view};
 ghost use Rattle.ecma_place.specs.Cursor.{HasPlace, place, rest};
-ghost use Rattle.ecma_scan.specs.Alone.{IsSpelledBy, StandsAlone};
+ghost use Rattle.ecma_reads.specs.Alone.{IsSpelledBy, StandsAlone};
 ghost use Rattle.ecma_plain.specs.Plain.{IsKept, begins_word, plain_reading};
 ghost use Rattle.ecma_stream.specs.Giving.{back_at, Gives, IsBehindGap, IsRefused};
 ghost use Rattle.ecma_state.specs.Reading.{reading};
@@ -18,7 +18,7 @@ use ecma_plain::plain::{
     Plain, eaten_number, eaten_string, plain_alone, plain_foreign, plain_gap, plain_number,
     plain_punctuator, plain_string, with_kept, word_behind,
 };
-use ecma_scan::{BlankGap, PunctuatorKind, eat_plain_kind};
+use ecma_reads::{BlankGap, PunctuatorKind, eat_plain_kind};
 use ecma_slot::put;
 use ecma_syntax::{IdentKind, WordKind};
 use ecma_token::TokenAndSpan;

@@ -3,13 +3,13 @@ ghost use Rattle.std.specs.Prelude.{◌≡◌, ◌<◌, true, None, length, IsOk
 ghost use Rattle.ecma_place.specs.Cursor.{rest};
 ghost use Rattle.ecma_state.specs.Run.{is_free_read};
 ghost use Rattle.ecma_state.specs.Session.{lexer_state};
-ghost use Rattle.ecma_scan.specs.Alone.{StandsAlone};
+ghost use Rattle.ecma_reads.specs.Alone.{StandsAlone};
 ghost use Rattle.ecma_stream.specs.Giving.{back_at, Gives, IsBehindGap, IsRefused};
 
 use super::Lexer;
 use ecma_place::BytePos;
 use ecma_plain::plain::{begins_word, plain_space};
-use ecma_scan::{BlankGap, alone_kind, stands_alone};
+use ecma_reads::{BlankGap, alone_kind, stands_alone};
 use ecma_state::lookahead::Lookahead;
 use ecma_token::TokenAndSpan;
 use std::alloc::AllocError;

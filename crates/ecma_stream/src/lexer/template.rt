@@ -11,7 +11,7 @@ ghost use Rattle.ecma_token.specs.View.{spanned_view};
 use super::Lexer;
 use ecma_place::BytePos;
 use ecma_plain::plain::{Plain, plain_text, text_between};
-use ecma_scan::{PlainTemplate, eat_plain_template};
+use ecma_reads::{PlainTemplate, eat_plain_template};
 use ecma_slot::put;
 use ecma_state::mode::Mode;
 use ecma_token::TokenAndSpan;

@@ -24,14 +24,8 @@ fn error_token<'a>(alloc: Global, kind: SyntaxError<'a>) -> Result<Box<Token<'a>
 
 // What is told where a token of this error stands in the place of an `x`.
 fn expected<'a>(alloc: Global, kind: SyntaxError<'a>) -> Result<SyntaxError<'a>, AllocError> {
-    let token = error_token(alloc, kind)?;
-    match String::from_str(alloc, "x") {
-        Ok(got) => Ok(SyntaxError::Expected(token, got)),
-        Err(refused) => {
-            drop(token);
-            Err(refused)
-        }
-    }
+    let got = String::from_str(alloc, "x")?;
+    Ok(SyntaxError::Expected(error_token(alloc, kind)?, got))
 }
 
 fn nest<'a>(alloc: Global) -> Result<Error<'a>, AllocError> {
@@ -42,22 +36,12 @@ fn nest<'a>(alloc: Global) -> Result<Error<'a>, AllocError> {
     Error::new(alloc, span(0, 7), kind)
 }
 
-fn is_hash(kind: &SyntaxError) -> bool {
-    let hash = SyntaxError::Hash;
-    let equal = *kind == hash;
-    drop(hash);
-    equal
+fn is_hash(alloc: Global, kind: &SyntaxError) -> Result<bool, AllocError> {
+    let hash = Error::new(alloc, span(0, 7), SyntaxError::Hash)?;
+    Ok(*kind == *hash.kind())
 }
 
-fn assert_same<'a>(
-    rt: &impl Abort,
-    alloc: Global,
-    copy: &Error<'a>,
-    error: &Error<'a>,
-) -> Result<(), Fail> {
-    assert!(rt; *copy == *error);
-    assert_eq!(rt; copy.span(), span(0, 7));
-    assert!(rt; !is_hash(copy.kind()));
+fn assert_nested(rt: &impl Abort, alloc: Global, copy: &Error) -> Result<(), Fail> {
     let message = copy.to_string(alloc)?;
     let want =
         "Expected '<lexing error: Expected '<lexing error: Unexpected character '\\''>', got 'x'>', got 'x'";
@@ -67,42 +51,31 @@ fn assert_same<'a>(
 
 fn assert_copied(rt: &impl Abort, alloc: Global, error: &Error) -> Result<(), Fail> {
     let copy = error.copy(alloc)?;
-    let same = assert_same(rt, alloc, &copy, error);
-    drop(copy);
-    same
-}
-
-fn copied_kind<'a>(alloc: Global, error: &Error<'a>) -> Result<SyntaxError<'a>, AllocError> {
-    Ok(error.copy(alloc)?.into_kind())
-}
-
-fn is_kind<'a>(
-    copied: Result<SyntaxError<'a>, AllocError>,
-    kind: &SyntaxError<'a>,
-) -> Result<bool, AllocError> {
-    let copied = copied?;
-    let equal = copied == *kind;
-    drop(copied);
-    Ok(equal)
+    assert!(rt; copy == *error);
+    assert_eq!(rt; copy.span(), span(0, 7));
+    assert!(rt; !is_hash(alloc, copy.kind())?);
+    assert_nested(rt, alloc, &copy)
 }
 
 #[test]
 fn a_nest_of_labels_is_copied(rt: HostRuntime) -> Result<(), Fail> {
     let error = nest(rt.alloc())?;
-    let copied = assert_copied(&rt, rt.alloc(), &error);
-    drop(error);
-    copied
+    assert_copied(&rt, rt.alloc(), &error)
+}
+
+// An error of the kind that is taken out of this one.
+fn made_anew<'a>(alloc: Global, error: Error<'a>) -> Result<Error<'a>, AllocError> {
+    let span = error.span();
+    Error::new(alloc, span, error.into_kind())
 }
 
 #[test]
 fn a_copy_has_the_same_kind(rt: HostRuntime) -> Result<(), Fail> {
-    let alloc = rt.alloc();
-    let error = nest(alloc)?;
-    let copied = copied_kind(alloc, &error);
-    let kind = error.into_kind();
-    let equal = is_kind(copied, &kind);
-    drop(kind);
-    assert!(rt; equal?);
+    let error = nest(rt.alloc())?;
+    let copy = error.copy(rt.alloc())?;
+    let anew = made_anew(rt.alloc(), copy)?;
+    assert!(rt; *anew.kind() == *error.kind());
+    assert!(rt; anew == error);
     Ok(())
 }
 

@@ -518,16 +518,15 @@ const TYPES: &[Row] = &[
 ];
 
 // The error is the constant of its own name.
-fn assert_named(rt: &impl Abort, plain: FixedError) {
-    let error = SyntaxError::Fixed(plain);
-    let found = named(&error);
-    drop(error);
-    assert_eq!(rt; found, Some(plain));
+fn assert_named(rt: &impl Abort, alloc: Global, plain: FixedError) -> Result<(), Fail> {
+    let error = Error::new(alloc, span(0, 1), SyntaxError::Fixed(plain))?;
+    assert_eq!(rt; named(error.kind()), Some(plain));
+    Ok(())
 }
 
 fn assert_rows(rt: &impl Abort, alloc: Global, rows: &[Row]) -> Result<(), Fail> {
     for (plain, want) in rows {
-        assert_named(rt, *plain);
+        assert_named(rt, alloc, *plain)?;
         assert_message(rt, alloc, SyntaxError::Fixed(*plain), want)?;
     }
     Ok(())

@@ -2,7 +2,7 @@ use Rattle.std.proofs.Common.{◌∙◌, ◌==◌, ◌&&◌, not, length, ap, su
 use Rattle.std.specs.List.{All, list_all}
 use Rattle.std.specs.Str.{chars}
 use Rattle.ecma_state.specs.State.{is_error}
-use Rattle.ecma_clean.specs.Sharing.{IsReadCleanly, begin}
+use Rattle.ecma_joined.specs.Sharing.{IsReadCleanly, begin}
 use Rattle.ecma_joined.specs.Joined.{StandsIn}
 use Rattle.ecma_canonical.proofs.CleanLemmas.{gathered-clean}
 use Rattle.ecma_canonical.proofs.KeptPlaces.{gathered_tokens_stand}

@@ -1,7 +1,7 @@
 use Rattle.std.proofs.Common.{◌∙◌, subst, sym}
 use Rattle.std.specs.List.{All}
 use Rattle.std.specs.Str.{chars}
-use Rattle.ecma_clean.specs.Sharing.{IsReadCleanly, begin}
+use Rattle.ecma_joined.specs.Sharing.{IsReadCleanly, begin}
 use Rattle.ecma_joined.specs.Joined.{StandsIn}
 use Rattle.ecma_canonical.proofs.CleanLemmas.{one-each}
 use Rattle.ecma_canonical.proofs.KeptPlaces.{replayed_tokens_stand}

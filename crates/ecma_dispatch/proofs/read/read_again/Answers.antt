@@ -1,5 +1,5 @@
 use Rattle.ecma_place.specs.Cursor.{rest}
-use Rattle.ecma_scan.specs.Expressions.{regular_expression}
+use Rattle.ecma_reads.specs.Expressions.{regular_expression}
 use Rattle.ecma_state.specs.TokenAt.{is_borrowed, is_empty}
 use Rattle.ecma_reads.proofs.TokenLemmas.{and-parts, borrowed-token}
 use Rattle.ecma_dispatch.proofs.read.read_again.Goals as goal

@@ -2,9 +2,9 @@ use Rattle.std.proofs.Common.{◌≡◌, ◌++◌, Some, length, map, sym, ap, �
 use Rattle.ecma_place.specs.Cursor.{rest, place, passed}
 use Rattle.ecma_place.proofs.MoveLemmas.{place-passed-le}
 use Rattle.ecma_token.specs.View.{SpannedView, spanned_view}
-use Rattle.ecma_scan.specs.Found.{fault_view}
-use Rattle.ecma_scan.specs.Gaps.{gap_faults_at, gap_spelling, has_line_break}
-use Rattle.ecma_scan.specs.Comments.{comments_at}
+use Rattle.ecma_reads.specs.Found.{fault_view}
+use Rattle.ecma_reads.specs.Gaps.{gap_faults_at, gap_spelling, has_line_break}
+use Rattle.ecma_reads.specs.Comments.{comments_at}
 use Rattle.ecma_state.specs.Mode.{gap_mode}
 use Rattle.ecma_state.specs.Reading.{behind_gap, gap_in, is_free_behind, spanned}
 use Rattle.ecma_state.specs.TokenAt.{token_at, token_comments, token_found}

@@ -1,6 +1,6 @@
 use Rattle.std.proofs.Common.{◌++◌, map, ap, sym, ◌∙◌}
 use Rattle.ecma_token.specs.View.{spanned_view}
-use Rattle.ecma_scan.specs.Found.{fault_view}
+use Rattle.ecma_reads.specs.Found.{fault_view}
 use Rattle.ecma_reads.proofs.ReadingLemmas.{free-kept, shebang-stands}
 use Rattle.ecma_dispatch.proofs.read.read_from.Goals as goal
 

@@ -1,8 +1,8 @@
 use Rattle.std.proofs.Common.{ap, ◌∙◌, cond, length}
 use Rattle.ecma_place.specs.Cursor.{rest, place, passed}
 use Rattle.ecma_place.proofs.MoveLemmas.{place-passed-le, span-passed}
-use Rattle.ecma_scan.specs.Bars.{bars_spelling}
-use Rattle.ecma_scan.specs.GapRecords.{bars_view}
+use Rattle.ecma_reads.specs.Bars.{bars_spelling}
+use Rattle.ecma_reads.specs.GapRecords.{bars_view}
 use Rattle.ecma_reads.proofs.FrontLemmas.{bars-front}
 use Rattle.ecma_reads.proofs.TokenLemmas.{bars-found}
 use Rattle.ecma_dispatch.proofs.token_at.bars_at.Goals as goal

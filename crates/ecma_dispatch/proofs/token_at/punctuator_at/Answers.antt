@@ -1,7 +1,7 @@
 use Rattle.std.proofs.Common.{sym, ◌∙◌, true≢false}
 use Rattle.ecma_place.specs.Cursor.{rest, place}
 use Rattle.ecma_token.specs.View.{token_view}
-use Rattle.ecma_scan.specs.Punctuators.{punctuator_in}
+use Rattle.ecma_reads.specs.Punctuators.{punctuator_in}
 use Rattle.ecma_reads.proofs.TokenLemmas.{punctuator-some, punctuator-none, punctuator-stayed, punctuator-moved, stray-refused}
 use Rattle.ecma_dispatch.proofs.token_at.punctuator_at.Goals as goal
 

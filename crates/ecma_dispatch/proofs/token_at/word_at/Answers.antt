@@ -1,7 +1,7 @@
 use Rattle.std.proofs.Common.{sym, true≢false}
 use Rattle.ecma_place.specs.Cursor.{rest, place}
-use Rattle.ecma_scan.specs.Found.{found_view}
-use Rattle.ecma_scan.specs.Words.{word}
+use Rattle.ecma_reads.specs.Found.{found_view}
+use Rattle.ecma_reads.specs.Words.{word}
 use Rattle.ecma_reads.proofs.TokenLemmas.{borrowed-name, word-found}
 use Rattle.ecma_dispatch.proofs.token_at.word_at.Goals as goal
 

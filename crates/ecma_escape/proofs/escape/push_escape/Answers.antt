@@ -9,8 +9,8 @@ use Rattle.std.specs.Prelude.{option_map}
 use Rattle.ecma_escape.proofs.EscapeSpans.{IsRead, refused-error, escape-text, value-behind, faults-behind, not-refused, octal-room, nothing-is}
 use Rattle.ecma_escape.proofs.escape.push_escape.Goals as goal
 
-pub refusal_error-requires-clause-order : goal.refusal_error-requires-clause-order
-refusal_error-requires-clause-order c =
+pub error_of_refusal-requires-clause-order : goal.error_of_refusal-requires-clause-order
+error_of_refusal-requires-clause-order c =
     let le = place-passed-le c.args.input.now c.read_escape-answer.new.input _ c.in-Refused.ensures.moved in
     omega (arith, le, c.cur_pos-start.ensures, c.cur_pos.ensures)
 

@@ -7,8 +7,8 @@ use Rattle.ecma_reader.specs.Rereads.{rule_of}
 use Rattle.ecma_classes.specs.Classes.{begin}
 use Rattle.ecma_faults.specs.Faults.{IsByPlace, all_of, view}
 use Rattle.ecma_looks.specs.Shown.{IsShown}
-use Rattle.ecma_pieces.specs.Covered.{MayBeCovered}
-use Rattle.ecma_pieces.proofs.CoveredLemmas.{gathered_may_be_covered}
+use Rattle.ecma_looks.specs.Covered.{MayBeCovered}
+use Rattle.ecma_looks.proofs.CoveredLemmas.{gathered_may_be_covered}
 use Rattle.ecma_reader.specs.Outputs.{error_tokens}
 use Rattle.ecma_faces.specs.Pieces.{piece_rows, pieces_by}
 use Rattle.ecma_faces.specs.Whole.{html_written, places_of, shown_head}

@@ -1,5 +1,5 @@
 use Rattle.ecma_place.specs.Cursor.{rest}
-use Rattle.ecma_scan.specs.Numbers.{number}
+use Rattle.ecma_reads.specs.Numbers.{number}
 use Rattle.ecma_state.specs.TokenAt.{ts1085}
 use Rattle.ecma_state.specs.declared.lookahead.Lookahead.TheVariants as opens
 use Rattle.ecma_reads.proofs.TokenLemmas.{free-parts, no-separator, ok-accepted}

@@ -1,7 +1,7 @@
 use Rattle.std.proofs.Common.{Some, ap, subst, sym, ◌∙◌}
 use Rattle.ecma_place.specs.Cursor.{rest}
 use Rattle.ecma_place.proofs.MoveLemmas.{place-passed-le}
-use Rattle.ecma_scan.specs.Punctuators.{punctuator_in}
+use Rattle.ecma_reads.specs.Punctuators.{punctuator_in}
 use Rattle.ecma_token.specs.View.{spanned_view}
 use Rattle.ecma_token.specs.declared.token.TokenAndSpan.{TokenAndSpan}
 use Rattle.ecma_plain.specs.Plain.{IsPlain}

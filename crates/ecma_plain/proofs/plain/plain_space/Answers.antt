@@ -1,7 +1,7 @@
 use Rattle.std.proofs.Common.{◌<◌, Some, false, refl, subst, sym, ◌∙◌, arith}
 use Rattle.ecma_place.specs.Cursor.{rest}
-use Rattle.ecma_scan.specs.BlankGaps.{IsTold}
-use Rattle.ecma_scan.specs.declared.blank_gap.BlankGap.{BlankGap}
+use Rattle.ecma_reads.specs.BlankGaps.{IsTold}
+use Rattle.ecma_reads.specs.declared.blank_gap.BlankGap.{BlankGap}
 use Rattle.ecma_gap.proofs.BlankGapLemmas.{told-gap}
 use Rattle.ecma_gap.proofs.WhiteLemmas.{past-ends, past-flag, spaced}
 use Rattle.ecma_plain.proofs.PlainLemmas.{space-told, stands-plain}

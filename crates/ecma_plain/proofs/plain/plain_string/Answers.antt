@@ -1,5 +1,5 @@
 use Rattle.ecma_place.specs.Cursor.{rest}
-use Rattle.ecma_scan.specs.Strings.{string_literal}
+use Rattle.ecma_reads.specs.Strings.{string_literal}
 use Rattle.ecma_state.specs.declared.lookahead.Lookahead.TheVariants as opens
 use Rattle.ecma_reads.proofs.TokenLemmas.{borrowed-token, free-parts}
 use Rattle.ecma_plain.proofs.plain.plain_string.Goals as goal

@@ -6,8 +6,8 @@ use Rattle.ecma_place.proofs.MoveLemmas.{span-passed}
 use Rattle.ecma_place.proofs.RunLemmas.{text-passed}
 use Rattle.ecma_syntax.specs.Word.{word_of_kind}
 use Rattle.ecma_syntax.proofs.Words.{word_of-kind}
-use Rattle.ecma_scan.specs.Found.{scanned}
-use Rattle.ecma_scan.proofs.Fronts.{length-take_while, take_while-front}
+use Rattle.ecma_reads.specs.Found.{scanned}
+use Rattle.ecma_reads.proofs.Fronts.{length-take_while, take_while-front}
 use Rattle.ecma_plain.proofs.PlainLemmas.{plain-of-word, word-plain}
 use Rattle.ecma_plain.proofs.plain.word_between.Goals as goal
 

@@ -1,7 +1,7 @@
 use Rattle.std.proofs.Common.{◌∙◌, sym, ap, map, subst}
 use Rattle.std.specs.List.{All}
 use Rattle.std.specs.Prelude.{encode_utf8_all}
-use Rattle.ecma_clean_reads.specs.Canonical.{canonical_of, own_in}
+use Rattle.ecma_joined.specs.Canonical.{canonical_of, own_in}
 use Rattle.ecma_joined.specs.Joined.{StandsIn}
 use Rattle.ecma_options.specs.Begin.{whole}
 use Rattle.ecma_program.proofs.CanonAgain.{told-again}

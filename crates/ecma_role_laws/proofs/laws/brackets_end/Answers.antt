@@ -1,4 +1,4 @@
-use Rattle.ecma_roles.specs.Track.{track_of}
+use Rattle.ecma_role_tracks.specs.Track.{track_of}
 use Rattle.ecma_role_laws.proofs.Balance.{balanced_closed, balanced_kept, track_sound}
 use Rattle.ecma_role_laws.proofs.laws.brackets_end.Goals as goal
 

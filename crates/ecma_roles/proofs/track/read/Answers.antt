@@ -1,6 +1,6 @@
 use Rattle.std.proofs.Common.{arith}
-use Rattle.ecma_roles.specs.Track.{track}
-use Rattle.ecma_roles.proofs.TrackLemmas.{read_again, read_done, read_out}
+use Rattle.ecma_role_tracks.specs.Track.{track}
+use Rattle.ecma_role_tracks.proofs.TrackLemmas.{read_again, read_done, read_out}
 use Rattle.ecma_roles.proofs.track.read.Goals as goal
 
 pub returns-in-Done : goal.returns-in-Done

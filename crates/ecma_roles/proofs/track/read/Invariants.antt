@@ -1,6 +1,6 @@
 use Rattle.std.proofs.Common.{◌+◌, ◌*◌, ◌≤◌, Some}
-use Rattle.ecma_roles.specs.Track.{read_times, reading, track}
-use Rattle.ecma_roles.proofs.TrackLemmas.{LeadsTo}
+use Rattle.ecma_role_tracks.specs.Track.{read_times, reading, track}
+use Rattle.ecma_role_tracks.proofs.TrackLemmas.{LeadsTo}
 use Rattle.ecma_roles.proofs.track.read.Given as goal
 
 abbrev pub invariant-reads : goal.invariant-reads

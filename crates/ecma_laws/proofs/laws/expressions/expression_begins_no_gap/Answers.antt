@@ -1,4 +1,4 @@
-use Rattle.ecma_scan.proofs.SeparationLaws.{expression_begins_no_gap}
+use Rattle.ecma_grammar_laws.proofs.SeparationLaws.{expression_begins_no_gap}
 use Rattle.ecma_laws.proofs.laws.expressions.expression_begins_no_gap.Goals as goal
 
 pub returns : goal.returns

@@ -1,4 +1,4 @@
-use Rattle.ecma_scan.proofs.CommentLaws.{semicolon_is_seen}
+use Rattle.ecma_grammar_laws.proofs.CommentLaws.{semicolon_is_seen}
 use Rattle.ecma_laws.proofs.laws.gaps.semicolon_follows.Goals as goal
 
 pub returns : goal.returns

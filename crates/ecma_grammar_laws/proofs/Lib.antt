@@ -1,0 +1,3 @@
+pub mod CharacterLaws
+pub mod CommentLaws
+pub mod SeparationLaws

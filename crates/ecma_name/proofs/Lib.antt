@@ -1,0 +1,5 @@
+pub mod NameReading
+pub mod NameRuns
+pub mod ShortReading
+pub mod WordLaws
+pub mod WordReading

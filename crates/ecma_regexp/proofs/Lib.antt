@@ -1,0 +1,4 @@
+pub mod ExpressionForms
+pub mod ExpressionFound
+pub mod ExpressionLaws
+pub mod ExpressionPieces

@@ -1,0 +1,4 @@
+pub mod RankLemmas
+pub mod RowRanks
+pub mod TrackLemmas
+pub mod TrackedLemmas

@@ -1,5 +1,0 @@
-//! Tests of `ecma_modules`.
-#![tactic(auto)]
-
-#[cfg(test)]
-mod tests;

@@ -1,0 +1,3 @@
+//! Tests of imports and exports, and of slashes.
+mod modules;
+mod tracked;
