@@ -2,7 +2,7 @@
 
 use crate::faults::{FAULTY, Refusal, refuse_for, refuse_text};
 use crate::source::read;
-use ecma_command::words::{Chosen, is_chosen};
+use ecma_command::file_names::{Chosen, is_chosen};
 use ecma_stdio::{Halt, text_of};
 use std::alloc::AllocError;
 use std::fs::DirEntry;

@@ -23,9 +23,8 @@ use crate::progress::Progress;
 use crate::source::{STANDARD_INPUT, read};
 use crate::watched::Watched;
 use clap::ArgMatches;
-use ecma_command::words::{
-    Among, Asked, Chosen, Named, command, has_jsx, is_by_flag, slash_places,
-};
+use ecma_command::file_names::{Chosen, has_jsx};
+use ecma_command::words::{Among, Asked, Named, command, is_by_flag, slash_places};
 use ecma_faces::telling::tell;
 use ecma_report::report::{Report, Stop};
 use ecma_span::BytePos;

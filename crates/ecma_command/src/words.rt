@@ -1,5 +1,8 @@
 //! The words of the command line.
+ghost use Rattle.std.specs.Prelude.{◌≡◌};
+ghost use Rattle.ecma_command.specs.FileNames.{for_file};
 
+use crate::file_names::{is_module, is_typescript};
 use clap::{Arg, ArgAction, ArgMatches, Command, value_parser};
 use ecma_options::Options;
 use ecma_positions::Columns;
@@ -136,16 +139,13 @@ impl Asked {
     }
 
     /// The same for a file: its ending may say that it is TypeScript, or a module.
-    pub fn for_file(self, name: &str) -> Asked {
-        let typescript = name.ends_with(".ts")
-            || name.ends_with(".mts")
-            || name.ends_with(".cts")
-            || name.ends_with(".tsx");
-        let module = name.ends_with(".mts") || name.ends_with(".mjs");
+    pub fn for_file(self, name: &str) -> Asked
+        ensures { result ≡ for_file self name.now }
+    {
         Asked {
             options: Options {
-                typescript: self.options.typescript || typescript,
-                module: self.options.module || module,
+                typescript: self.options.typescript || is_typescript(name),
+                module: self.options.module || is_module(name),
                 ..self.options
             },
             ..self
@@ -177,9 +177,9 @@ impl Among {
 /// Which slashes begin regular expressions, as the words say.
 #[derive(Clone, Copy, Debug)]
 pub struct Named<'a> {
-    /// Those at these places, where there are any.
+    /// Those at these places, where there are any and they ascend, as those of [`slash_places`] do.
     pub places: &'a [BytePos],
-    /// Where there are none: those that the lexer's own flag says, and not those where the tokens before expect an operand.
+    /// Else those that the lexer's own flag says, and not those where the tokens before expect an operand.
     pub by_flag: bool,
 }
 
@@ -319,54 +319,6 @@ pub fn command<'a>(alloc: Global) -> Result<Command<'a>, AllocError> {
 /// Whether the words say that slashes are told by the lexer's own flag.
 pub fn is_by_flag(matches: &ArgMatches) -> bool {
     matches.get_str("slashes") == Some("flag")
-}
-
-/// Whether a file's ending says that it has JSX, which is not read.
-pub fn has_jsx(name: &str) -> bool {
-    name.ends_with(".jsx") || name.ends_with(".tsx")
-}
-
-/// Which files are read in a directory.
-#[derive(Clone, Copy, Debug, PartialEq, Eq)]
-pub struct Chosen {
-    /// Whether hidden files and directories are, and `node_modules`.
-    pub hidden: bool,
-    /// Whether files that have JSX are.
-    pub as_is: bool,
-}
-
-impl Chosen {
-    /// Which the words ask for, where they ask for the files in directories.
-    pub fn of(matches: &ArgMatches) -> Option<Chosen> {
-        if !matches.get_flag("recursive") {
-            return None;
-        }
-        Some(Chosen {
-            hidden: matches.get_flag("hidden"),
-            as_is: matches.get_flag("as-is"),
-        })
-    }
-}
-
-/// The endings of files that hold ECMAScript or TypeScript without JSX.
-const ENDINGS: &[&str] = &[".js", ".mjs", ".cjs", ".ts", ".mts", ".cts"];
-
-/// Whether a file's ending says that it holds ECMAScript or TypeScript without JSX.
-fn has_ending(name: &str) -> bool {
-    for ending in ENDINGS {
-        if name.ends_with(*ending) {
-            return true;
-        }
-    }
-    false
-}
-
-/// Whether what a directory holds under this name is read, or looked into where it is a directory.
-pub fn is_chosen(chosen: Chosen, name: &str, is_directory: bool) -> bool {
-    if !chosen.hidden && (name.starts_with('.') || name == "node_modules") {
-        return false;
-    }
-    is_directory || has_ending(name) || (chosen.as_is && has_jsx(name))
 }
 
 /// The places of the slashes that the words name, in order and each once.

@@ -6,8 +6,8 @@ use Rattle.ecma_state.specs.Run.{start_of}
 use Rattle.ecma_state.specs.Session.{kept_tokens}
 use Rattle.ecma_state.specs.declared.settings.Settings.{Settings}
 use Rattle.ecma_classes.specs.Classes.{classes_of}
-use Rattle.ecma_options.specs.Begin.{context, settings, whole}
-use Rattle.ecma_reader.specs.Rereads.{SlashRule, text_steps_by}
+use Rattle.ecma_options.specs.Begin.{begin, context, settings, whole}
+use Rattle.ecma_reader.specs.Rereads.{SlashRule, rereads, steps_to_end_by, text_steps_by}
 use Rattle.ecma_reader.specs.Outputs.{IsReadOut, error_tokens}
 use Rattle.ecma_reader.specs.declared.error_tokens.ReadOut.{ReadOut}
 use Rattle.ecma_reader.proofs.TextLemmas.{text-run}
@@ -52,3 +52,8 @@ pub pieces-asked : (named : Named) (ask : Look) (text : List ℕ) (read : ReadOu
 pieces-asked named ask text read is =
     ap (λ kept. classes_of 0 (length text) kept read.gathered.comments.items) (kept-asked named ask text read is)
     ∙ ap (λ comments. classes_of 0 (length text) (kept_tokens (read_to true named ask text)) comments) (comments-asked named ask text read is)
+
+-- as many slashes are read again as in the whole run
+pub rereads-asked : (named : Named) (ask : Look) (text : List ℕ) (read : ReadOut) → IsAsked true named ask text read
+    → read.rereads ≡ rereads (steps_to_end_by (rule_at named) (begin true ask.asked.options text))
+rereads-asked named ask text read is = is.rereads

@@ -15,6 +15,7 @@ ghost use Rattle.ecma_faces.specs.Canonical.{Counted, has_no_error, joined, read
 ghost use Rattle.ecma_faces.specs.Tokens.{begun, kind_behind};
 ghost use Rattle.ecma_faces.specs.Whole.{OfCanon, errors_told, plainly, steps_by};
 ghost use Rattle.ecma_report.specs.Rows.{Look, whole_part, whole_text};
+ghost use Rattle.ecma_report.specs.Unmet.{unmet_by};
 
 use crate::errors::tell_errors;
 use ecma_canonical::between;
@@ -230,7 +231,7 @@ pub(crate) fn write_canonical<'a, W: Write>(
         → OnOk result (OfCanon look name (plainly look) (chars text) (steps_by (rule_at named.entry) look text) report.old.is_too_long report.new.is_too_long
         (λ all. Adds (W.contents out.old) (W.contents out.new) report.old.out.items report.new.out.items all)) }
     ensures lines { (look : Look) (name text : List ℕ) → IsOf look name text report.old
-        → OnOk result (OfFaults named.entry look name text (errors_told (read_to false named.entry look text)) report.old report.new) }
+        → OnOk result (OfFaults (unmet_by false named.entry look name text) look name text (errors_told (read_to false named.entry look text)) report.old report.new) }
 {
     let text = report.text;
     let mut reader = open(report, named, false)?;

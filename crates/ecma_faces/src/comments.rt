@@ -7,6 +7,7 @@ ghost use Rattle.ecma_report.specs.FaultLines.{OfFaults};
 ghost use Rattle.ecma_report.specs.Runs.{read_to};
 ghost use Rattle.ecma_report.specs.Reports.{Adds, IsOf, Stays, writes_errors};
 ghost use Rattle.ecma_report.specs.Rows.{Look};
+ghost use Rattle.ecma_report.specs.Unmet.{unmet_by};
 
 use crate::errors::tell_errors;
 use ecma_command::words::Named;
@@ -63,7 +64,7 @@ pub(crate) fn write_comments<'a, W: Write>(
     ensures adds { (look : Look) (name text : List ℕ) → IsOf look name text report.old → writes_errors look.asked.face ≡ false
         → OnOk result (Adds (W.contents out.old) (W.contents out.new) report.old.out.items report.new.out.items (comment_rows look name text (comments_by named.entry look text))) }
     ensures lines { (look : Look) (name text : List ℕ) → IsOf look name text report.old
-        → OnOk result (OfFaults named.entry look name text (errors_told (read_to true named.entry look text)) report.old report.new) }
+        → OnOk result (OfFaults (unmet_by true named.entry look name text) look name text (errors_told (read_to true named.entry look text)) report.old report.new) }
 {
     let mut reader = open(report, named, true)?;
     let mut errors = Vec::new(report.alloc);

@@ -5,12 +5,13 @@ ghost use Rattle.ecma_faults.specs.Faults.{all_of};
 ghost use Rattle.ecma_report.specs.FaultLines.{OfFaults};
 ghost use Rattle.ecma_report.specs.Reports.{Adds, IsOf, IsStill, writes_errors};
 ghost use Rattle.ecma_report.specs.Rows.{Look};
+ghost use Rattle.ecma_report.specs.Unmet.{unmet_told};
 
 use ecma_command::words::Named;
 use ecma_faults::in_order;
 use ecma_report::faults::tell_found;
 use ecma_report::report::{Report, Stop};
-use ecma_report::slashes::tell_unmet;
+use ecma_report::unmet::tell_unmet;
 use ecma_token::Error;
 use std::io::Write;
 
@@ -33,7 +34,7 @@ pub(crate) fn tell_errors<'a, W: Write>(
     ensures adds { writes_errors report.old.asked.face ≡ false
         → OnOk result (Adds (W.contents out.old) (W.contents out.new) report.old.out.items report.new.out.items []) }
     ensures lines { (look : Look) (name text : List ℕ) → IsOf look name text report.old
-        → OnOk result (OfFaults named.entry look name text (all_of (map error_view tokens.entry.items) (map error_view recorded.entry.items) []) report.old report.new) }
+        → OnOk result (OfFaults (unmet_told named.entry look name text rereads) look name text (all_of (map error_view tokens.entry.items) (map error_view recorded.entry.items) []) report.old report.new) }
     ensures still { OnOk result (IsStill report.old report.new) }
 {
     let waiting = Vec::new(report.alloc);

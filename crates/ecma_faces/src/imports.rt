@@ -15,6 +15,7 @@ ghost use Rattle.ecma_report.specs.FaultLines.{OfFaults};
 ghost use Rattle.ecma_report.specs.Runs.{read_to};
 ghost use Rattle.ecma_report.specs.Reports.{Adds, IsOf, IsStill, Stays, writes_errors};
 ghost use Rattle.ecma_report.specs.Rows.{Look};
+ghost use Rattle.ecma_report.specs.Unmet.{unmet_by};
 
 use crate::errors::tell_errors;
 use ecma_command::words::{Asked, Named};
@@ -171,7 +172,7 @@ fn read_module<'a, W: Write>(
     ensures nothing { writes_errors report.old.asked.face ≡ false
         → OnOk result (Adds (W.contents out.old) (W.contents out.new) report.old.out.items report.new.out.items []) }
     ensures lines { (look : Look) (name text : List ℕ) → IsOf look name text report.old
-        → OnOk result (OfFaults named.entry look name text (errors_told (read_to false named.entry look text)) report.old report.new) }
+        → OnOk result (OfFaults (unmet_by false named.entry look name text) look name text (errors_told (read_to false named.entry look text)) report.old report.new) }
     ensures still { OnOk result (IsStill report.old report.new) }
 {
     let mut reader = open(report, named, false)?;
@@ -196,7 +197,7 @@ pub(crate) fn write_imports<'a, W: Write>(
         → OnOk result (Adds (W.contents out.old) (W.contents out.new) report.old.out.items report.new.out.items
         (import_rows look name text (imports_of (rows.module_options look.asked) (kept_by named.entry look text)))) }
     ensures lines { (look : Look) (name text : List ℕ) → IsOf look name text report.old
-        → OnOk result (OfFaults named.entry look name text (errors_told (read_to false named.entry look text)) report.old report.new) }
+        → OnOk result (OfFaults (unmet_by false named.entry look name text) look name text (errors_told (read_to false named.entry look text)) report.old report.new) }
 {
     let module = read_module(report, named, out)?;
     push_imports(report, &module.imports, out)?;
@@ -214,7 +215,7 @@ pub(crate) fn write_exports<'a, W: Write>(
         → OnOk result (Adds (W.contents out.old) (W.contents out.new) report.old.out.items report.new.out.items
         (export_rows look name text (exports_of (rows.module_options look.asked) (kept_by named.entry look text)))) }
     ensures lines { (look : Look) (name text : List ℕ) → IsOf look name text report.old
-        → OnOk result (OfFaults named.entry look name text (errors_told (read_to false named.entry look text)) report.old report.new) }
+        → OnOk result (OfFaults (unmet_by false named.entry look name text) look name text (errors_told (read_to false named.entry look text)) report.old report.new) }
 {
     let module = read_module(report, named, out)?;
     push_exports(report, &module.exports, out)?;

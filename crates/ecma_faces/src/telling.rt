@@ -16,6 +16,7 @@ ghost use Rattle.ecma_report.specs.Slashes.{rule_at};
 ghost use Rattle.ecma_faces.specs.Telling.{with_comments};
 ghost use Rattle.ecma_faces.specs.Tokens.{begun, token_rows};
 ghost use Rattle.ecma_report.specs.Rows.{Look};
+ghost use Rattle.ecma_report.specs.Unmet.{unmet_by};
 ghost use Rattle.ecma_command.specs.declared.words.Face.TheVariants as face;
 
 use crate::canonical::write_canonical;
@@ -58,9 +59,9 @@ fn write_face<'a, W: Write>(
         → OnOk result (OfCanon look name (plainly look) (chars text) (steps_by (rule_at named.entry) look text) report.old.is_too_long report.new.is_too_long
         (λ all. Adds (W.contents out.old) (W.contents out.new) report.old.out.items report.new.out.items all)) }
     ensures lines { (look : Look) (name text : List ℕ) → IsOf look name text report.old → tells_faults look.asked.face ≡ true
-        → OnOk result (OfFaults named.entry look name text (errors_told (read_to (with_comments look.asked.face) named.entry look text)) report.old report.new) }
+        → OnOk result (OfFaults (unmet_by (with_comments look.asked.face) named.entry look name text) look name text (errors_told (read_to (with_comments look.asked.face) named.entry look text)) report.old report.new) }
     ensures unmet { (look : Look) (name text : List ℕ) → IsOf look name text report.old → tells_faults look.asked.face ≡ false
-        → OnOk result (OfUnmet named.entry (has_fault (errors_told (read_to (with_comments look.asked.face) named.entry look text))) report.old report.new) }
+        → OnOk result (OfUnmet (unmet_by (with_comments look.asked.face) named.entry look name text) (has_fault (errors_told (read_to (with_comments look.asked.face) named.entry look text))) report.old report.new) }
 {
     match report.asked.face {
         Face::Tokens => write_tokens(report, named, out),
@@ -122,9 +123,9 @@ pub fn tell<'a, W: Write>(
     // Errors that have no rows and are not shown in the text have lines of faults, in order of place, behind those of the places
     // that were named and are no slash's.
     ensures lines { (look : Look) (name text : List ℕ) → IsOf look name text report.old → tells_faults look.asked.face ≡ true
-        → OnOk result (OfFaults named.entry look name text (errors_told (read_to (with_comments look.asked.face) named.entry look text)) report.old report.new) }
+        → OnOk result (OfFaults (unmet_by (with_comments look.asked.face) named.entry look name text) look name text (errors_told (read_to (with_comments look.asked.face) named.entry look text)) report.old report.new) }
     ensures unmet { (look : Look) (name text : List ℕ) → IsOf look name text report.old → tells_faults look.asked.face ≡ false
-        → OnOk result (OfUnmet named.entry (has_fault (errors_told (read_to (with_comments look.asked.face) named.entry look text))) report.old report.new) }
+        → OnOk result (OfUnmet (unmet_by (with_comments look.asked.face) named.entry look name text) (has_fault (errors_told (read_to (with_comments look.asked.face) named.entry look text))) report.old report.new) }
     // Nothing is held any more.
     ensures none { OnOk result (report.new.out.items ≡ []) }
 {

@@ -13,6 +13,7 @@ ghost use Rattle.ecma_faces.specs.Whole.{errors_told};
 ghost use Rattle.ecma_faces.specs.Tokens as rows;
 ghost use Rattle.ecma_faces.specs.Tokens.{begun, kind_behind, token_rows};
 ghost use Rattle.ecma_report.specs.Rows.{Look, row_of};
+ghost use Rattle.ecma_report.specs.Unmet.{unmet_by};
 ghost use Rattle.ecma_print.specs.Rows.{more_view};
 
 use crate::errors::tell_errors;
@@ -116,7 +117,7 @@ pub(crate) fn write_tokens<'a, W: Write>(
     ensures adds { (look : Look) (name text : List ℕ) → IsOf look name text report.old → writes_errors look.asked.face ≡ false
         → OnOk result (Adds (W.contents out.old) (W.contents out.new) report.old.out.items report.new.out.items (token_rows look name text None (tokens_by (rule_at named.entry) (begun look.asked text)))) }
     ensures lines { (look : Look) (name text : List ℕ) → IsOf look name text report.old
-        → OnOk result (OfFaults named.entry look name text (errors_told (read_to false named.entry look text)) report.old report.new) }
+        → OnOk result (OfFaults (unmet_by false named.entry look name text) look name text (errors_told (read_to false named.entry look text)) report.old report.new) }
 {
     let mut reader = open(report, named, false)?;
     let mut errors = Vec::new(report.alloc);

@@ -14,6 +14,7 @@ ghost use Rattle.ecma_report.specs.FaultLines.{OfFaults, OfUnmet, has_fault, tel
 ghost use Rattle.ecma_report.specs.Runs.{read_to};
 ghost use Rattle.ecma_report.specs.Reports.{Adds, IsOf, Stays, look_of};
 ghost use Rattle.ecma_report.specs.Rows.{Look};
+ghost use Rattle.ecma_report.specs.Unmet.{unmet_by};
 ghost use Rattle.ecma_stdio.specs.Escaped.{escaped};
 ghost use Rattle.ecma_command.specs.declared.words.Face.TheVariants as face;
 
@@ -26,7 +27,8 @@ use ecma_names::piece_name;
 use ecma_reader::{Gathered, ReadOut, read_out};
 use ecma_report::faults::tell_found;
 use ecma_report::report::{More, Report, Row, Stop};
-use ecma_report::slashes::{START, slashes_at, tell_unmet};
+use ecma_report::slashes::{START, slashes_at};
+use ecma_report::unmet::tell_unmet;
 use ecma_stdio::push_escaped;
 use std::alloc::{AllocError, Global};
 use std::io::Write;
@@ -176,9 +178,9 @@ pub(crate) fn tell_gathered<'a, W: Write>(
         → OnOk result (OfShown named.entry look name text
         (λ all. Adds (W.contents out.old) (W.contents out.new) report.old.out.items report.new.out.items all)) }
     ensures lines { (look : Look) (name text : List ℕ) → IsOf look name text report.old
-        → OnOk result (OfFaults named.entry look name text (errors_told (read_to true named.entry look text)) report.old report.new) }
+        → OnOk result (OfFaults (unmet_by true named.entry look name text) look name text (errors_told (read_to true named.entry look text)) report.old report.new) }
     ensures unmet { (look : Look) (name text : List ℕ) → IsOf look name text report.old → tells_faults look.asked.face ≡ false
-        → OnOk result (OfUnmet named.entry (has_fault (errors_told (read_to true named.entry look text))) report.old report.new) }
+        → OnOk result (OfUnmet (unmet_by true named.entry look name text) (has_fault (errors_told (read_to true named.entry look text))) report.old report.new) }
 {
     let settings = report.asked.options.settings(true);
     let context = report.asked.options.context();

@@ -13,7 +13,8 @@
 //! To change which comments there are: `ecma_grammar`: `specs/Gaps.antt`, `specs/Comments.antt`, `specs/Telling.antt`,
 //! cases in `proofs/GapForms.antt`, `proofs/GapLaws.antt`, `proofs/SignLemmas.antt`, `proofs/TellingLaws.antt`; here
 //! `element.rt`, `marker.rt`, `gap.rt`, `specs/BlankGaps.antt` and six proofs; `ecma_grammar_laws/proofs/CommentLaws.antt`,
-//! `ecma_pieces/proofs/ElementPlaces.antt`. Prove `ecma_grammar`, `ecma_gap`, `ecma_scan`, `ecma_laws`, `ecma_pieces`.
+//! `ecma_pieces/proofs/ElementPlaces.antt`. Prove `ecma_grammar`, `ecma_gap`, `ecma_grammar_laws`, `ecma_laws`,
+//! `ecma_pieces`.
 #![tactic(auto)]
 
 pub mod bars;

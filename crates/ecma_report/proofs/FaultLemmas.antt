@@ -11,13 +11,15 @@ use Rattle.ecma_faults.specs.declared.found.Origin.TheVariants.{Recorded, Token,
 use Rattle.ecma_reader.specs.Outputs.{error_tokens}
 use Rattle.ecma_report.specs.Errors.{errors_behind}
 use Rattle.ecma_report.specs.FaultLines.{OfFaults, OfUnmet, fault_of, has_fault, is_fault, is_faulty_behind, tells_faults, told_faults}
-use Rattle.ecma_report.specs.Reports.{KeepsFaults, writes_errors}
+use Rattle.ecma_report.specs.Reports.{IsOf, KeepsFaults, look_of, writes_errors}
 use Rattle.ecma_report.specs.Rows.{Look}
+use Rattle.ecma_report.specs.Unmet.{unmet_told}
 use Rattle.ecma_report.specs.declared.report.Report.{Report}
 use Rattle.ecma_report.proofs.OrderLemmas.{fault-in-order}
+use Rattle.ecma_report.proofs.ReportLemmas.{said-of}
 use Rattle.ecma_command.specs.declared.words.Face.{Face}
-use Rattle.ecma_command.specs.declared.words.Face.TheVariants.{Tokens, Imports, Exports, Comments, Errors, Classes, Html, Show, Canonical}
 use Rattle.ecma_command.specs.declared.words.Named.{Named}
+use Rattle.ecma_command.specs.declared.words.Face.TheVariants.{Tokens, Imports, Exports, Comments, Errors, Classes, Html, Show, Canonical}
 
 -- errors that have rows have no lines
 pub rows-no-lines : (face : Face) → writes_errors face ≡ true → tells_faults face ≡ false
@@ -45,48 +47,45 @@ faulty-on : (before told : Bool) (unmet : List ℕ) (other : Bool) → told ≡ 
 faulty-on before told unmet other is = ap (λ b. b || other) is ∙ or-on before (not (length unmet == 0)) other
 
 -- where errors have no lines, only places that are no slash's do
-pub unmet-alone : (named : Named) (l : Look) (file text : List ℕ) (found : List FoundView) (other : Bool) (old between new : Report) → tells_faults l.asked.face ≡ false
-    → OfUnmet named false old between → new.faults.items ≡ between.faults.items ++ told_faults l file text found → new.is_faulty ≡ (between.is_faulty || other) → OfUnmet named other old new
-unmet-alone named l file text found other old between new none unmet told faulty = record {
-  unmet = unmet.unmet;
-  none = unmet.none;
-  whole = told ∙ ap (λ lines. between.faults.items ++ lines) (none-told l file text found none) ∙ append-nil between.faults.items ∙ unmet.whole;
-  faulty = faulty ∙ faulty-on old.is_faulty between.is_faulty unmet.unmet other unmet.faulty;
+pub unmet-alone : (unmet : List ℕ) (l : Look) (file text : List ℕ) (found : List FoundView) (other : Bool) (old between new : Report) → tells_faults l.asked.face ≡ false
+    → OfUnmet unmet false old between → new.faults.items ≡ between.faults.items ++ told_faults l file text found → new.is_faulty ≡ (between.is_faulty || other) → OfUnmet unmet other old new
+unmet-alone unmet l file text found other old between new none first told faulty = record {
+  whole = told ∙ ap (λ lines. between.faults.items ++ lines) (none-told l file text found none) ∙ append-nil between.faults.items ∙ first.whole;
+  faulty = faulty ∙ faulty-on old.is_faulty between.is_faulty unmet other first.faulty;
 }
 
+-- the same of what a report is of
+pub unmet-of : (named : Named) (l : Look) (file text : List ℕ) (again : ℕ) (old new : Report) → IsOf l file text old
+    → OfUnmet (unmet_told named (look_of old) old.name.now old.text.now again) false old new → OfUnmet (unmet_told named l file text again) false old new
+unmet-of named l file text again old new of told = said-of l file text old (λ k n t. OfUnmet (unmet_told named k n t again) false old new) of told
+
 -- and where they have, these stand behind those of before
-pub unmet-first : (named : Named) (l : Look) (file text : List ℕ) (found ordered : List FoundView) (old between new : Report) → IsByPlace found ordered → OfUnmet named false old between
-    → new.faults.items ≡ between.faults.items ++ told_faults l file text ordered → new.is_faulty ≡ (between.is_faulty || has_fault ordered) → OfFaults named l file text found old new
-unmet-first named l file text found ordered old between new by_place unmet told faulty = record {
+pub unmet-first : (unmet : List ℕ) (l : Look) (file text : List ℕ) (found ordered : List FoundView) (old between new : Report) → IsByPlace found ordered → OfUnmet unmet false old between
+    → new.faults.items ≡ between.faults.items ++ told_faults l file text ordered → new.is_faulty ≡ (between.is_faulty || has_fault ordered) → OfFaults unmet l file text found old new
+unmet-first unmet l file text found ordered old between new by_place first told faulty = record {
   ordered = ordered;
   by_place = by_place;
-  unmet = unmet.unmet;
-  none = unmet.none;
-  whole = told ∙ ap (λ lines. lines ++ told_faults l file text ordered) unmet.whole ∙ append_assoc unmet.unmet old.faults.items (told_faults l file text ordered);
-  faulty = faulty ∙ ap (λ b. between.is_faulty || b) (fault-in-order found ordered by_place) ∙ faulty-on old.is_faulty between.is_faulty unmet.unmet (has_fault found) unmet.faulty;
+  whole = told ∙ ap (λ lines. lines ++ told_faults l file text ordered) first.whole ∙ append_assoc unmet old.faults.items (told_faults l file text ordered);
+  faulty = faulty ∙ ap (λ b. between.is_faulty || b) (fault-in-order found ordered by_place) ∙ faulty-on old.is_faulty between.is_faulty unmet (has_fault found) first.faulty;
 }
 
 -- the same of what is the same
-pub faults-as : (named : Named) (l : Look) (file text : List ℕ) (found errors : List FoundView) (first before after last : Report) → found ≡ errors → KeepsFaults first before → KeepsFaults after last
-    → OfFaults named l file text found before after → OfFaults named l file text errors first last
-faults-as named l file text found errors first before after last same begun ended faults = record {
+pub faults-as : (unmet : List ℕ) (l : Look) (file text : List ℕ) (found errors : List FoundView) (first before after last : Report) → found ≡ errors → KeepsFaults first before → KeepsFaults after last
+    → OfFaults unmet l file text found before after → OfFaults unmet l file text errors first last
+faults-as unmet l file text found errors first before after last same begun ended faults = record {
   ordered = faults.ordered;
   by_place = subst (λ fs. IsByPlace fs faults.ordered) same faults.by_place;
-  unmet = faults.unmet;
-  none = faults.none;
-  whole = ended.faults ∙ faults.whole ∙ ap (λ lines. faults.unmet ++ (lines ++ told_faults l file text faults.ordered)) begun.faults;
+  whole = ended.faults ∙ faults.whole ∙ ap (λ lines. unmet ++ (lines ++ told_faults l file text faults.ordered)) begun.faults;
   faulty = ended.faulty
       ∙ faults.faulty
-      ∙ ap (λ b. is_faulty_behind b faults.unmet (has_fault found)) begun.faulty
-      ∙ ap (λ fs. is_faulty_behind first.is_faulty faults.unmet (has_fault fs)) same;
+      ∙ ap (λ b. is_faulty_behind b unmet (has_fault found)) begun.faulty
+      ∙ ap (λ fs. is_faulty_behind first.is_faulty unmet (has_fault fs)) same;
 }
 
-pub unmet-as : (named : Named) (found other : Bool) (first after last : Report) → found ≡ other → KeepsFaults after last → OfUnmet named found first after → OfUnmet named other first last
-unmet-as named found other first after last same ended unmet = record {
-  unmet = unmet.unmet;
-  none = unmet.none;
-  whole = ended.faults ∙ unmet.whole;
-  faulty = ended.faulty ∙ unmet.faulty ∙ ap (is_faulty_behind first.is_faulty unmet.unmet) same;
+pub unmet-as : (unmet : List ℕ) (found other : Bool) (first after last : Report) → found ≡ other → KeepsFaults after last → OfUnmet unmet found first after → OfUnmet unmet other first last
+unmet-as unmet found other first after last same ended is = record {
+  whole = ended.faults ∙ is.whole;
+  faulty = ended.faulty ∙ is.faulty ∙ ap (is_faulty_behind first.is_faulty unmet) same;
 }
 
 -- One error more

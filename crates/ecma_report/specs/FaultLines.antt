@@ -13,7 +13,6 @@ use Rattle.ecma_print.specs.Rows.{one_line}
 use Rattle.ecma_stdio.specs.Escaped.{escaped}
 use Rattle.ecma_report.specs.Rows.{Look}
 use Rattle.ecma_report.specs.declared.report.Report.{Report}
-use Rattle.ecma_command.specs.declared.words.Named.{Named}
 use Rattle.ecma_command.specs.declared.words.Face.{Face}
 use Rattle.ecma_command.specs.declared.words.Face.TheVariants.{Errors, Show}
 
@@ -58,19 +57,14 @@ told_faults l file text found = flat_map (told_fault l file text) found
 abbrev pub is_faulty_behind : Bool → List ℕ → Bool → Bool
 is_faulty_behind before unmet other = before || (not (length unmet == 0) || other)
 
--- The lines of the places that were named and are no slash's come before all others, and there are none where none was named.
--- The second part says whether another fault was found.
-pub record OfUnmet (named : Named) (other : Bool) (old new : Report) : Type 0 where
-  pub unmet : List ℕ
-  pub none : named.places.now ≡ [] → unmet ≡ []
+-- The lines of places that are no slash's come before all others. The second part says whether another fault was found.
+pub record OfUnmet (unmet : List ℕ) (other : Bool) (old new : Report) : Type 0 where
   pub whole : new.faults.items ≡ unmet ++ old.faults.items
   pub faulty : new.is_faulty ≡ is_faulty_behind old.is_faulty unmet other
 
 -- and the lines of these errors, in order of place, stand behind those of before
-pub record OfFaults (named : Named) (l : Look) (file text : List ℕ) (found : List FoundView) (old new : Report) : Type 0 where
+pub record OfFaults (unmet : List ℕ) (l : Look) (file text : List ℕ) (found : List FoundView) (old new : Report) : Type 0 where
   pub ordered : List FoundView
   pub by_place : IsByPlace found ordered
-  pub unmet : List ℕ
-  pub none : named.places.now ≡ [] → unmet ≡ []
   pub whole : new.faults.items ≡ unmet ++ (old.faults.items ++ told_faults l file text ordered)
   pub faulty : new.is_faulty ≡ is_faulty_behind old.is_faulty unmet (has_fault found)

@@ -12,9 +12,11 @@ ghost use Rattle.ecma_report.specs.FaultLines as lines;
 ghost use Rattle.ecma_report.specs.FaultLines.{OfUnmet, fault_of, has_fault, told_fault, told_faults};
 ghost use Rattle.ecma_report.specs.Reports.{Adds, IsOf, IsStill, Stays, writes_errors};
 ghost use Rattle.ecma_report.specs.Rows.{Look};
+ghost use Rattle.ecma_report.specs.Unmet.{unmet_by};
 
 use crate::report::{More, Report, Row, Stop};
-use crate::slashes::{open, tell_unmet};
+use crate::slashes::open;
+use crate::unmet::tell_unmet;
 use ecma_command::words::{Face, Named};
 use ecma_faults::{Found, Origin, in_order};
 use ecma_reader::{Reader, take_error};
@@ -155,7 +157,7 @@ pub fn write_errors<'a, W: Write>(
         → OnOk result (OfRowsByPlace look name text (errors_by named.entry look text)
         (λ all. Adds (W.contents out.old) (W.contents out.new) report.old.out.items report.new.out.items all)) }
     ensures lines { (look : Look) (name text : List ℕ) → IsOf look name text report.old → writes_errors look.asked.face ≡ true
-        → OnOk result (OfUnmet named.entry (has_fault (errors_by named.entry look text)) report.old report.new) }
+        → OnOk result (OfUnmet (unmet_by false named.entry look name text) (has_fault (errors_by named.entry look text)) report.old report.new) }
 {
     let mut reader = open(report, named, false)?;
     let mut errors = Vec::new(report.alloc);

@@ -208,6 +208,9 @@ impl<'a> Spanned for Error<'a> {
     }
 }
 
+// The next two make the variants that hold a token and an error. They are apart from `copy` since they recur into neither:
+// each box that is made there costs a proof for all that recurs beside it.
+
 /// This token was expected in the place of a copy of the text.
 fn expected_kind<'a>(
     alloc: Global,

@@ -9,7 +9,7 @@
 //! through a view without boxes and spare capacity.
 //!
 //! To change a message: `message.rt`, `specs/Messages.antt`, or `ecma_fixed`: `fixed.rt`, `specs/Fixed.antt`; rows that
-//! quote it: `ecma_refusals/stdout` and tests (`rows_tests` counts its bytes). Prove `ecma_token`.
+//! quote it: `ecma_refusals/stdout` and tests (`written_tests` counts its bytes). Prove `ecma_token`.
 #![tactic(auto)]
 
 pub mod error;

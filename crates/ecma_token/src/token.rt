@@ -235,7 +235,7 @@ impl<'a> Token<'a> {
         }
     }
 
-    /// The same token with these two texts.
+    /// The same token with these two texts, where it holds two.
     fn with_texts(&self, left: Atom<'a>, right: Atom<'a>) -> Token<'a>
         requires { Some (left, right) ≡ texts_of self.now }
         ensures { token_view result ≡ token_view self.now }
@@ -261,6 +261,7 @@ impl<'a> Token<'a> {
                 radix: *radix,
                 digits: right,
             },
+            // JSX text is the last kind of token that holds two texts.
             _ => Token::JSXText {
                 value: left,
                 raw: right,

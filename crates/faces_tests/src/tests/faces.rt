@@ -1,16 +1,14 @@
 //! What is told of texts: rows over each face, with what the command wrote before its faces could be called.
 use clap::ArgMatches;
-use ecma_command::words::{
-    Among, Asked, Chosen, Face, Named, command, is_by_flag, is_chosen, slash_places,
-};
+use ecma_command::file_names::{Chosen, is_chosen};
+use ecma_command::words::{Among, Asked, Face, Named, command, is_by_flag, slash_places};
 use ecma_faces::telling::tell;
 use ecma_options::Options;
 use ecma_place::{BytePos, StringInput};
 use ecma_positions::Columns;
 use ecma_report::report::{Report, Stop};
 use std::alloc::{AllocError, Global};
-use std::io;
-use std::io::Write;
+use std::io::{self, Write};
 use std::process::Abort;
 use std::test::Fail;
 
@@ -111,6 +109,14 @@ const TOKENS: &[Told] = &[
         true,
         "{\"column\":1,\"file\":\"a.js\",\"hi\":1,\"kind\":\"name\",\"line\":1,\"line_break_before\":true,\"lo\":0,\"text\":\"a\"}\n{\"column\":3,\"file\":\"a.js\",\"hi\":3,\"kind\":\"punctuator\",\"line\":1,\"line_break_before\":false,\"lo\":2,\"text\":\"/\"}\n{\"column\":4,\"file\":\"a.js\",\"hi\":4,\"kind\":\"name\",\"line\":1,\"line_break_before\":false,\"lo\":3,\"text\":\"b\"}\n{\"column\":5,\"file\":\"a.js\",\"hi\":5,\"kind\":\"punctuator\",\"line\":1,\"line_break_before\":false,\"lo\":4,\"text\":\"/\"}\n{\"column\":7,\"file\":\"a.js\",\"hi\":7,\"kind\":\"name\",\"line\":1,\"line_break_before\":false,\"lo\":6,\"text\":\"c\"}\n{\"column\":9,\"file\":\"a.js\",\"hi\":9,\"kind\":\"punctuator\",\"line\":1,\"line_break_before\":false,\"lo\":8,\"text\":\"/\"}\n{\"column\":10,\"file\":\"a.js\",\"hi\":10,\"kind\":\"name\",\"line\":1,\"line_break_before\":false,\"lo\":9,\"text\":\"d\"}\n{\"column\":11,\"file\":\"a.js\",\"hi\":11,\"kind\":\"punctuator\",\"line\":1,\"line_break_before\":false,\"lo\":10,\"text\":\"/\"}\n",
         "a.js: no slash is read at the place 0\n",
+    ),
+    // A slash with which template text begins is part of that.
+    (
+        "tokens --slash 1 --slash 5",
+        "`/x``/\\u`",
+        true,
+        "template 0 1 lf `\ntemplate 1 3 - /x\ntemplate 3 4 - `\ntemplate 4 5 - `\ntemplate 5 8 - /\\\\u\ntemplate 8 9 - `\n",
+        "a.js: no slash is read at the place 1\na.js: no slash is read at the place 5\n",
     ),
     (
         "tokens --ts",

@@ -54,6 +54,7 @@ returns-clause-lines g c = λ ask file bytes of.
     let start = begun ask.asked bytes in
     let shows = said-of ask file bytes first (λ a n t. Shows rule (begin false a.asked.options t) [] c.in_ok-reader.reader) of c.in_ok-reader.ensures.shows in
     let passed = c.in_ok-tokens.ensures in
-    let left = c.finish-outcome.ensures.left (read_to false c.args.named ask bytes) (passed.read rule start shows).at in
-    faults-read c.args.named ask file bytes (read_to false c.args.named ask bytes) _ _ first first c.tell_errors.new.report c.write_measured.new.report
-    (passed.kept rule start shows c.new-errors.ensures.items) (ap (map error_view) c.into_vec-recorded.ensures ∙ left.errors) (keeps-same first) c.in_ok-write_measured.ensures.faults (c.in_ok-tell_errors.ensures.lines ask file bytes of)
+    let has = passed.read rule start shows in
+    let left = c.finish-outcome.ensures.left (read_to false c.args.named ask bytes) has.at in
+    faults-read c.args.named ask file bytes _ _ (read_to false c.args.named ask bytes) _ _ first first c.tell_errors.new.report c.write_measured.new.report
+    (c.finish-outcome.ensures.rereads ∙ has.counted) (passed.kept rule start shows c.new-errors.ensures.items) (ap (map error_view) c.into_vec-recorded.ensures ∙ left.errors) (keeps-same first) c.in_ok-write_measured.ensures.faults (c.in_ok-tell_errors.ensures.lines ask file bytes of)

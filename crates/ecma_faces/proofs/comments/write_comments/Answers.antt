@@ -36,8 +36,9 @@ returns-clause-lines g c = λ ask file bytes of.
     let shows = said-of ask file bytes first (λ a n t. Shows rule (begin true a.asked.options t) [] c.in_ok-reader.reader) of c.in_ok-reader.ensures.shows in
     let passed = c.in_ok-pass_tokens.ensures in
     let none = c.new-errors.ensures.items in
-    let left = c.finish-recorded.ensures.left (read_to true c.args.named ask bytes) (passed.read rule start shows none).at in
+    let has = passed.read rule start shows none in
+    let left = c.finish-recorded.ensures.left (read_to true c.args.named ask bytes) has.at in
     let told = c.tell_errors.new.report in
     let last = c.push_comments.new.report in
-    faults-read c.args.named ask file bytes (read_to true c.args.named ask bytes) _ _ first first told last
-    (passed.kept rule start shows none) (ap (map error_view) c.into_vec.ensures ∙ left.errors) (keeps-same first) (keeps-faults told last c.in_ok-push_comments.ensures.stays) (c.in_ok-tell_errors.ensures.lines ask file bytes of)
+    faults-read c.args.named ask file bytes _ _ (read_to true c.args.named ask bytes) _ _ first first told last
+    (c.finish-recorded.ensures.rereads ∙ has.counted) (passed.kept rule start shows none) (ap (map error_view) c.into_vec.ensures ∙ left.errors) (keeps-same first) (keeps-faults told last c.in_ok-push_comments.ensures.stays) (c.in_ok-tell_errors.ensures.lines ask file bytes of)

@@ -17,6 +17,7 @@ returns-clause-lines g c = λ ask file bytes of.
     let shows = said-of ask file bytes first (λ a n t. Shows rule (begin false a.asked.options t) [] c.in_ok-reader.reader) of c.in_ok-reader.ensures.shows in
     let passed = c.in_ok-gather_tokens.ensures in
     let none = c.new-errors.ensures.items in
-    let left = c.finish-outcome.ensures.left (read_to false c.args.named ask bytes) (passed.read rule start shows none).at in
-    faults-read c.args.named ask file bytes (read_to false c.args.named ask bytes) _ _ first first last last
-    (passed.kept rule start shows none) (ap (map error_view) c.into_vec-recorded.ensures ∙ left.errors) (keeps-same first) (keeps-same last) (c.in_ok-tell_errors.ensures.lines ask file bytes of)
+    let has = passed.read rule start shows none in
+    let left = c.finish-outcome.ensures.left (read_to false c.args.named ask bytes) has.at in
+    faults-read c.args.named ask file bytes _ _ (read_to false c.args.named ask bytes) _ _ first first last last
+    (c.finish-outcome.ensures.rereads ∙ has.counted) (passed.kept rule start shows none) (ap (map error_view) c.into_vec-recorded.ensures ∙ left.errors) (keeps-same first) (keeps-same last) (c.in_ok-tell_errors.ensures.lines ask file bytes of)

@@ -25,4 +25,4 @@ pub returns-clause-lines : goal.returns-clause-lines
 returns-clause-lines g c = λ ask file bytes of.
     let read = c.read_module.new.report in
     let last = c.push_imports.new.report in
-    faults-as c.args.named ask file bytes _ _ c.args.report.now c.args.report.now read last refl (keeps-same c.args.report.now) (keeps-faults read last c.in_ok-push_imports.ensures.stays) (c.in_ok-module.ensures.lines ask file bytes of)
+    faults-as _ ask file bytes _ _ c.args.report.now c.args.report.now read last refl (keeps-same c.args.report.now) (keeps-faults read last c.in_ok-push_imports.ensures.stays) (c.in_ok-module.ensures.lines ask file bytes of)

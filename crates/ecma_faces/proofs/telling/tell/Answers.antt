@@ -68,9 +68,9 @@ returns g c =
             holds = written (canon_written ask file told.told) told.holds flushed.written flushed.none;
           };
       lines = λ ask file bytes of face.
-          faults-as c.args.named ask file bytes _ _ first first last c.flush.new.self refl (keeps-same first) (keeps-faults last c.flush.new.self flushed.stays)
+          faults-as _ ask file bytes _ _ first first last c.flush.new.self refl (keeps-same first) (keeps-faults last c.flush.new.self flushed.stays)
           (c.in_ok-write_face.ensures.lines ask file bytes of face);
       unmet = λ ask file bytes of face.
-          unmet-as c.args.named _ _ first last c.flush.new.self refl (keeps-faults last c.flush.new.self flushed.stays) (c.in_ok-write_face.ensures.unmet ask file bytes of face);
+          unmet-as _ _ _ first last c.flush.new.self refl (keeps-faults last c.flush.new.self flushed.stays) (c.in_ok-write_face.ensures.unmet ask file bytes of face);
       none = flushed.none;
     }

@@ -1,4 +1,4 @@
-use Rattle.std.proofs.Common.{◌≡◌, ◌∙◌, ◌++◌, ◌||◌, [], ap, map, refl, subst, sym, true}
+use Rattle.std.proofs.Common.{◌≡◌, ◌∙◌, ◌++◌, ◌||◌, [], ap, false, map, refl, subst, sym, true}
 use Rattle.std.specs.Str.{chars}
 use Rattle.ecma_token.specs.View.{error_view}
 use Rattle.ecma_state.specs.Session.{kept_tokens}
@@ -12,14 +12,15 @@ use Rattle.ecma_looks.proofs.CoveredLemmas.{gathered_may_be_covered}
 use Rattle.ecma_reader.specs.Outputs.{error_tokens}
 use Rattle.ecma_faces.specs.Pieces.{piece_rows, pieces_by}
 use Rattle.ecma_faces.specs.Whole.{html_written, places_of, shown_head}
-use Rattle.ecma_report.specs.FaultLines.{has_fault, told_faults}
+use Rattle.ecma_report.specs.FaultLines.{OfUnmet, has_fault, told_faults}
 use Rattle.ecma_report.specs.Reports.{Adds, writes_errors}
 use Rattle.ecma_report.specs.Rows.{whole_text}
 use Rattle.ecma_report.specs.Runs.{read_to}
+use Rattle.ecma_report.specs.Unmet.{unmet_by, unmet_told}
 use Rattle.ecma_html.specs.Marked.{AreInOrder}
 use Rattle.ecma_faces.proofs.WholeLemmas.{places-in-order}
-use Rattle.ecma_faces.proofs.ReadLemmas.{comments-asked, kept-asked, pieces-asked, read-as-asked, recorded-asked, refusals-asked}
-use Rattle.ecma_report.proofs.FaultLemmas.{unmet-alone, unmet-as, unmet-first}
+use Rattle.ecma_faces.proofs.ReadLemmas.{comments-asked, kept-asked, pieces-asked, read-as-asked, recorded-asked, refusals-asked, rereads-asked}
+use Rattle.ecma_report.proofs.FaultLemmas.{unmet-alone, unmet-as, unmet-first, unmet-of}
 use Rattle.ecma_report.proofs.OrderLemmas.{fault-in-order}
 use Rattle.ecma_faces.proofs.FaultLemmas.{faults-read}
 use Rattle.ecma_report.proofs.ReportLemmas.{adds-on, keeps-faults, keeps-same, still-of}
@@ -145,9 +146,9 @@ returns g c = record {
       let by_place = subst (λ es. IsByPlace (all_of (map error_view read.refusals.items) own_recorded es) found) waiting c.in_ok-found.ensures in
       let told = subst (λ fs. after.faults.items ≡ unmet.faults.items ++ told_faults ask file bytes (map view fs)) c.deref.ensures.value (c.in_ok-tell_found.ensures.lines ask file bytes there) in
       let faulty = subst (λ fs. after.is_faulty ≡ (unmet.is_faulty || has_fault (map view fs))) c.deref.ensures.value c.in_ok-tell_found.ensures.faulty in
-      faults-read named ask file bytes s (map error_view read.refusals.items) own_recorded first first after last
-      (refusals-asked named ask bytes read is) recorded (keeps-same first) (keeps-faults after last c.in_ok-write_gathered.ensures.stays)
-      (unmet-first named ask file bytes (all_of (map error_view read.refusals.items) own_recorded []) found first unmet after by_place c.in_ok-tell_unmet.ensures.lines told faulty);
+      faults-read named ask file bytes _ _ s (map error_view read.refusals.items) own_recorded first first after last
+      (rereads-asked named ask bytes read is) (refusals-asked named ask bytes read is) recorded (keeps-same first) (keeps-faults after last c.in_ok-write_gathered.ensures.stays)
+      (unmet-first _ ask file bytes (all_of (map error_view read.refusals.items) own_recorded []) found first unmet after by_place (unmet-of named ask file bytes _ first unmet of c.in_ok-tell_unmet.ensures.lines) told faulty);
   unmet = λ ask file bytes of face.
       let first = c.args.report.now in
       let unmet = c.tell_unmet.new.report in
@@ -168,6 +169,7 @@ returns g c = record {
       ∙ ap (all_of (error_tokens s) s.errors.recorded) waiting in
       let told = subst (λ fs. after.is_faulty ≡ (unmet.is_faulty || has_fault (map view fs))) c.deref.ensures.value c.in_ok-tell_found.ensures.faulty in
       let faulty = told ∙ ap (λ b. unmet.is_faulty || b) (fault-in-order _ found c.in_ok-found.ensures ∙ ap has_fault all) in
-      unmet-as named _ _ first after last refl (keeps-faults after last c.in_ok-write_gathered.ensures.stays)
-      (unmet-alone named ask file bytes _ _ first unmet after face c.in_ok-tell_unmet.ensures.lines (c.in_ok-tell_found.ensures.lines ask file bytes there) faulty);
+      let lines = subst (λ n. OfUnmet (unmet_told named ask file bytes n) false first unmet) (rereads-asked named ask bytes read is) (unmet-of named ask file bytes _ first unmet of c.in_ok-tell_unmet.ensures.lines) in
+      unmet-as (unmet_by true named ask file bytes) _ _ first after last refl (keeps-faults after last c.in_ok-write_gathered.ensures.stays)
+      (unmet-alone _ ask file bytes _ _ first unmet after face lines (c.in_ok-tell_found.ensures.lines ask file bytes there) faulty);
 }

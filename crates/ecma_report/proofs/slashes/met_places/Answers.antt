@@ -1,7 +1,0 @@
-use Rattle.ecma_report.proofs.slashes.met_places.Goals as goal
-
-pub read_into-requires : goal.read_into-requires
-read_into-requires c = record { ready = c.tokens.invariant }
-
-pub tokens-preserved : goal.tokens-preserved
-tokens-preserved c = c.in_ok-read_into.ensures.ready c.if-branch.true
