@@ -1,5 +1,5 @@
 -- The next token behind a complete operand
-use Rattle.std.proofs.Common.{◌≡◌, ◌∙◌, ap, Bool, true, false, Some, None, refl, arith, if◌then◌else◌}
+use Rattle.std.proofs.Common.{Option, ◌≡◌, ◌∙◌, ap, Bool, true, false, Some, None, refl, arith, if◌then◌else◌}
 use Rattle.ecma_word.specs.declared.keyword.Keyword.{Keyword}
 use Rattle.ecma_word.specs.declared.keyword.Keyword.TheVariants as keyword
 use Rattle.ecma_word.specs.declared.known_ident.KnownIdent.{KnownIdent}
@@ -12,6 +12,7 @@ use Rattle.ecma_word.specs.declared.operator.BinOpToken.TheVariants as binary
 use Rattle.ecma_word.specs.declared.operator.AssignOp.{AssignOp}
 use Rattle.ecma_word.specs.declared.operator.AssignOp.TheVariants as assigning
 use Rattle.ecma_token_kind.specs.declared.kind.TokenKind.TheVariants as kind
+use Rattle.ecma_role_table.specs.declared.frame.FrameKind.{FrameKind}
 use Rattle.ecma_role_table.specs.declared.part.PartKind.{PartKind}
 use Rattle.ecma_role_table.specs.declared.part.PartKind.TheVariants.{Name, Reserved, Sign}
 use Rattle.ecma_role_table.specs.declared.part.Reserved as words
@@ -27,7 +28,7 @@ use Rattle.ecma_role_table.specs.declared.moves.Move.{Move}
 use Rattle.ecma_role_table.specs.declared.moves.Move.TheVariants.{To}
 use Rattle.ecma_role_table.specs.declared.moves.Change.TheVariants.{Nothing, Pop}
 use Rattle.ecma_role_table.specs.declared.moves.Turn.TheVariants.{Again, Done}
-use Rattle.ecma_role_table.specs.Frames.{over_declared_for}
+use Rattle.ecma_role_table.specs.Frames.{over_async_candidate, over_declared_for}
 use Rattle.ecma_role_table.specs.Parts.{part_of_keyword, part_of_known, part_of_word, sign_of_assign, sign_of_operator}
 use Rattle.ecma_role_table.specs.Table.{row}
 use Rattle.ecma_role_moves.specs.Moves.{brace, bracket, candidate_from, changed, colon, comma, landed, moved, paren, semi, turned_to}
@@ -233,11 +234,16 @@ is_operator sign.Minus = true
 is_operator sign.Operator = true
 is_operator s = false
 
+not-async : (o u : Option FrameKind) → candidate_from 0 o u ≡ None → over_async_candidate o ≡ false
+not-async o u lone = grind (arith, lone)
+
 after-operator : (n : Nested) (s : signs.Sign) (b : Bool) → is_operator s ≡ true → Settled n → candidate_from 0 (top n) (under n) ≡ None → stepped (at state.After n) (sign_part s b) ≡ at state.Operand n
 unfolding read_times read_once row moved changed
 after-operator n sign.Star b h settled lone = ap (at state.Operand) settled
 after-operator n sign.Minus b h settled lone = ap (at state.Operand) settled
-after-operator n sign.Assign b h settled lone = ap (at state.Operand) settled
+after-operator n sign.Assign b h settled lone =
+    let none = not-async (top n) (under n) lone in
+    rw none (rw settled (rw none refl))
 after-operator n sign.Operator b h settled lone = ap (at state.Operand) settled
 after-operator n sign.Lt b h settled lone = refl
 after-operator n sign.LShift b h settled lone = refl

@@ -16,7 +16,7 @@ use Rattle.ecma_role_table.specs.declared.moves.Turn.TheVariants.{Again}
 use Rattle.ecma_role_table.specs.Table.{row}
 use Rattle.ecma_role_moves.specs.Moves.{changed, fresh_of, moved, turned_to}
 use Rattle.ecma_role_moves.specs.Nest.{Nested, dropped, nested, top, under}
-use Rattle.ecma_role_tracks.specs.Track.{Reading, TrackView, ends_candidates, read_left, read_once, read_times, reading, stepped, track}
+use Rattle.ecma_role_tracks.specs.Track.{Reading, TrackView, ends_over, read_left, read_once, read_times, reading, stepped, track}
 use Rattle.ecma_role_grammar.specs.Tokens.{Token, part, token}
 use Rattle.ecma_role_grammar.specs.Grammar.{begins_anew, begins_anew_kind}
 use Rattle.ecma_role_grammar.proofs.Runs.{Run, begins_alike, is_slash, no_slash}
@@ -96,7 +96,7 @@ begun-anew n after k quiet = ap (λ m. turned_to (Again (fresh_of (top m)) k) m)
 after-once : (n after : Nested) (k : PartKind) → Quiet n after → is_anew k ≡ true → read_once (at state.After n) k true ≡ turned_to (Again state.Statement k) after
 unfolding read_once row
 after-once n after k quiet h =
-    ap (λ m. moved (after_operand k true false (top m) (under m)) k m) (either-same (ends_candidates true k) n quiet.settled)
+    ap (λ m. moved (after_operand k true false (top m) (under m)) k m) (either-same (ends_over (top n) true k) n quiet.settled)
     ∙ ap (λ m. moved m k n) (fresh-move k (top n) (under n) h quiet.no_loop quiet.no_declared quiet.no_class)
     ∙ begun-anew n after k quiet
 

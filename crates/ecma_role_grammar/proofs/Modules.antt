@@ -115,15 +115,38 @@ import-word n (Sign s) b h = absurd cc
 word-run : (n : Nested) (w : WordKind) (b : Bool) → Run (at state.Import n) (token (kind.Word w) b ∷ []) (at state.Import n)
 word-run n w b = one (no_slash (at state.Import n) (kind.Word w) refl) (import-word n (part_of_word w) b (word_word w))
 
-import-signs : (n : Nested) (b : Bool) → (stepped (at state.Import n) (part (token (kind.BinOp binary.Mul) b)) ≡ at state.Import n) × (stepped (at state.Import n) (part (token kind.Comma b)) ≡ at state.Import n) × (stepped (at state.Import n) (part (token kind.Str b)) ≡ at state.ImportEnd n) × (stepped (at state.Import n) (part (token kind.LBrace b)) ≡ at state.Clause (pushed frame.Clause n))
+import-signs : (n : Nested) (b : Bool) → (stepped (at state.Import n) (part (token (kind.BinOp binary.Mul) b)) ≡ at state.ImportAll n) × (stepped (at state.Import n) (part (token kind.Comma b)) ≡ at state.Import n) × (stepped (at state.Import n) (part (token kind.Str b)) ≡ at state.ImportEnd n) × (stepped (at state.Import n) (part (token kind.LBrace b)) ≡ at state.Clause (pushed frame.Clause n))
 unfolding read_times read_once row moved changed
 import-signs n b = (refl, refl, refl, refl)
 
 pub import_default_runs : (w : WordKind) (b : Bool) → ImportRuns (token (kind.Word w) b ∷ [])
 import_default_runs w b = record { begins = refl; runs = λ a before. record { pend = before; run = word-run (in_import a before) w b } }
 
+-- behind `*`
+all-rows : (n : Nested) (b : Bool) → (stepped (at state.ImportAll n) (part (as_word b)) ≡ at state.ImportAs n) × (stepped (at state.ImportAll n) (part (from b)) ≡ at state.Import n)
+unfolding read_times read_once row moved changed
+all-rows n b = (refl, refl)
+
+as-word : (n : Nested) (k : PartKind) (b : Bool) → is_word_part k ≡ true → (read_times 8 b (reading (at state.ImportAs n) (Some k))).track ≡ at state.Import n
+unfolding read_times read_once row moved changed
+as-word n (Name m) b h = refl
+as-word n (Reserved r) b h = refl
+as-word n (Sign s) b h = absurd cc
+
+as-text : (n : Nested) (b : Bool) → stepped (at state.ImportAs n) (part (token kind.Str b)) ≡ at state.Import n
+unfolding read_times read_once row moved changed
+as-text n b = refl
+
+as-name : (n : Nested) (k : TokenKind) (b : Bool) → is_export_name k ≡ true → Run (at state.ImportAs n) (token k b ∷ []) (at state.Import n)
+as-name n (kind.Word w) b h = one (no_slash (at state.ImportAs n) (kind.Word w) refl) (as-word n (part_of_word w) b (word_word w))
+as-name n kind.Str b h = one (no_slash (at state.ImportAs n) kind.Str refl) (as-text n b)
+as-name n k b h = absurd cc
+
+all-as : (n : Nested) (k : TokenKind) (c d : Bool) → is_export_name k ≡ true → Run (at state.ImportAll n) (as_word c ∷ token k d ∷ []) (at state.Import n)
+all-as n k c d h = goes (no_slash (at state.ImportAll n) (as_word c).kind refl) (all-rows n c).0 (as-name n k d h)
+
 star-as : (n : Nested) (w : WordKind) (b c d : Bool) → Run (at state.Import n) (token (kind.BinOp binary.Mul) b ∷ as_word c ∷ token (kind.Word w) d ∷ []) (at state.Import n)
-star-as n w b c d = goes (no_slash (at state.Import n) (kind.BinOp binary.Mul) refl) (import-signs n b).0 (joins (word-run n (word.Ident (ident.Known known.As)) c) (word-run n w d))
+star-as n w b c d = goes (no_slash (at state.Import n) (kind.BinOp binary.Mul) refl) (import-signs n b).0 (all-as n (kind.Word w) c d refl)
 
 pub import_namespace_runs : (w : WordKind) (b c d : Bool) → ImportRuns (token (kind.BinOp binary.Mul) b ∷ as_word c ∷ token (kind.Word w) d ∷ [])
 import_namespace_runs w b c d = record { begins = refl; runs = λ a before. record { pend = before; run = star-as (in_import a before) w b c d } }
@@ -187,6 +210,13 @@ from-run a pend ys b c same rest =
     let r = rest.runs a pend same in
     record { pend = r.pend; run = joins (word-run n (word.Ident (ident.Known known.From)) b) (goes (no_slash (at state.Import n) kind.Str refl) (import-signs n c).2 r.run) }
 
+-- the same behind `*`
+all-from-run : (a pend : Around) (ys : List Token) (b c : Bool) → IsModule a → EndRuns ys → TopEnds (at state.ImportAll (in_import a pend)) a (from b ∷ token kind.Str c ∷ ys)
+all-from-run a pend ys b c same rest =
+    let n = in_import a pend in
+    let r = rest.runs a pend same in
+    record { pend = r.pend; run = goes (no_slash (at state.ImportAll n) (from b).kind refl) (all-rows n b).1 (goes (no_slash (at state.Import n) kind.Str refl) (import-signs n c).2 r.run) }
+
 pub import_from_runs : (p : Parameters) (xs ys : List Token) (b c d : Bool) → ImportRuns xs → EndRuns ys → ModuleRuns p (reserved keyword.Import b ∷ (xs ++ from c ∷ token kind.Str d ∷ ys))
 import_from_runs p xs ys b c d clause rest = record {
   runs = λ before same.
@@ -220,22 +250,22 @@ exported p xs b inside = record {
       record { pend = r.pend; run = goes (no_slash (at state.Statement (at_top (around_of p) before)) (kind.Word (word.Keyword keyword.Export)) refl) (export-first (around_of p) before b same) r.run };
 }
 
-export-star : (a pend : Around) (b : Bool) → stepped (at state.Export (at_top a pend)) (part (token (kind.BinOp binary.Mul) b)) ≡ at state.Import (in_import a pend)
+export-star : (a pend : Around) (b : Bool) → stepped (at state.Export (at_top a pend)) (part (token (kind.BinOp binary.Mul) b)) ≡ at state.ImportAll (in_import a pend)
 unfolding read_times read_once row moved changed
 export-star a pend b = refl
 
 pub export_all_runs : (p : Parameters) (xs : List Token) (b c d f : Bool) → EndRuns xs → ModuleRuns p (reserved keyword.Export b ∷ token (kind.BinOp binary.Mul) c ∷ from d ∷ token kind.Str f ∷ xs)
 export_all_runs p xs b c d f rest = exported p (token (kind.BinOp binary.Mul) c ∷ from d ∷ token kind.Str f ∷ xs) b (λ before same.
     let a = around_of p in
-    let r = from-run a before xs d f same rest in
+    let r = all-from-run a before xs d f same rest in
     record { pend = r.pend; run = goes (no_slash (at state.Export (at_top a before)) (kind.BinOp binary.Mul) refl) (export-star a before c) r.run })
 
-pub export_all_as_runs : (p : Parameters) (xs : List Token) (w : WordKind) (b c d f g h : Bool) → EndRuns xs → ModuleRuns p (reserved keyword.Export b ∷ token (kind.BinOp binary.Mul) c ∷ as_word d ∷ token (kind.Word w) f ∷ from g ∷ token kind.Str h ∷ xs)
-export_all_as_runs p xs w b c d f g h rest = exported p (token (kind.BinOp binary.Mul) c ∷ as_word d ∷ token (kind.Word w) f ∷ from g ∷ token kind.Str h ∷ xs) b (λ before same.
+pub export_all_as_runs : (p : Parameters) (xs : List Token) (k : TokenKind) (b c d f g h : Bool) → is_export_name k ≡ true → EndRuns xs → ModuleRuns p (reserved keyword.Export b ∷ token (kind.BinOp binary.Mul) c ∷ as_word d ∷ token k f ∷ from g ∷ token kind.Str h ∷ xs)
+export_all_as_runs p xs k b c d f g h named rest = exported p (token (kind.BinOp binary.Mul) c ∷ as_word d ∷ token k f ∷ from g ∷ token kind.Str h ∷ xs) b (λ before same.
     let a = around_of p in
     let n = in_import a before in
     let r = from-run a before xs g h same rest in
-    record { pend = r.pend; run = goes (no_slash (at state.Export (at_top a before)) (kind.BinOp binary.Mul) refl) (export-star a before c) (joins (word-run n (word.Ident (ident.Known known.As)) d) (joins (word-run n w f) r.run)) })
+    record { pend = r.pend; run = goes (no_slash (at state.Export (at_top a before)) (kind.BinOp binary.Mul) refl) (export-star a before c) (joins (all-as n k d f named) r.run) })
 
 export-braces : (a pend : Around) (b : Bool) → (stepped (at state.Export (at_top a pend)) (part (token kind.LBrace b)) ≡ at state.Clause (pushed frame.Clause (in_export a pend))) × (stepped (at state.Clause (pushed frame.Clause (in_export a pend))) (part (token kind.RBrace b)) ≡ at state.ExportEnd (in_export a no_function)) × (stepped (at state.ExportEnd (in_export a no_function)) (part (token kind.Semi b)) ≡ at state.Statement (at_top a no_function)) × (stepped (at state.ExportEnd (in_export a no_function)) (part (from b)) ≡ at state.Import (in_import a no_function))
 unfolding read_times read_once row moved changed statements.statement dropped_from

@@ -367,7 +367,7 @@ runs n p xs (import_default_named {p = q} {xs = us} w a b h k) = modules.import_
 runs n p xs (import_from {p = q} {xs = us} {ys = vs} a b c k j) = modules.import_from_runs q us vs a b c (runs ImportClause q us k) (runs ModuleEnd q vs j)
 runs n p xs (import_module {p = q} {xs = us} a b k) = modules.import_module_runs q us a b (runs ModuleEnd q us k)
 runs n p xs (export_all {p = q} {xs = us} a b c d k) = modules.export_all_runs q us a b c d (runs ModuleEnd q us k)
-runs n p xs (export_all_as {p = q} {xs = us} w a b c d f g k) = modules.export_all_as_runs q us w a b c d f g (runs ModuleEnd q us k)
+runs n p xs (export_all_as {p = q} {xs = us} name a b c d f g h k) = modules.export_all_as_runs q us name a b c d f g h (runs ModuleEnd q us k)
 runs n p xs (export_from {p = q} {xs = us} {ys = vs} a b c k j) = modules.export_from_runs q us vs a b c (runs NamedSpecifiers q us k) (runs ModuleEnd q vs j)
 runs n p xs (export_named {p = q} {xs = us} a b k) = modules.export_named_runs q us a b (runs NamedSpecifiers q us k)
 runs n p xs (export_variables {p = q} {xs = us} a b c k) = modules.export_declaration_runs q (reserved keyword.Var b ∷ (us ++ token kind.Semi c ∷ [])) a refl (declarations.variables_run q us keyword.Var b c refl (runs VariableDeclarationList (with_in q) us k))

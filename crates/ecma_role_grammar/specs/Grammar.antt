@@ -590,7 +590,7 @@ pub data Derives : Nonterminal → Parameters → List Token → Type 0 where
   import_module : {p : Parameters} {xs : List Token} (a b : Bool) → Derives ModuleEnd p xs → Derives ModuleItem p (reserved keyword.Import a ∷ token kind.Str b ∷ xs)
   -- ExportDeclaration (16.2.3)
   export_all : {p : Parameters} {xs : List Token} (a b c d : Bool) → Derives ModuleEnd p xs → Derives ModuleItem p (reserved keyword.Export a ∷ token (kind.BinOp binary.Mul) b ∷ from c ∷ token kind.Str d ∷ xs)
-  export_all_as : {p : Parameters} {xs : List Token} (name : WordKind) (a b c d f g : Bool) → Derives ModuleEnd p xs → Derives ModuleItem p (reserved keyword.Export a ∷ token (kind.BinOp binary.Mul) b ∷ as_word c ∷ token (kind.Word name) d ∷ from f ∷ token kind.Str g ∷ xs)
+  export_all_as : {p : Parameters} {xs : List Token} (name : TokenKind) (a b c d f g : Bool) → is_export_name name ≡ true → Derives ModuleEnd p xs → Derives ModuleItem p (reserved keyword.Export a ∷ token (kind.BinOp binary.Mul) b ∷ as_word c ∷ token name d ∷ from f ∷ token kind.Str g ∷ xs)
   export_from : {p : Parameters} {xs ys : List Token} (a b c : Bool) → Derives NamedSpecifiers p xs → Derives ModuleEnd p ys → Derives ModuleItem p (reserved keyword.Export a ∷ (xs ++ from b ∷ token kind.Str c ∷ ys))
   export_named : {p : Parameters} {xs : List Token} (a b : Bool) → Derives NamedSpecifiers p xs → Derives ModuleItem p (reserved keyword.Export a ∷ (xs ++ token kind.Semi b ∷ []))
   export_variables : {p : Parameters} {xs : List Token} (a b c : Bool) → Derives VariableDeclarationList (with_in p) xs → Derives ModuleItem p (reserved keyword.Export a ∷ reserved keyword.Var b ∷ (xs ++ token kind.Semi c ∷ []))

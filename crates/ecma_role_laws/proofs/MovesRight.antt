@@ -19,7 +19,7 @@ use Rattle.ecma_role_table.specs.declared.moves.Grouping.{Grouping}
 use Rattle.ecma_role_table.specs.declared.moves.Grouping.TheVariants as grouping
 use Rattle.ecma_role_table.specs.declared.moves.Move.{Move}
 use Rattle.ecma_role_table.specs.declared.moves.Move.TheVariants as move
-use Rattle.ecma_role_table.specs.Frames.{is_of, is_template}
+use Rattle.ecma_role_table.specs.Frames.{is_of, is_template, over_parameters_candidate}
 use Rattle.ecma_role_moves.specs.Moves.{Landed, angle, angle_over, annotated, back_of, behind_annotation, behind_brace, behind_candidate, behind_comma, behind_method, behind_no_class, body_of, brace_over, bracket_over, by_head, by_mark, candidate_behind, candidate_from, candidate_in_object, changed, class_body_of, colon_in, colon_over, colon_plain, colon_waits, comma_in, decorated_of, decorating, equals_behind, fresh_of, greater_at, is_waiting, landed, last_candidate, moved, next_candidate, operand_for_key, operand_for_member, paren_over, semi_at, type_angles, without_arrow, word_turned}
 use Rattle.ecma_role_moves.specs.Nest.{Nested, dropped, kind_at, kind_in, no_function, outside, pending, popped, popped_from, popped_times, top, turned, turned_frames, under}
 use Rattle.ecma_role_laws.specs.Brackets.{Bracket, Enclosed, Parentheses, Squares, Braces, Template, bracket_of, enclosed, enclosing, in_text}
@@ -177,7 +177,11 @@ next-soft nest i j before is k within =
 
 behind-soft : (nest : Nested) (at : Option ℕ) (i : ℕ) → ((j : ℕ) → at ≡ Some j → SoftTo nest j) → candidate_behind nest at ≡ Some i → SoftTo nest i
 behind-soft nest None i soft is = absurd cc
-behind-soft nest (Some j) i soft is = next-soft nest (j + 1) i (λ k within. soft j refl k (omega (arith, within))) is
+behind-soft nest (Some j) i soft is = around-soft (over_parameters_candidate (kind_at j nest)) (soft j refl) is
+  where
+    around-soft : (b : Bool) → SoftTo nest j → (if b then None else next_candidate nest (j + 1)) ≡ Some i → SoftTo nest i
+    around-soft true within is = absurd cc
+    around-soft false within is = next-soft nest (j + 1) i (λ k before. within k (omega (arith, before))) is
 
 last-soft : (a : Angles) (nest : Nested) (i : ℕ) → last_candidate a nest ≡ Some i → SoftTo nest i
 last-soft angles.One nest i is = next-soft nest 0 i (λ k within. absurd (omega (arith, within))) is
@@ -200,6 +204,7 @@ angle-kept (Some frame.ParametersAngle) l is = popped_kept l.nest.frames l.nest.
 angle-kept (Some frame.OperandAngle) l is = popped_kept l.nest.frames l.nest.around l.nest.pending (rw is refl)
 angle-kept (Some frame.HeadAngle) l is = popped_kept l.nest.frames l.nest.around l.nest.pending (rw is refl)
 angle-kept (Some frame.ArgumentsAngle) l is = popped_kept l.nest.frames l.nest.around l.nest.pending (rw is refl)
+angle-kept (Some frame.AsyncAngle) l is = popped_kept l.nest.frames l.nest.around l.nest.pending (rw is refl)
 angle-kept (Some frame.Candidate) l is = popped_kept l.nest.frames l.nest.around l.nest.pending (rw is refl)
 angle-kept over l is = refl
 

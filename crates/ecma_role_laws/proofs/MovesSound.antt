@@ -149,6 +149,7 @@ angle-sound (Some frame.ParametersAngle) l is sound = closed_sound frame.Paramet
 angle-sound (Some frame.OperandAngle) l is sound = closed_sound frame.OperandAngle l.nest (λ o. state.Operand) is sound.0 (λ o m. refl)
 angle-sound (Some frame.HeadAngle) l is sound = closed_sound frame.HeadAngle l.nest back_of is sound.0 (λ o m. back-meets o)
 angle-sound (Some frame.ArgumentsAngle) l is sound = closed_sound frame.ArgumentsAngle l.nest (λ o. state.TypeArguments) is sound.0 (λ o m. refl)
+angle-sound (Some frame.AsyncAngle) l is sound = closed_sound frame.AsyncAngle l.nest (λ o. state.AsyncTypeArguments) is sound.0 (λ o m. refl)
 angle-sound (Some frame.Candidate) l is sound = closed_sound frame.Candidate l.nest (λ o. state.TypeArguments) is sound.0 (λ o m. refl)
 angle-sound over l is sound = sound
 

@@ -68,6 +68,12 @@ right-behind_import kind top met = grind (arith, met)
 right-import_names : (kind : PartKind) (top : Option FrameKind) → meets (need state.Import) top ≡ true → is_fit state.Import kind top (modules.import_names kind) ≡ true
 right-import_names kind top met = grind (arith, met)
 
+right-behind_import_all : (kind : PartKind) (top : Option FrameKind) → meets (need state.ImportAll) top ≡ true → is_fit state.ImportAll kind top (modules.behind_import_all kind) ≡ true
+right-behind_import_all kind top met = grind (arith, met)
+
+right-behind_import_as : (kind : PartKind) (top : Option FrameKind) → meets (need state.ImportAs) top ≡ true → is_fit state.ImportAs kind top (modules.behind_import_as kind) ≡ true
+right-behind_import_as kind top met = grind (arith, met)
+
 right-behind_module_name : (kind : PartKind) (had_line_break : Bool) (top : Option FrameKind) → meets (need state.ImportEnd) top ≡ true → is_fit state.ImportEnd kind top (modules.behind_module_name kind had_line_break) ≡ true
 right-behind_module_name kind had_line_break top met = grind (arith, met)
 
@@ -118,6 +124,9 @@ right-behind_key_comma kind top met = grind (arith, met)
 
 right-behind_key_comma_name : (kind : PartKind) (top : Option FrameKind) → meets (need state.KeyCommaName) top ≡ true → is_fit state.KeyCommaName kind top (members.behind_key_comma_name kind) ≡ true
 right-behind_key_comma_name kind top met = grind (arith, met)
+
+right-behind_key_comma_parameter : (kind : PartKind) (top : Option FrameKind) → meets (need state.KeyCommaParameter) top ≡ true → is_fit state.KeyCommaParameter kind top (members.behind_key_comma_parameter kind) ≡ true
+right-behind_key_comma_parameter kind top met = grind (arith, met)
 
 right-alias_head : (kind : PartKind) (top : Option FrameKind) → meets (need state.AliasHead) top ≡ true → is_fit state.AliasHead kind top (members.alias_head kind) ≡ true
 right-alias_head kind top met = grind (arith, met)
@@ -174,11 +183,17 @@ right-behind_async_as kind top met = grind (arith, met)
 right-behind_async_name : (kind : PartKind) (top : Option FrameKind) → meets (need state.AsyncParameter) top ≡ true → is_fit state.AsyncParameter kind top (complete.behind_async_name kind) ≡ true
 right-behind_async_name kind top met = grind (arith, met)
 
+right-type_parameter : (kind : PartKind) (top : Option FrameKind) → meets (need state.TypeParameter) top ≡ true → is_fit state.TypeParameter kind top (complete.type_parameter kind top) ≡ true
+right-type_parameter kind top met = grind (arith, met)
+
 right-behind_async_type_arguments : (kind : PartKind) (top : Option FrameKind) → meets (need state.AsyncTypeArguments) top ≡ true → is_fit state.AsyncTypeArguments kind top (complete.behind_async_type_arguments kind) ≡ true
 right-behind_async_type_arguments kind top met = grind (arith, met)
 
 right-behind_type_arguments : (kind : PartKind) (had_line_break : Bool) (top : Option FrameKind) → meets (need state.TypeArguments) top ≡ true → is_fit state.TypeArguments kind top (complete.behind_type_arguments kind had_line_break top) ≡ true
 right-behind_type_arguments kind had_line_break top met = grind (arith, met)
+
+right-behind_function_type_arguments : (kind : PartKind) (top : Option FrameKind) → meets (need state.FunctionTypeArguments) top ≡ true → is_fit state.FunctionTypeArguments kind top (complete.behind_function_type_arguments kind) ≡ true
+right-behind_function_type_arguments kind top met = grind (arith, met)
 
 right-import_expression : (kind : PartKind) (top : Option FrameKind) → meets (need state.ImportExpression) top ≡ true → is_fit state.ImportExpression kind top (complete.import_expression kind) ≡ true
 right-import_expression kind top met = grind (arith, met)
@@ -238,6 +253,8 @@ row_right state.AfterBinding kind seen met = right-behind_binding kind seen.had_
 row_right state.Label kind seen met = right-behind_first_name kind seen.top met
 row_right state.ImportStart kind seen met = right-behind_import kind seen.top met
 row_right state.Import kind seen met = right-import_names kind seen.top met
+row_right state.ImportAll kind seen met = right-behind_import_all kind seen.top met
+row_right state.ImportAs kind seen met = right-behind_import_as kind seen.top met
 row_right state.ImportEnd kind seen met = right-behind_module_name kind seen.had_line_break seen.top met
 row_right state.ImportWith kind seen met = right-behind_import_with kind seen.top met
 row_right state.ImportEquals kind seen met = right-behind_import_equals kind seen.top met
@@ -255,6 +272,7 @@ row_right state.Key kind seen met = right-key kind seen.method seen.top met
 row_right state.KeyAsync kind seen met = right-behind_key_async kind seen.top met
 row_right state.KeyComma kind seen met = right-behind_key_comma kind seen.top met
 row_right state.KeyCommaName kind seen met = right-behind_key_comma_name kind seen.top met
+row_right state.KeyCommaParameter kind seen met = right-behind_key_comma_parameter kind seen.top met
 row_right state.AliasHead kind seen met = right-alias_head kind seen.top met
 row_right state.InterfaceHead kind seen met = right-interface_head kind seen.top met
 row_right state.Decorator kind seen met = right-decorator kind seen.top met
@@ -273,8 +291,10 @@ row_right state.Async kind seen met = right-behind_async kind seen.had_line_brea
 row_right state.AsyncStatement kind seen met = right-behind_async_statement kind seen.had_line_break seen.typescript seen.top met
 row_right state.AsyncAs kind seen met = right-behind_async_as kind seen.top met
 row_right state.AsyncParameter kind seen met = right-behind_async_name kind seen.top met
+row_right state.TypeParameter kind seen met = right-type_parameter kind seen.top met
 row_right state.AsyncTypeArguments kind seen met = right-behind_async_type_arguments kind seen.top met
 row_right state.TypeArguments kind seen met = right-behind_type_arguments kind seen.had_line_break seen.top met
+row_right state.FunctionTypeArguments kind seen met = right-behind_function_type_arguments kind seen.top met
 row_right state.ImportExpression kind seen met = right-import_expression kind seen.top met
 row_right state.Property kind seen met = right-behind_dot kind seen.top met
 row_right state.OptionalProperty kind seen met = right-behind_optional_dot kind seen.top met

@@ -15,7 +15,7 @@ use Rattle.ecma_role_table.specs.declared.moves.Turn.TheVariants.{Again, Done}
 use Rattle.ecma_role_table.specs.Table.{row}
 use Rattle.ecma_role_moves.specs.Moves.{moved}
 use Rattle.ecma_role_moves.specs.Nest.{Nested, dropped, top, turned}
-use Rattle.ecma_role_tracks.specs.Track.{Reading, TrackView, behind_pattern, ends_candidates, first, pattern_over, read_left, read_on, read_once, read_times, reading, readied, seen, stepped}
+use Rattle.ecma_role_tracks.specs.Track.{Reading, TrackView, behind_pattern, ends_over, first, pattern_over, read_left, read_on, read_once, read_times, reading, readied, seen, stepped}
 use Rattle.ecma_role_tracks.proofs.RankLemmas.{rank_small, read_out_by_rank}
 use Rattle.ecma_role_laws.specs.Brackets.{Enclosed, enclosing}
 use Rattle.ecma_role_laws.proofs.Right.{is_code, is_fit, is_right, is_safe, meets, need}
@@ -55,7 +55,7 @@ over-ready (Some frame.OuterPattern) kind nest is ch = pattern-ready kind nest i
 over-ready over kind nest is ch = (ch, refl)
 
 readied-ready : (s : State) (kind : PartKind) (had_line_break : Bool) (nest : Nested) → chained nest.frames ≡ true → Ready (readied s kind had_line_break nest) nest
-readied-ready state.After kind had_line_break nest ch = ready-after (ends_candidates had_line_break kind) nest ch
+readied-ready state.After kind had_line_break nest ch = ready-after (ends_over (top nest) had_line_break kind) nest ch
 readied-ready state.TypeBrackets kind had_line_break nest ch = over-ready (top nest) kind nest refl ch
 readied-ready s kind had_line_break nest ch = (ch, refl)
 

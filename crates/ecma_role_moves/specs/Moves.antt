@@ -18,7 +18,7 @@ use Rattle.ecma_role_table.specs.declared.moves.Move.{Move}
 use Rattle.ecma_role_table.specs.declared.moves.Move.TheVariants as move
 use Rattle.ecma_role_table.specs.declared.moves.Turn.{Turn}
 use Rattle.ecma_role_table.specs.declared.moves.Turn.TheVariants.{Again, Done}
-use Rattle.ecma_role_table.specs.Frames.{is_template, over_candidate}
+use Rattle.ecma_role_table.specs.Frames.{is_template, over_candidate, over_parameters_candidate}
 use Rattle.ecma_role_moves.specs.Nest.{Nested, dropped, function, gains_async, gains_generator, async_function, kind_at, loses_async, module_code, no_function, pending, popped, popped_times, pushed, top, turned, under, within}
 
 -- what a move leaves
@@ -155,6 +155,7 @@ in_type (Some frame.ParametersAngle) = true
 in_type (Some frame.OperandAngle) = true
 in_type (Some frame.HeadAngle) = true
 in_type (Some frame.ArgumentsAngle) = true
+in_type (Some frame.AsyncAngle) = true
 in_type (Some frame.Interface) = true
 in_type over = false
 
@@ -284,6 +285,7 @@ behind_comma (Some frame.Object) = state.Key
 behind_comma (Some frame.Enum) = state.Key
 behind_comma (Some frame.ClassHead) = state.ClassHead
 behind_comma (Some frame.ClassExpressionHead) = state.ClassHead
+behind_comma (Some frame.AsyncCandidate) = state.TypeParameter
 behind_comma over = state.Operand
 
 abbrev pub comma_in : Nested → Landed
@@ -344,15 +346,20 @@ colon grouping nest = colon_in grouping (dropped kinds.Candidates nest)
 abbrev pub candidate_from : ℕ → Option FrameKind → Option FrameKind → Option ℕ
 candidate_from i (Some frame.Candidate) around = Some i
 candidate_from i (Some frame.AsyncCandidate) around = Some i
+candidate_from i (Some frame.ParametersCandidate) around = Some i
 candidate_from i (Some frame.Arrow) around = if over_candidate around then Some (i + 1) else None
 candidate_from i over around = None
 
 abbrev pub next_candidate : Nested → ℕ → Option ℕ
 next_candidate nest i = candidate_from i (kind_at i nest) (kind_at (i + 1) nest)
 
+-- the type parameters of a function type are closed by themselves, since its parameters come next
+abbrev pub candidate_around : Nested → ℕ → Option FrameKind → Option ℕ
+candidate_around nest i over = if over_parameters_candidate over then None else next_candidate nest (i + 1)
+
 abbrev pub candidate_behind : Nested → Option ℕ → Option ℕ
 candidate_behind nest None = None
-candidate_behind nest (Some i) = next_candidate nest (i + 1)
+candidate_behind nest (Some i) = candidate_around nest i (kind_at i nest)
 
 abbrev pub last_candidate : Angles → Nested → Option ℕ
 last_candidate angles.One nest = next_candidate nest 0
@@ -361,6 +368,7 @@ last_candidate angles.Three nest = candidate_behind nest (candidate_behind nest 
 
 abbrev pub behind_candidate : Option FrameKind → State
 behind_candidate (Some frame.AsyncCandidate) = state.AsyncTypeArguments
+behind_candidate (Some frame.ParametersCandidate) = state.FunctionTypeArguments
 behind_candidate over = state.TypeArguments
 
 abbrev pub greater_at : Nested → Option ℕ → Landed
@@ -378,6 +386,7 @@ angle_over (Some frame.ParametersAngle) l = landed state.TypeOperand (popped l.n
 angle_over (Some frame.OperandAngle) l = landed state.Operand (popped l.nest)
 angle_over (Some frame.HeadAngle) l = landed (back_of (top (popped l.nest))) (popped l.nest)
 angle_over (Some frame.ArgumentsAngle) l = landed state.TypeArguments (popped l.nest)
+angle_over (Some frame.AsyncAngle) l = landed state.AsyncTypeArguments (popped l.nest)
 angle_over (Some frame.Candidate) l = landed state.TypeArguments (popped l.nest)
 angle_over over l = l
 

@@ -11,7 +11,7 @@ use crate::inside::{
     is_object, is_waiting,
 };
 use crate::nest::Nest;
-use ecma_role_table::frame::{Around, FrameKind, Kinds, over_candidate};
+use ecma_role_table::frame::{Around, FrameKind, Kinds, over_candidate, over_parameters_candidate};
 use ecma_role_table::moves::{Angles, Grouping};
 use ecma_role_table::state::State;
 
@@ -327,7 +327,8 @@ fn next_candidate(nest: &Nest, index: usize) -> Option<usize>
     ensures near { IfSome result (λ i. i ≤ index + 1) }
 {
     match nest.kind_at(index) {
-        Some(FrameKind::Candidate | FrameKind::AsyncCandidate) => Some(index),
+        Some(FrameKind::Candidate | FrameKind::AsyncCandidate | FrameKind::ParametersCandidate) =>
+            Some(index),
         Some(FrameKind::Arrow) => {
             if over_candidate(nest.kind_at(index + 1)) {
                 Some(index + 1)
@@ -336,6 +337,20 @@ fn next_candidate(nest: &Nest, index: usize) -> Option<usize>
             }
         }
         _ => None,
+    }
+}
+
+/// The place of the next `<` around the one at this place; the type parameters of a function type are closed by themselves, since
+/// its parameters come next.
+fn candidate_around(nest: &Nest, index: usize) -> Option<usize>
+    requires { index < 99 }
+    ensures value { result ≡ moves.candidate_around nest.now.nest index (nests.kind_at index nest.now.nest) }
+    ensures near { IfSome result (λ i. i ≤ index + 2) }
+{
+    if over_parameters_candidate(nest.kind_at(index)) {
+        None
+    } else {
+        next_candidate(nest, index + 1)
     }
 }
 
@@ -348,11 +363,11 @@ fn last_candidate(nest: &Nest, angles: Angles) -> Option<usize>
     if let Angles::One = angles {
         return Some(first);
     }
-    let second = next_candidate(nest, first + 1)?;
+    let second = candidate_around(nest, first)?;
     if let Angles::Two = angles {
         return Some(second);
     }
-    next_candidate(nest, second + 1)
+    candidate_around(nest, second)
 }
 
 /// Right angle brackets behind an operand.
@@ -387,6 +402,7 @@ fn close_angle(nest: &mut Nest, state: State) -> State
         Some(FrameKind::ArgumentsAngle | FrameKind::Candidate) => {
             pop_to(nest, State::TypeArguments)
         }
+        Some(FrameKind::AsyncAngle) => pop_to(nest, State::AsyncTypeArguments),
         _ => state,
     }
 }

@@ -71,6 +71,7 @@ pub(crate) fn in_type(over: Option<FrameKind>) -> bool
                 | FrameKind::OperandAngle
                 | FrameKind::HeadAngle
                 | FrameKind::ArgumentsAngle
+                | FrameKind::AsyncAngle
                 | FrameKind::Interface
         )
     )
@@ -102,6 +103,7 @@ pub(crate) fn behind_comma(over: Option<FrameKind>) -> State
         Some(FrameKind::Declaration) => State::Binding,
         Some(FrameKind::Object | FrameKind::Enum) => State::Key,
         Some(FrameKind::ClassHead | FrameKind::ClassExpressionHead) => State::ClassHead,
+        Some(FrameKind::AsyncCandidate) => State::TypeParameter,
         _ => State::Operand,
     }
 }
@@ -119,6 +121,7 @@ pub(crate) fn behind_candidate(over: Option<FrameKind>) -> State
 {
     match over {
         Some(FrameKind::AsyncCandidate) => State::AsyncTypeArguments,
+        Some(FrameKind::ParametersCandidate) => State::FunctionTypeArguments,
         _ => State::TypeArguments,
     }
 }

@@ -9,17 +9,37 @@ use Rattle.ecma_role_table.specs.declared.part.Reserved.TheVariants as reserved
 use Rattle.ecma_role_table.specs.declared.part.Sign.TheVariants as sign
 use Rattle.ecma_role_table.specs.declared.frame.FrameKind.{FrameKind}
 use Rattle.ecma_role_table.specs.declared.frame.FrameKind.TheVariants as frame
+use Rattle.ecma_role_table.specs.declared.state.State.{State}
 use Rattle.ecma_role_table.specs.declared.state.State.TheVariants as state
 use Rattle.ecma_role_table.specs.declared.moves.Move.{Move}
 use Rattle.ecma_role_table.specs.declared.moves.Move.TheVariants.{Again, Brace, Bracket, ClassBody, Colon, Comma, Fresh, FreshBrace, FreshOperand, Greater, Paren, Semi, To}
-use Rattle.ecma_role_table.specs.declared.moves.Change.TheVariants.{Arrow, DropCandidates, Enter, Nothing, Pop, Push, Turn}
+use Rattle.ecma_role_table.specs.declared.moves.Change.{Change}
+use Rattle.ecma_role_table.specs.declared.moves.Change.TheVariants.{Arrow, DropCandidates, Enter, Nothing, Pop, Push, PushTwo, Turn}
 use Rattle.ecma_role_table.specs.declared.moves.Grouping.TheVariants as grouping
 use Rattle.ecma_role_table.specs.declared.moves.Angles.TheVariants as angles
-use Rattle.ecma_role_table.specs.Frames.{in_arguments, over_class_head, over_declared_for, over_for}
+use Rattle.ecma_role_table.specs.Frames.{in_arguments, over_async_candidate, over_class_head, over_declared_for, over_for}
 
 -- a word behind an operand: in what may be type arguments one more operand, else something new
 abbrev pub after_word : Bool → Option FrameKind → Option FrameKind → Move
 after_word had_line_break top under = if had_line_break then Fresh else if in_arguments top under then Again state.Operand Nothing else Fresh
+
+-- `<` behind an operand of TypeScript: less than or type arguments; behind a heritage no comparison can stand
+abbrev pub after_less : Option FrameKind → Move
+after_less top = if over_class_head top then To state.TypeBrackets (Push frame.ArgumentsAngle) else To state.Operand (Push frame.Candidate)
+
+-- `<<` there: a shift, or type arguments that begin with a function type
+abbrev pub after_shift : Option FrameKind → Move
+after_shift top = if over_class_head top then To state.TypeBrackets (PushTwo frame.ArgumentsAngle frame.InnerAngle) else To state.Operand (PushTwo frame.Candidate frame.ParametersCandidate)
+
+-- `=` behind an operand: behind `async <` a type parameter has a default, since no comparison is assigned to
+abbrev pub equals_state : Option FrameKind → State
+equals_state top = if over_async_candidate top then state.TypeBrackets else state.Operand
+
+abbrev pub equals_change : Option FrameKind → Change
+equals_change top = if over_async_candidate top then Turn frame.AsyncAngle else Nothing
+
+abbrev pub after_equals : Option FrameKind → Move
+after_equals top = To (equals_state top) (equals_change top)
 
 -- a sign behind an operand
 abbrev pub after_sign : signs.Sign → Bool → Bool → Option FrameKind → Move
@@ -43,7 +63,9 @@ after_sign sign.Hash had_line_break typescript top = Fresh
 after_sign sign.Literal had_line_break typescript top = Fresh
 after_sign sign.Regex had_line_break typescript top = Fresh
 after_sign sign.BackQuote had_line_break typescript top = To state.Quasi (Push frame.Template)
-after_sign sign.Lt had_line_break typescript top = if typescript then To state.Operand (Push frame.Candidate) else To state.Operand Nothing
+after_sign sign.Lt had_line_break typescript top = if typescript then after_less top else To state.Operand Nothing
+after_sign sign.LShift had_line_break typescript top = if typescript then after_shift top else To state.Operand Nothing
+after_sign sign.Assign had_line_break typescript top = after_equals top
 after_sign sign.Gt had_line_break typescript top = Greater angles.One
 after_sign sign.RShift had_line_break typescript top = Greater angles.Two
 after_sign sign.ZeroFillRShift had_line_break typescript top = Greater angles.Three
@@ -60,9 +82,12 @@ after_name name.Satisfies had_line_break top under = if had_line_break then afte
 after_name name.Implements had_line_break top under = if over_class_head top then To state.ClassHead Nothing else after_word had_line_break top under
 after_name _ had_line_break top under = after_word had_line_break top under
 
--- `extends` behind an operand: what may be type arguments are some, in a conditional type; else it is of a class (ECMA-262, 15.7)
+-- `extends` behind an operand: what may be type arguments are some, in a conditional type or before a constraint; else it is of a
+-- class (ECMA-262, 15.7)
 abbrev pub after_extends : Option FrameKind → Move
 after_extends (Some frame.Candidate) = To state.TypeBrackets (Turn frame.ArgumentsAngle)
+after_extends (Some frame.AsyncCandidate) = To state.TypeBrackets (Turn frame.AsyncAngle)
+after_extends (Some frame.ParametersCandidate) = To state.TypeBrackets (Turn frame.InnerAngle)
 after_extends top = To state.Operand Nothing
 
 -- an operand is complete (ECMA-262, 12.1: the goal symbols that take a division)
@@ -77,6 +102,7 @@ after_operand (Sign s) had_line_break typescript top under = after_sign s had_li
 -- behind a postfix operator or an asserted type, where no type arguments stand
 abbrev pub after_postfix : PartKind → Move
 after_postfix (Sign sign.Lt) = To state.Operand Nothing
+after_postfix (Sign sign.LShift) = To state.Operand Nothing
 after_postfix kind = Again state.After Nothing
 
 -- behind parentheses: a group or the parameters of an arrow function (ECMA-262, 15.3)
@@ -108,7 +134,7 @@ behind_async (Name name.As) had_line_break typescript = if had_line_break then A
 behind_async (Name name.Satisfies) had_line_break typescript = if had_line_break then Again state.After Nothing else To state.AsyncAs Nothing
 behind_async (Name n) had_line_break typescript = if had_line_break then Again state.After Nothing else To state.AsyncParameter Nothing
 behind_async (Sign sign.LParen) had_line_break typescript = To state.Operand (Push frame.AsyncParen)
-behind_async (Sign sign.Lt) had_line_break typescript = if typescript then To state.Operand (Push frame.AsyncCandidate) else Again state.After Nothing
+behind_async (Sign sign.Lt) had_line_break typescript = if typescript then To state.TypeParameter (Push frame.AsyncCandidate) else Again state.After Nothing
 behind_async kind had_line_break typescript = Again state.After Nothing
 
 -- behind `async` where a statement begins (ECMA-262, 15.8, 15.9)
@@ -118,7 +144,7 @@ behind_async_statement (Name name.As) had_line_break typescript = if had_line_br
 behind_async_statement (Name name.Satisfies) had_line_break typescript = if had_line_break then Again state.Label Nothing else To state.AsyncAs Nothing
 behind_async_statement (Name n) had_line_break typescript = if had_line_break then Again state.Label Nothing else To state.AsyncParameter Nothing
 behind_async_statement (Sign sign.LParen) had_line_break typescript = To state.Operand (Push frame.AsyncParen)
-behind_async_statement (Sign sign.Lt) had_line_break typescript = if typescript then To state.Operand (Push frame.AsyncCandidate) else Again state.Label Nothing
+behind_async_statement (Sign sign.Lt) had_line_break typescript = if typescript then To state.TypeParameter (Push frame.AsyncCandidate) else Again state.Label Nothing
 behind_async_statement kind had_line_break typescript = Again state.Label Nothing
 
 -- behind `async as`: a parameter, or a type that is asserted
@@ -130,6 +156,11 @@ behind_async_as kind = Again state.TypeOperand (Push frame.Assertion)
 abbrev pub behind_async_name : PartKind → Move
 behind_async_name (Sign sign.Arrow) = To state.ArrowBody (Arrow true)
 behind_async_name kind = Again state.After Nothing
+
+-- behind `async <`, or behind a comma there: `const` is a modifier of a type parameter alone
+abbrev pub type_parameter : PartKind → Option FrameKind → Move
+type_parameter (Reserved reserved.Declare) top = if over_async_candidate top then To state.TypeBrackets (Turn frame.AsyncAngle) else Again state.Operand Nothing
+type_parameter kind top = Again state.Operand Nothing
 
 -- behind `async` and what may be type parameters
 abbrev pub behind_async_type_arguments : PartKind → Move
@@ -155,6 +186,12 @@ behind_type_arguments (Sign sign.Tilde) had_line_break top = if had_line_break t
 behind_type_arguments (Sign sign.Hash) had_line_break top = if had_line_break then Again state.After Nothing else Again state.Operand Nothing
 behind_type_arguments (Sign sign.LBrace) had_line_break top = if had_line_break then Again state.After Nothing else if over_class_head top then Again state.After Nothing else Again state.Operand Nothing
 behind_type_arguments kind had_line_break top = Again state.After Nothing
+
+-- behind what may be the type parameters of a function type with which type arguments begin: its parameters, else an operand, since
+-- it was a shift and a comparison
+abbrev pub behind_function_type_arguments : PartKind → Move
+behind_function_type_arguments (Sign sign.LParen) = To state.Operand (Push frame.Call)
+behind_function_type_arguments kind = Again state.Operand DropCandidates
 
 -- behind `import` in an expression (ECMA-262, 13.3.10, 13.3.12)
 abbrev pub import_expression : PartKind → Move

@@ -25,7 +25,16 @@ over_class_head top = false
 abbrev pub over_candidate : Option FrameKind → Bool
 over_candidate (Some frame.Candidate) = true
 over_candidate (Some frame.AsyncCandidate) = true
+over_candidate (Some frame.ParametersCandidate) = true
 over_candidate top = false
+
+abbrev pub over_async_candidate : Option FrameKind → Bool
+over_async_candidate (Some frame.AsyncCandidate) = true
+over_async_candidate top = false
+
+abbrev pub over_parameters_candidate : Option FrameKind → Bool
+over_parameters_candidate (Some frame.ParametersCandidate) = true
+over_parameters_candidate top = false
 
 -- right in what may be type arguments, or in the type that a function type there returns
 abbrev pub in_arguments : Option FrameKind → Option FrameKind → Bool
@@ -48,6 +57,7 @@ is_mark frame.Arrow = true
 is_mark frame.Declaration = true
 is_mark frame.Candidate = true
 is_mark frame.AsyncCandidate = true
+is_mark frame.ParametersCandidate = true
 is_mark frame.FunctionHead = true
 is_mark frame.FunctionExpressionHead = true
 is_mark frame.MethodHead = true
@@ -77,6 +87,7 @@ is_angle frame.ParametersAngle = true
 is_angle frame.OperandAngle = true
 is_angle frame.HeadAngle = true
 is_angle frame.ArgumentsAngle = true
+is_angle frame.AsyncAngle = true
 is_angle kind = false
 
 -- a right brace ends it, or what is in it

@@ -10,7 +10,7 @@ use Rattle.ecma_role_table.specs.declared.frame.FrameKind.TheVariants as frame
 use Rattle.ecma_role_table.specs.declared.state.State.TheVariants as state
 use Rattle.ecma_role_table.specs.declared.moves.Move.{Move}
 use Rattle.ecma_role_table.specs.declared.moves.Move.TheVariants.{Again, Body, Brace, Bracket, ClassBody, NoBody, NoClassBody, NoDecorator, Paren, To}
-use Rattle.ecma_role_table.specs.declared.moves.Change.TheVariants.{ClearPending, DropCandidates, DropCandidatesClear, Generator, LoseAsync, Method, Nothing, PendAsync, PendGenerator, PendNameAsync, Pop, Push, Static, Turn}
+use Rattle.ecma_role_table.specs.declared.moves.Change.TheVariants.{ClearPending, DropCandidates, DropCandidatesClear, Generator, LoseAsync, Method, Nothing, PendAsync, PendGenerator, PendNameAsync, Pop, Push, PushTwo, Static, Turn}
 
 -- the head of a function or method, up to its parameters (ECMA-262, 15.2)
 abbrev pub function_head : PartKind → Move
@@ -32,6 +32,7 @@ function_head_end kind = NoBody
 abbrev pub class_head : PartKind → Move
 class_head (Sign sign.LBrace) = ClassBody
 class_head (Sign sign.Lt) = To state.TypeBrackets (Push frame.HeadAngle)
+class_head (Sign sign.LShift) = To state.TypeBrackets (PushTwo frame.HeadAngle frame.InnerAngle)
 class_head (Reserved reserved.Extends) = To state.Operand Nothing
 class_head (Name n) = To state.ClassHead Nothing
 class_head (Reserved r) = To state.ClassHead Nothing
@@ -107,12 +108,13 @@ behind_key_comma (Reserved reserved.New) = Again state.Operand Nothing
 behind_key_comma (Reserved reserved.Import) = Again state.Operand Nothing
 behind_key_comma (Reserved reserved.Void) = Again state.Operand Nothing
 behind_key_comma (Name name.Async) = To state.KeyCommaName PendNameAsync
-behind_key_comma (Name n) = To state.KeyCommaName ClearPending
-behind_key_comma (Reserved r) = To state.KeyCommaName ClearPending
+behind_key_comma (Name name.Accessor) = To state.KeyCommaName ClearPending
+behind_key_comma (Name n) = To state.KeyCommaParameter ClearPending
+behind_key_comma (Reserved r) = To state.KeyCommaParameter ClearPending
 behind_key_comma (Sign sign.Star) = Again state.Key DropCandidates
 behind_key_comma kind = Again state.Operand Nothing
 
--- behind a word there
+-- behind a word there that a method's name may follow
 abbrev pub behind_key_comma_name : PartKind → Move
 behind_key_comma_name (Sign sign.LParen) = Again state.Key DropCandidatesClear
 behind_key_comma_name (Sign sign.Colon) = Again state.Key DropCandidatesClear
@@ -120,6 +122,15 @@ behind_key_comma_name (Sign sign.Star) = Again state.Key DropCandidates
 behind_key_comma_name (Name n) = Again state.Key DropCandidates
 behind_key_comma_name (Reserved r) = Again state.Key DropCandidates
 behind_key_comma_name kind = Again state.After ClearPending
+
+-- behind another word there: a key, or a type parameter, before whose name a modifier may stand
+abbrev pub behind_key_comma_parameter : PartKind → Move
+behind_key_comma_parameter (Sign sign.LParen) = Again state.Key DropCandidatesClear
+behind_key_comma_parameter (Sign sign.Colon) = Again state.Key DropCandidatesClear
+behind_key_comma_parameter (Reserved reserved.Extends) = Again state.After ClearPending
+behind_key_comma_parameter (Name n) = Again state.Operand ClearPending
+behind_key_comma_parameter (Reserved r) = Again state.Operand ClearPending
+behind_key_comma_parameter kind = Again state.After ClearPending
 
 -- the head of an alias of a type
 abbrev pub alias_head : PartKind → Move
@@ -132,6 +143,7 @@ alias_head kind = Again state.Statement Pop
 -- the head of an interface
 abbrev pub interface_head : PartKind → Move
 interface_head (Sign sign.Lt) = To state.TypeBrackets (Push frame.HeadAngle)
+interface_head (Sign sign.LShift) = To state.TypeBrackets (PushTwo frame.HeadAngle frame.InnerAngle)
 interface_head (Sign sign.LBrace) = To state.TypeBrackets (Turn frame.Interface)
 interface_head (Name n) = To state.InterfaceHead Nothing
 interface_head (Reserved r) = To state.InterfaceHead Nothing
@@ -154,5 +166,6 @@ behind_decorator (Sign sign.Dot) had_line_break = To state.Decorator Nothing
 behind_decorator (Sign sign.QuestionMark) had_line_break = To state.Decorator Nothing
 behind_decorator (Sign sign.LParen) had_line_break = To state.Operand (Push frame.Call)
 behind_decorator (Sign sign.Lt) had_line_break = To state.TypeBrackets (Push frame.HeadAngle)
+behind_decorator (Sign sign.LShift) had_line_break = To state.TypeBrackets (PushTwo frame.HeadAngle frame.InnerAngle)
 behind_decorator (Sign sign.Bang) had_line_break = if had_line_break then NoDecorator else To state.AfterDecorator Nothing
 behind_decorator kind had_line_break = NoDecorator

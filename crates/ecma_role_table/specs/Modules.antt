@@ -25,8 +25,20 @@ import_names (Sign sign.Assign) = To state.ImportEquals Nothing
 import_names (Name n) = To state.Import Nothing
 import_names (Reserved r) = To state.Import Nothing
 import_names (Sign sign.Comma) = To state.Import Nothing
-import_names (Sign sign.Star) = To state.Import Nothing
+import_names (Sign sign.Star) = To state.ImportAll Nothing
 import_names kind = Again state.Statement Pop
+
+-- behind the `*` of an import or export (ECMA-262, 16.2.2, 16.2.3)
+abbrev pub behind_import_all : PartKind → Move
+behind_import_all (Name name.As) = To state.ImportAs Nothing
+behind_import_all kind = Again state.Import Nothing
+
+-- behind `* as`: a name, of an export also a string (ECMA-262, 16.2.2, 16.2.3)
+abbrev pub behind_import_as : PartKind → Move
+behind_import_as (Name n) = To state.Import Nothing
+behind_import_as (Reserved r) = To state.Import Nothing
+behind_import_as (Sign sign.Literal) = To state.Import Nothing
+behind_import_as kind = Again state.Import Nothing
 
 -- behind the name of a module (ECMA-262, 16.2.2)
 abbrev pub behind_module_name : PartKind → Bool → Move
@@ -56,7 +68,7 @@ abbrev pub behind_export : PartKind → Move
 behind_export (Reserved reserved.Default) = To state.ExportDefault Nothing
 behind_export (Name name.TypeWord) = To state.ExportType Nothing
 behind_export (Sign sign.LBrace) = To state.Clause (PushTwo frame.ExportHead frame.Clause)
-behind_export (Sign sign.Star) = To state.Import (Push frame.ImportHead)
+behind_export (Sign sign.Star) = To state.ImportAll (Push frame.ImportHead)
 behind_export (Sign sign.Assign) = To state.Operand Nothing
 behind_export kind = Again state.Statement Nothing
 

@@ -2,7 +2,9 @@
 ghost use Rattle.std.specs.Prelude.{◌≡◌};
 ghost use Rattle.ecma_role_table.specs.Complete as rows;
 
-use crate::frame::{FrameKind, in_arguments, over_class_head, over_declared_for, over_for};
+use crate::frame::{
+    FrameKind, in_arguments, over_async_candidate, over_class_head, over_declared_for, over_for,
+};
 use crate::moves::{Angles, Change, Grouping, Move};
 use crate::part::{Name, PartKind, Reserved, Sign};
 use crate::state::State;
@@ -17,6 +19,46 @@ fn after_word(had_line_break: bool, top: Option<FrameKind>, under: Option<FrameK
         Move::Again(State::Operand, Change::Nothing)
     } else {
         Move::Fresh
+    }
+}
+
+/// `<` behind an operand of TypeScript: less than or type arguments; behind a heritage no comparison can stand.
+fn after_less(top: Option<FrameKind>) -> Move
+    ensures { result ≡ rows.after_less top }
+{
+    if over_class_head(top) {
+        Move::To(State::TypeBrackets, Change::Push(FrameKind::ArgumentsAngle))
+    } else {
+        Move::To(State::Operand, Change::Push(FrameKind::Candidate))
+    }
+}
+
+/// `<<` behind an operand of TypeScript: a shift, or type arguments that begin with a function type; behind a heritage no shift
+/// can stand.
+fn after_shift(top: Option<FrameKind>) -> Move
+    ensures { result ≡ rows.after_shift top }
+{
+    if over_class_head(top) {
+        Move::To(
+            State::TypeBrackets,
+            Change::PushTwo(FrameKind::ArgumentsAngle, FrameKind::InnerAngle),
+        )
+    } else {
+        Move::To(
+            State::Operand,
+            Change::PushTwo(FrameKind::Candidate, FrameKind::ParametersCandidate),
+        )
+    }
+}
+
+/// `=` behind an operand: behind `async <` a type parameter has a default, since no comparison is assigned to.
+fn after_equals(top: Option<FrameKind>) -> Move
+    ensures { result ≡ rows.after_equals top }
+{
+    if over_async_candidate(top) {
+        Move::To(State::TypeBrackets, Change::Turn(FrameKind::AsyncAngle))
+    } else {
+        Move::To(State::Operand, Change::Nothing)
     }
 }
 
@@ -43,7 +85,9 @@ fn after_sign(sign: Sign, had_line_break: bool, typescript: bool, top: Option<Fr
         Sign::Bang => Move::To(State::After, Change::Nothing),
         Sign::Tilde | Sign::At | Sign::Hash | Sign::Literal | Sign::Regex => Move::Fresh,
         Sign::BackQuote => Move::To(State::Quasi, Change::Push(FrameKind::Template)),
-        Sign::Lt if typescript => Move::To(State::Operand, Change::Push(FrameKind::Candidate)),
+        Sign::Lt if typescript => after_less(top),
+        Sign::LShift if typescript => after_shift(top),
+        Sign::Assign => after_equals(top),
         Sign::Gt => Move::Greater(Angles::One),
         Sign::RShift => Move::Greater(Angles::Two),
         Sign::ZeroFillRShift => Move::Greater(Angles::Three),
@@ -81,13 +125,20 @@ fn after_name(
     }
 }
 
-/// `extends` behind an operand: what may be type arguments are some, in a conditional type; else it is of a class (ECMA-262, 15.7).
+/// `extends` behind an operand: what may be type arguments are some, in a conditional type or before a constraint; else it is of a
+/// class (ECMA-262, 15.7).
 fn after_extends(top: Option<FrameKind>) -> Move
     ensures { result ≡ rows.after_extends top }
 {
     match top {
         Some(FrameKind::Candidate) => {
             Move::To(State::TypeBrackets, Change::Turn(FrameKind::ArgumentsAngle))
+        }
+        Some(FrameKind::AsyncCandidate) => {
+            Move::To(State::TypeBrackets, Change::Turn(FrameKind::AsyncAngle))
+        }
+        Some(FrameKind::ParametersCandidate) => {
+            Move::To(State::TypeBrackets, Change::Turn(FrameKind::InnerAngle))
         }
         _ => Move::To(State::Operand, Change::Nothing),
     }
@@ -124,7 +175,7 @@ pub fn after_postfix(kind: PartKind) -> Move
     ensures { result ≡ rows.after_postfix kind }
 {
     match kind {
-        PartKind::Sign(Sign::Lt) => Move::To(State::Operand, Change::Nothing),
+        PartKind::Sign(Sign::Lt | Sign::LShift) => Move::To(State::Operand, Change::Nothing),
         _ => Move::Again(State::After, Change::Nothing),
     }
 }
@@ -186,7 +237,10 @@ pub fn behind_async(kind: PartKind, had_line_break: bool, typescript: bool) -> M
             Move::To(State::Operand, Change::Push(FrameKind::AsyncParen))
         }
         PartKind::Sign(Sign::Lt) if typescript => {
-            Move::To(State::Operand, Change::Push(FrameKind::AsyncCandidate))
+            Move::To(
+                State::TypeParameter,
+                Change::Push(FrameKind::AsyncCandidate),
+            )
         }
         _ if had_line_break => Move::Again(State::After, Change::Nothing),
         PartKind::Reserved(Reserved::Function) => {
@@ -210,7 +264,10 @@ pub fn behind_async_statement(kind: PartKind, had_line_break: bool, typescript: 
             Move::To(State::Operand, Change::Push(FrameKind::AsyncParen))
         }
         PartKind::Sign(Sign::Lt) if typescript => {
-            Move::To(State::Operand, Change::Push(FrameKind::AsyncCandidate))
+            Move::To(
+                State::TypeParameter,
+                Change::Push(FrameKind::AsyncCandidate),
+            )
         }
         _ if had_line_break => Move::Again(State::Label, Change::Nothing),
         PartKind::Reserved(Reserved::Function) => {
@@ -239,6 +296,19 @@ pub fn behind_async_name(kind: PartKind) -> Move
     match kind {
         PartKind::Sign(Sign::Arrow) => Move::To(State::ArrowBody, Change::Arrow(true)),
         _ => Move::Again(State::After, Change::Nothing),
+    }
+}
+
+/// Behind `async <`, or behind a comma there: `const` is a modifier of a type parameter alone.
+pub fn type_parameter(kind: PartKind, top: Option<FrameKind>) -> Move
+    ensures { result ≡ rows.type_parameter kind top }
+{
+    match kind {
+        PartKind::Reserved(Reserved::Declare) if over_async_candidate(top) => Move::To(
+            State::TypeBrackets,
+            Change::Turn(FrameKind::AsyncAngle),
+        ),
+        _ => Move::Again(State::Operand, Change::Nothing),
     }
 }
 
@@ -285,6 +355,17 @@ pub fn behind_type_arguments(kind: PartKind, had_line_break: bool, top: Option<F
             | Sign::Hash,
         ) => Move::Again(State::Operand, Change::Nothing),
         _ => Move::Again(State::After, Change::Nothing),
+    }
+}
+
+/// Behind what may be the type parameters of a function type with which type arguments begin: its parameters, else an operand,
+/// since it was a shift and a comparison.
+pub fn behind_function_type_arguments(kind: PartKind) -> Move
+    ensures { result ≡ rows.behind_function_type_arguments kind }
+{
+    match kind {
+        PartKind::Sign(Sign::LParen) => Move::To(State::Operand, Change::Push(FrameKind::Call)),
+        _ => Move::Again(State::Operand, Change::DropCandidates),
     }
 }
 

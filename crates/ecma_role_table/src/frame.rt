@@ -87,8 +87,10 @@ pub enum FrameKind {
     OperandAngle,
     /// `<` in a head.
     HeadAngle,
-    /// `<` of type arguments behind an operand, in which there is a conditional type.
+    /// `<` of type arguments behind an operand, where no comparison can stand.
     ArgumentsAngle,
+    /// `<` of type parameters behind `async`, where no comparison can stand.
+    AsyncAngle,
     /// Braces: the body of an interface.
     Interface,
     /// Mark: `?` that waits for its colon.
@@ -103,6 +105,8 @@ pub enum FrameKind {
     Candidate,
     /// Mark: `<` behind `async`.
     AsyncCandidate,
+    /// Mark: the second `<` of `<<` behind an operand: a shift, or the parameters of a function type.
+    ParametersCandidate,
     /// Mark: the head of a function declaration.
     FunctionHead,
     /// Mark: the head of a function expression.
@@ -189,7 +193,24 @@ pub fn over_class_head(top: Option<FrameKind>) -> bool
 pub fn over_candidate(top: Option<FrameKind>) -> bool
     ensures { result ≡ frames.over_candidate top }
 {
-    matches!(top, Some(FrameKind::Candidate | FrameKind::AsyncCandidate))
+    matches!(
+        top,
+        Some(FrameKind::Candidate | FrameKind::AsyncCandidate | FrameKind::ParametersCandidate)
+    )
+}
+
+/// Whether `<` that may have begun the type parameters of an async arrow function is right around.
+pub fn over_async_candidate(top: Option<FrameKind>) -> bool
+    ensures { result ≡ frames.over_async_candidate top }
+{
+    matches!(top, Some(FrameKind::AsyncCandidate))
+}
+
+/// Whether `<` that may have begun the parameters of a function type is right around.
+pub fn over_parameters_candidate(top: Option<FrameKind>) -> bool
+    ensures { result ≡ frames.over_parameters_candidate top }
+{
+    matches!(top, Some(FrameKind::ParametersCandidate))
 }
 
 /// Whether the place is right in what may be type arguments, or in the type that a function type there returns.
@@ -245,6 +266,7 @@ impl FrameKind {
                 | FrameKind::Declaration
                 | FrameKind::Candidate
                 | FrameKind::AsyncCandidate
+                | FrameKind::ParametersCandidate
                 | FrameKind::FunctionHead
                 | FrameKind::FunctionExpressionHead
                 | FrameKind::MethodHead
@@ -279,6 +301,7 @@ impl FrameKind {
                 | FrameKind::OperandAngle
                 | FrameKind::HeadAngle
                 | FrameKind::ArgumentsAngle
+                | FrameKind::AsyncAngle
         )
     }
 

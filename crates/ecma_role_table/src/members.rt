@@ -51,6 +51,10 @@ pub fn class_head(kind: PartKind) -> Move
             State::TypeBrackets,
             Change::Push(FrameKind::HeadAngle),
         ),
+        PartKind::Sign(Sign::LShift) => Move::To(
+            State::TypeBrackets,
+            Change::PushTwo(FrameKind::HeadAngle, FrameKind::InnerAngle),
+        ),
         PartKind::Reserved(Reserved::Extends) => Move::To(State::Operand, Change::Nothing),
         PartKind::Name(_) | PartKind::Reserved(_) => Move::To(State::ClassHead, Change::Nothing),
         PartKind::Sign(Sign::Comma | Sign::Dot) => Move::To(State::ClassHead, Change::Nothing),
@@ -182,8 +186,9 @@ pub fn behind_key_comma(kind: PartKind) -> Move
         PartKind::Reserved(Reserved::Typeof | Reserved::New | Reserved::Import | Reserved::Void) =>
             Move::Again(State::Operand, Change::Nothing),
         PartKind::Name(Name::Async) => Move::To(State::KeyCommaName, Change::PendNameAsync),
+        PartKind::Name(Name::Accessor) => Move::To(State::KeyCommaName, Change::ClearPending),
         PartKind::Name(_) | PartKind::Reserved(_) => Move::To(
-            State::KeyCommaName,
+            State::KeyCommaParameter,
             Change::ClearPending,
         ),
         PartKind::Sign(Sign::Star) => Move::Again(State::Key, Change::DropCandidates),
@@ -191,7 +196,7 @@ pub fn behind_key_comma(kind: PartKind) -> Move
     }
 }
 
-/// Behind a word there.
+/// Behind a word there that a method's name may follow.
 pub fn behind_key_comma_name(kind: PartKind) -> Move
     ensures { result ≡ rows.behind_key_comma_name kind }
 {
@@ -205,6 +210,23 @@ pub fn behind_key_comma_name(kind: PartKind) -> Move
             Change::DropCandidates,
         ),
         PartKind::Sign(Sign::Star) => Move::Again(State::Key, Change::DropCandidates),
+        _ => Move::Again(State::After, Change::ClearPending),
+    }
+}
+
+/// Behind another word there: a key, or a type parameter, before whose name a modifier may stand.
+pub fn behind_key_comma_parameter(kind: PartKind) -> Move
+    ensures { result ≡ rows.behind_key_comma_parameter kind }
+{
+    match kind {
+        PartKind::Sign(Sign::LParen | Sign::Colon) => Move::Again(
+            State::Key,
+            Change::DropCandidatesClear,
+        ),
+        PartKind::Reserved(Reserved::Extends) => Move::Again(State::After, Change::ClearPending),
+        PartKind::Name(_) | PartKind::Reserved(_) => {
+            Move::Again(State::Operand, Change::ClearPending)
+        }
         _ => Move::Again(State::After, Change::ClearPending),
     }
 }
@@ -235,6 +257,10 @@ pub fn interface_head(kind: PartKind) -> Move
         PartKind::Sign(Sign::Lt) => Move::To(
             State::TypeBrackets,
             Change::Push(FrameKind::HeadAngle),
+        ),
+        PartKind::Sign(Sign::LShift) => Move::To(
+            State::TypeBrackets,
+            Change::PushTwo(FrameKind::HeadAngle, FrameKind::InnerAngle),
         ),
         PartKind::Sign(Sign::LBrace) => Move::To(
             State::TypeBrackets,
@@ -280,6 +306,10 @@ pub fn behind_decorator(kind: PartKind, had_line_break: bool) -> Move
         PartKind::Sign(Sign::Lt) => Move::To(
             State::TypeBrackets,
             Change::Push(FrameKind::HeadAngle),
+        ),
+        PartKind::Sign(Sign::LShift) => Move::To(
+            State::TypeBrackets,
+            Change::PushTwo(FrameKind::HeadAngle, FrameKind::InnerAngle),
         ),
         PartKind::Sign(Sign::Bang) => {
             if had_line_break {

@@ -25,9 +25,31 @@ pub fn import_names(kind: PartKind) -> Move
         PartKind::Sign(Sign::Literal) => Move::To(State::ImportEnd, Change::Nothing),
         PartKind::Sign(Sign::LBrace) => Move::To(State::Clause, Change::Push(FrameKind::Clause)),
         PartKind::Sign(Sign::Assign) => Move::To(State::ImportEquals, Change::Nothing),
+        PartKind::Sign(Sign::Star) => Move::To(State::ImportAll, Change::Nothing),
         PartKind::Name(_) | PartKind::Reserved(_) => Move::To(State::Import, Change::Nothing),
-        PartKind::Sign(Sign::Comma | Sign::Star) => Move::To(State::Import, Change::Nothing),
+        PartKind::Sign(Sign::Comma) => Move::To(State::Import, Change::Nothing),
         _ => Move::Again(State::Statement, Change::Pop),
+    }
+}
+
+/// Behind the `*` of an import or export (ECMA-262, 16.2.2, 16.2.3).
+pub fn behind_import_all(kind: PartKind) -> Move
+    ensures { result ≡ rows.behind_import_all kind }
+{
+    match kind {
+        PartKind::Name(Name::As) => Move::To(State::ImportAs, Change::Nothing),
+        _ => Move::Again(State::Import, Change::Nothing),
+    }
+}
+
+/// Behind `* as`: a name, of an export also a string (ECMA-262, 16.2.2, 16.2.3).
+pub fn behind_import_as(kind: PartKind) -> Move
+    ensures { result ≡ rows.behind_import_as kind }
+{
+    match kind {
+        PartKind::Name(_) | PartKind::Reserved(_) => Move::To(State::Import, Change::Nothing),
+        PartKind::Sign(Sign::Literal) => Move::To(State::Import, Change::Nothing),
+        _ => Move::Again(State::Import, Change::Nothing),
     }
 }
 
@@ -93,7 +115,10 @@ pub fn behind_export(kind: PartKind) -> Move
             State::Clause,
             Change::PushTwo(FrameKind::ExportHead, FrameKind::Clause),
         ),
-        PartKind::Sign(Sign::Star) => Move::To(State::Import, Change::Push(FrameKind::ImportHead)),
+        PartKind::Sign(Sign::Star) => Move::To(
+            State::ImportAll,
+            Change::Push(FrameKind::ImportHead),
+        ),
         PartKind::Sign(Sign::Assign) => Move::To(State::Operand, Change::Nothing),
         _ => Move::Again(State::Statement, Change::Nothing),
     }

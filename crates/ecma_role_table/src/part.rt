@@ -23,6 +23,8 @@ pub enum Name {
     Is,
     From,
     Assert,
+    /// `get` or `set`
+    Accessor,
     /// `keyof`, `readonly`, `unique` or `infer`.
     TypeOperator,
     /// The name of a type that TypeScript has by itself, as `string`.
@@ -183,6 +185,7 @@ fn part_of_known(known: KnownIdent) -> PartKind
         KnownIdent::Is => PartKind::Name(Name::Is),
         KnownIdent::From => PartKind::Name(Name::From),
         KnownIdent::Assert => PartKind::Name(Name::Assert),
+        KnownIdent::Get | KnownIdent::Set => PartKind::Name(Name::Accessor),
         KnownIdent::Keyof | KnownIdent::Readonly | KnownIdent::Unique | KnownIdent::Infer => {
             PartKind::Name(Name::TypeOperator)
         }

@@ -46,6 +46,10 @@ pub enum State {
     ImportStart,
     /// What is imported.
     Import,
+    /// Behind `*` there.
+    ImportAll,
+    /// Behind `* as` there.
+    ImportAs,
     /// Behind the name of a module.
     ImportEnd,
     /// Behind `with` of an import.
@@ -78,8 +82,10 @@ pub enum State {
     KeyAsync,
     /// Behind a comma in an object, where `<` may have begun type arguments.
     KeyComma,
-    /// Behind a word there.
+    /// Behind a word there that a method's name may follow.
     KeyCommaName,
+    /// Behind another word there, which may be a type parameter.
+    KeyCommaParameter,
     /// In the head of an alias of a type.
     AliasHead,
     /// In the head of an interface.
@@ -108,10 +114,14 @@ pub enum State {
     AsyncAs,
     /// Behind `async` and a name.
     AsyncParameter,
+    /// Behind `async <`, or behind a comma there: a type parameter or an operand.
+    TypeParameter,
     /// Behind `async` and what may be type parameters.
     AsyncTypeArguments,
     /// Behind what may be type arguments.
     TypeArguments,
+    /// Behind what may be the type parameters of a function type with which type arguments begin.
+    FunctionTypeArguments,
     /// Behind `import` in an expression.
     ImportExpression,
     /// Behind a dot.

@@ -70,6 +70,7 @@ low-angle (Some frame.ParametersAngle) l low = omega arith
 low-angle (Some frame.OperandAngle) l low = grind arith
 low-angle (Some frame.HeadAngle) l low = low-back (top (popped l.nest))
 low-angle (Some frame.ArgumentsAngle) l low = grind arith
+low-angle (Some frame.AsyncAngle) l low = grind arith
 low-angle (Some frame.Candidate) l low = grind arith
 low-angle (Some k) l low = grind (arith, low)
 

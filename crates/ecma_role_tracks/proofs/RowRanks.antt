@@ -69,6 +69,12 @@ low-behind_import kind = grind arith
 low-import_names : (kind : PartKind) → height (modules.import_names kind) kind ≤ rank state.Import kind
 low-import_names kind = grind arith
 
+low-behind_import_all : (kind : PartKind) → height (modules.behind_import_all kind) kind ≤ rank state.ImportAll kind
+low-behind_import_all kind = grind arith
+
+low-behind_import_as : (kind : PartKind) → height (modules.behind_import_as kind) kind ≤ rank state.ImportAs kind
+low-behind_import_as kind = grind arith
+
 low-behind_module_name : (kind : PartKind) (had_line_break : Bool) → height (modules.behind_module_name kind had_line_break) kind ≤ rank state.ImportEnd kind
 low-behind_module_name kind had_line_break = grind arith
 
@@ -121,6 +127,9 @@ low-behind_key_comma kind = grind arith
 
 low-behind_key_comma_name : (kind : PartKind) → height (members.behind_key_comma_name kind) kind ≤ rank state.KeyCommaName kind
 low-behind_key_comma_name kind = grind arith
+
+low-behind_key_comma_parameter : (kind : PartKind) → height (members.behind_key_comma_parameter kind) kind ≤ rank state.KeyCommaParameter kind
+low-behind_key_comma_parameter kind = grind arith
 
 low-alias_head : (kind : PartKind) → height (members.alias_head kind) kind ≤ rank state.AliasHead kind
 low-alias_head kind = grind arith
@@ -178,6 +187,9 @@ low-behind_async_as kind = grind arith
 low-behind_async_name : (kind : PartKind) → height (complete.behind_async_name kind) kind ≤ rank state.AsyncParameter kind
 low-behind_async_name kind = grind arith
 
+low-type_parameter : (kind : PartKind) (top : Option FrameKind) → height (complete.type_parameter kind top) kind ≤ rank state.TypeParameter kind
+low-type_parameter kind top = grind arith
+
 low-behind_async_type_arguments : (kind : PartKind) → height (complete.behind_async_type_arguments kind) kind ≤ rank state.AsyncTypeArguments kind
 low-behind_async_type_arguments kind = grind arith
 
@@ -185,6 +197,9 @@ low-behind_type_arguments : (kind : PartKind) (had_line_break : Bool) (top : Opt
 low-behind_type_arguments (Name n) had_line_break top = grind arith
 low-behind_type_arguments (Reserved r) had_line_break top = grind arith
 low-behind_type_arguments (Sign s) had_line_break top = grind arith
+
+low-behind_function_type_arguments : (kind : PartKind) → height (complete.behind_function_type_arguments kind) kind ≤ rank state.FunctionTypeArguments kind
+low-behind_function_type_arguments kind = grind arith
 
 low-import_expression : (kind : PartKind) → height (complete.import_expression kind) kind ≤ rank state.ImportExpression kind
 low-import_expression kind = grind arith
@@ -244,6 +259,8 @@ row_low state.AfterBinding kind seen = low-behind_binding kind seen.had_line_bre
 row_low state.Label kind seen = low-behind_first_name kind
 row_low state.ImportStart kind seen = low-behind_import kind
 row_low state.Import kind seen = low-import_names kind
+row_low state.ImportAll kind seen = low-behind_import_all kind
+row_low state.ImportAs kind seen = low-behind_import_as kind
 row_low state.ImportEnd kind seen = low-behind_module_name kind seen.had_line_break
 row_low state.ImportWith kind seen = low-behind_import_with kind
 row_low state.ImportEquals kind seen = low-behind_import_equals kind
@@ -261,6 +278,7 @@ row_low state.Key kind seen = low-key kind seen.method
 row_low state.KeyAsync kind seen = low-behind_key_async kind
 row_low state.KeyComma kind seen = low-behind_key_comma kind
 row_low state.KeyCommaName kind seen = low-behind_key_comma_name kind
+row_low state.KeyCommaParameter kind seen = low-behind_key_comma_parameter kind
 row_low state.AliasHead kind seen = low-alias_head kind
 row_low state.InterfaceHead kind seen = low-interface_head kind
 row_low state.Decorator kind seen = low-decorator kind
@@ -279,8 +297,10 @@ row_low state.Async kind seen = low-behind_async kind seen.had_line_break seen.t
 row_low state.AsyncStatement kind seen = low-behind_async_statement kind seen.had_line_break seen.typescript
 row_low state.AsyncAs kind seen = low-behind_async_as kind
 row_low state.AsyncParameter kind seen = low-behind_async_name kind
+row_low state.TypeParameter kind seen = low-type_parameter kind seen.top
 row_low state.AsyncTypeArguments kind seen = low-behind_async_type_arguments kind
 row_low state.TypeArguments kind seen = low-behind_type_arguments kind seen.had_line_break seen.top
+row_low state.FunctionTypeArguments kind seen = low-behind_function_type_arguments kind
 row_low state.ImportExpression kind seen = low-import_expression kind
 row_low state.Property kind seen = low-behind_dot kind
 row_low state.OptionalProperty kind seen = low-behind_optional_dot kind

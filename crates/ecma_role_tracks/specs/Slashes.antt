@@ -38,6 +38,7 @@ takes_none state.MemberAsync = true
 takes_none state.Key = true
 takes_none state.KeyAsync = true
 takes_none state.KeyCommaName = true
+takes_none state.KeyCommaParameter = true
 takes_none state.AfterDecorator = true
 takes_none state.Quasi = true
 takes_none state.TypeParen = true

@@ -1,5 +1,5 @@
 -- A track of tokens: what is expected behind them, and how one more changes that
-use Rattle.std.specs.Prelude.{ℕ, zero, suc, ◌≡◌, ◌++◌, Bool, true, false, List, [], Option, Some, None, if◌then◌else◌}
+use Rattle.std.specs.Prelude.{ℕ, zero, suc, ◌≡◌, ◌++◌, Bool, true, false, ◌&&◌, List, [], Option, Some, None, if◌then◌else◌}
 use Rattle.std.specs.List.{fold}
 use Rattle.ecma_role_table.specs.declared.part.Part.{Part}
 use Rattle.ecma_role_table.specs.declared.part.PartKind.{PartKind}
@@ -15,6 +15,7 @@ use Rattle.ecma_role_table.specs.declared.state.State.TheVariants as state
 use Rattle.ecma_role_table.specs.declared.moves.Turn.{Turn}
 use Rattle.ecma_role_table.specs.declared.moves.Turn.TheVariants.{Again, Done}
 use Rattle.ecma_role_table.specs.declared.table.Seen.{Seen}
+use Rattle.ecma_role_table.specs.Frames.{over_async_candidate}
 use Rattle.ecma_role_moves.specs.Moves.{Turned, moved}
 use Rattle.ecma_role_moves.specs.Nest.{Nested, nested, dropped, function, top, turned, under}
 use Rattle.ecma_role_table.specs.Table.{row}
@@ -38,6 +39,7 @@ ends_candidates had_line_break (Name name.Satisfies) = true
 ends_candidates had_line_break (Name n) = had_line_break
 ends_candidates had_line_break (Reserved reserved.In) = true
 ends_candidates had_line_break (Reserved reserved.InstanceOf) = true
+ends_candidates had_line_break (Reserved reserved.Extends) = false
 ends_candidates had_line_break (Reserved r) = had_line_break
 ends_candidates had_line_break (Sign sign.Star) = true
 ends_candidates had_line_break (Sign sign.Minus) = true
@@ -52,6 +54,14 @@ ends_candidates had_line_break (Sign sign.Tilde) = true
 ends_candidates had_line_break (Sign sign.Bang) = true
 ends_candidates had_line_break (Sign sign.LParen) = true
 ends_candidates had_line_break (Sign s) = false
+
+-- with this frame around: behind `async <` a type parameter may have a default
+abbrev pub is_equals : PartKind → Bool
+is_equals (Sign sign.Assign) = true
+is_equals kind = false
+
+abbrev pub ends_over : Option FrameKind → Bool → PartKind → Bool
+ends_over over had_line_break kind = if is_equals kind && over_async_candidate over then false else ends_candidates had_line_break kind
 
 -- parentheses of a type that begin as a pattern does are parameters where the pattern ends so, else a group
 abbrev pub behind_pattern : PartKind → Nested → Nested
@@ -70,7 +80,7 @@ pattern_over over kind nest = nest
 
 -- what is decided before the row is looked up
 abbrev pub readied : State → PartKind → Bool → Nested → Nested
-readied state.After kind had_line_break nest = if ends_candidates had_line_break kind then dropped kinds.Candidates nest else nest
+readied state.After kind had_line_break nest = if ends_over (top nest) had_line_break kind then dropped kinds.Candidates nest else nest
 readied state.TypeBrackets kind had_line_break nest = pattern_over (top nest) kind nest
 readied other kind had_line_break nest = nest
 

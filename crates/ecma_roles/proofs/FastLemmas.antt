@@ -14,7 +14,7 @@ use Rattle.ecma_role_table.specs.declared.part.PartKind.TheVariants.{Sign}
 use Rattle.ecma_role_table.specs.declared.part.Sign.TheVariants as sign
 use Rattle.ecma_role_table.specs.declared.state.State.{State}
 use Rattle.ecma_role_table.specs.declared.state.State.TheVariants as state
-use Rattle.ecma_role_table.specs.Frames.{over_candidate}
+use Rattle.ecma_role_table.specs.Frames.{over_async_candidate, over_candidate}
 use Rattle.ecma_role_table.specs.Statements.{statement}
 use Rattle.ecma_role_table.specs.Table.{row}
 use Rattle.ecma_role_moves.specs.Moves as moves
@@ -395,9 +395,12 @@ unfolding read_once row moved changed
 conditional_begins s nest had_line_break holds none typescript = behind_operand s nest typescript had_line_break (Sign sign.QuestionMark) state.Conditional (pushed frame.Conditional nest) holds refl (rw (ready-none (Sign sign.QuestionMark) nest had_line_break none) refl)
 
 -- operators
+no-async : (over : Option FrameKind) → over_candidate over ≡ false → over_async_candidate over ≡ false
+no-async over none = grind (arith, none)
+
 pub equals_takes : (s : State) (nest : Nested) (had_line_break : Bool) → may_go_on s ≡ true → over_candidate (top nest) ≡ false → Takes s nest (Sign sign.Assign) had_line_break state.Operand nest
 unfolding read_once row moved changed
-equals_takes s nest had_line_break holds none typescript = going_on s nest typescript had_line_break (Sign sign.Assign) state.Operand nest holds refl refl (rw (ready-none (Sign sign.Assign) nest had_line_break none) refl)
+equals_takes s nest had_line_break holds none typescript = going_on s nest typescript had_line_break (Sign sign.Assign) state.Operand nest holds refl refl (rw (ready-none (Sign sign.Assign) nest had_line_break none) (rw (no-async (top nest) none) refl))
 
 operator-row : (kind : PartKind) (nest : Nested) (typescript had_line_break : Bool) → is_operator kind ≡ true → row state.After kind (seen had_line_break typescript nest) ≡ move.To state.Operand change.Nothing
 unfolding row

@@ -48,6 +48,7 @@ fn takes_none(state: State) -> bool
             | State::Key
             | State::KeyAsync
             | State::KeyCommaName
+            | State::KeyCommaParameter
             | State::AfterDecorator
             | State::Quasi
             | State::TypeParen

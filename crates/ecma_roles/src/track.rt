@@ -12,7 +12,7 @@ use crate::fast::{take, take_kind};
 use crate::slash::expects_operand;
 use ecma_role_moves::nest::Nest;
 use ecma_role_moves::perform::perform;
-use ecma_role_table::frame::{Around, FrameKind, Kinds};
+use ecma_role_table::frame::{Around, FrameKind, Kinds, over_async_candidate};
 use ecma_role_table::moves::Turn;
 use ecma_role_table::part::{Name, Part, PartKind, Reserved, Sign};
 use ecma_role_table::state::State;
@@ -49,6 +49,7 @@ fn ends_candidates(kind: PartKind, had_line_break: bool) -> bool
         PartKind::Name(Name::As | Name::Satisfies) => true,
         PartKind::Name(_) => had_line_break,
         PartKind::Reserved(Reserved::In | Reserved::InstanceOf) => true,
+        PartKind::Reserved(Reserved::Extends) => false,
         PartKind::Reserved(_) => had_line_break,
         PartKind::Sign(sign) => matches!(
             sign,
@@ -66,6 +67,16 @@ fn ends_candidates(kind: PartKind, had_line_break: bool) -> bool
                 | Sign::LParen
         ),
     }
+}
+
+/// The same with this frame around: behind `async <` a type parameter may have a default.
+fn ends_over(over: Option<FrameKind>, kind: PartKind, had_line_break: bool) -> bool
+    ensures { result ≡ tracks.ends_over over had_line_break kind }
+{
+    if matches!(kind, PartKind::Sign(Sign::Assign)) && over_async_candidate(over) {
+        return false;
+    }
+    ends_candidates(kind, had_line_break)
 }
 
 /// Behind a pattern in parentheses of a type, they are parameters or a group.
@@ -89,7 +100,7 @@ fn ready(nest: &mut Nest, state: State, kind: PartKind, had_line_break: bool)
 {
     match state {
         State::After => {
-            if ends_candidates(kind, had_line_break) {
+            if ends_over(nest.top(), kind, had_line_break) {
                 nest.drop_all(Kinds::Candidates);
             }
         }

@@ -140,6 +140,7 @@ abbrev pub is_key : State → Bool
 is_key state.Key = true
 is_key state.KeyAsync = true
 is_key state.KeyCommaName = true
+is_key state.KeyCommaParameter = true
 is_key state.Member = true
 is_key state.MemberAsync = true
 is_key _ = false

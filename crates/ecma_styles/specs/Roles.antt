@@ -232,6 +232,7 @@ plain_name_in state.ExportType i b = Keyword
 plain_name_in state.ImportWith i b = Keyword
 plain_name_in state.Operand i b = Keyword
 plain_name_in state.Import i b = import_class i b
+plain_name_in state.ImportAs i b = import_class i b
 plain_name_in state.Clause i b = clause_class i b
 plain_name_in _ i b = operand_class i b
 

@@ -249,7 +249,12 @@ pub(crate) fn is_key(behind: State) -> bool
 {
     matches!(
         behind,
-        State::Key | State::KeyAsync | State::KeyCommaName | State::Member | State::MemberAsync
+        State::Key
+            | State::KeyAsync
+            | State::KeyCommaName
+            | State::KeyCommaParameter
+            | State::Member
+            | State::MemberAsync
     )
 }
 

@@ -334,7 +334,7 @@ fn of_plain_name(ident: IdentKind, beside: Beside) -> Class
             of_word_if(begins_async(beside.next), ident, beside)
         }
         State::ExportType | State::ImportWith | State::Operand => Class::Keyword,
-        State::Import => of_import(ident, beside),
+        State::Import | State::ImportAs => of_import(ident, beside),
         State::Clause => of_clause(ident, beside),
         _ => of_operand(ident, beside),
     }

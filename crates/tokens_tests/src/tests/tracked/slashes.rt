@@ -117,6 +117,61 @@ const TYPESCRIPT: &[Row] = &[
     ("let f: ({ a }) => B = (x) => /re/", "r"),
 ];
 
+/// Type parameters of async arrow functions, and what looks like them.
+const PARAMETERS: &[Row] = &[
+    (
+        "({ a: async <T, K extends keyof T>(o: T) => { /r/ }, b: /r/ })",
+        "rr",
+    ),
+    (
+        "({ a: async <T, const K extends A>() => /r/, b: /r/ })",
+        "rr",
+    ),
+    ("(a ? async <T = A, U = B>() => {} : /r/)", "r"),
+    ("(a ? async <T, U = B>() => {} : /r/)", "r"),
+    ("(a ? async <const T, const U>() => {} : /r/)", "r"),
+    (
+        "[a ? async <T extends A extends B ? C : D, U>() => {} : /r/]",
+        "r",
+    ),
+    ("f(t ? async <T\nextends A, U>() => {} : /r/)", "r"),
+    (
+        "enum E { a = async <T, U extends A>() => {}, b = /r/ }",
+        "r",
+    ),
+    (
+        "let { a = async <T, K extends A>() => {}, b = /r/ } = c / d",
+        "rd",
+    ),
+    (
+        "({ a: async < b, get extends() { return /r/ }, c: d / e })",
+        "rd",
+    ),
+    ("({ a: b < c, set d(e) { f / g }, h: /r/ })", "dr"),
+    ("({ a: b < c, d, e: /r/ })", "r"),
+    ("c ? async < b : /r/", "r"),
+    ("async < b / c", "d"),
+    ("async < /r/.lastIndex", "r"),
+];
+
+/// Type arguments that begin with a function type, heritages, and shifts.
+const ARGUMENTS: &[Row] = &[
+    ("f<<T>() => T>(x) / 2", "d"),
+    ("f<<T>() => T> / x", "d"),
+    ("f<<T extends A>(a: T) => T>(x) / 2", "d"),
+    ("class A extends B<<T>() => T> {}\n/r/", "r"),
+    ("class A extends B<{ f: <T>(x: T) => T }> {}\n/r/", "r"),
+    ("class A implements B<<T>() => T> { a = /r/ }", "r"),
+    ("interface A extends B<<T>() => T> {}\n/r/", "r"),
+    ("@a<<T>() => T>() class B { c = /r/ }", "r"),
+    ("a << b > /r/.lastIndex", "r"),
+    ("a << b > (c) / d", "d"),
+    ("a << b >> c / d", "d"),
+    ("({ a: b << c, d: /r/ })", "r"),
+    ("c ? a << b : /r/", "r"),
+    ("a++ << b > /r/.lastIndex", "r"),
+];
+
 const SCRIPTS: &[Row] = &[
     ("c ? async() : /re/", "r"),
     ("switch (c) { case async(): /re/.test(y) }", "r"),
@@ -266,6 +321,11 @@ const MODULES: &[Row] = &[
     ("export const a = /r/", "r"),
     ("import { a as b } from \"c\"\n/r/", "r"),
     ("import(\"a\") / 2", "d"),
+    ("export * as \"a\" from \"b\"\n/r/", "r"),
+    ("export * as from from \"b\"\n/r/", "r"),
+    ("export * as as from \"b\"\n/r/", "r"),
+    ("import * as as from \"b\"\n/r/", "r"),
+    ("import as from \"b\"\n/r/", "r"),
 ];
 
 /// What is asked of a token that was read.
@@ -364,6 +424,16 @@ fn what_is_wrong_in_brackets_ends_with_them(rt: HostRuntime) -> Result<(), Fail>
 #[test]
 fn modules_have_their_slashes(rt: HostRuntime) -> Result<(), Fail> {
     check(&rt, rt.alloc(), MODULE, MODULES)
+}
+
+#[test]
+fn type_parameters_have_their_slashes(rt: HostRuntime) -> Result<(), Fail> {
+    check(&rt, rt.alloc(), TS, PARAMETERS)
+}
+
+#[test]
+fn type_arguments_have_their_slashes(rt: HostRuntime) -> Result<(), Fail> {
+    check(&rt, rt.alloc(), TS, ARGUMENTS)
 }
 
 #[test]
