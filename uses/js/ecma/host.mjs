@@ -166,6 +166,7 @@ function putString(text) {
     const end = written + 3 * (text.length - read);
     textRoom(end);
     const rest = encoder.encodeInto(text.slice(read), bytes.subarray(at + written, at + end));
+    if (read + rest.read !== text.length) throw new EcmaError('OUT_OF_MEMORY');
     return [at, written + rest.written];
 }
 
