@@ -10,6 +10,9 @@ const SLASH = 47, NO_PLACES = [];
 const badOption = (message, more) => new EcmaError('BAD_OPTION', message, more);
 const isAbsent = (value) => value === undefined || value === null;
 
+/** Whether there are no options. `texts.map(count)` passes a number in their place. */
+const areNone = (options) => isAbsent(options) || typeof options === 'number';
+
 /** What `read` answers. An error that an object of the caller throws is the cause of one of this package. */
 function reading(read) {
     try {
@@ -21,7 +24,8 @@ function reading(read) {
 
 /** The fields of options themselves, without those that are inherited, as of a changed `Object.prototype`. */
 export function ownOptions(options) {
-    if (!isAbsent(options) && typeof options !== 'object') throw badOption('the options are not an object');
+    if (areNone(options)) return { __proto__: null };
+    if (typeof options !== 'object') throw badOption('the options are not an object');
     return reading(() => ({ __proto__: null, ...options }));
 }
 
@@ -66,17 +70,18 @@ function lengthOf(slashes) {
     return length;
 }
 
-/** The places of a list, copied, once it is known that they ascend. Where one is not below `end` none behind it is read. */
+/** The places of a list, copied, once it is known that they ascend and that each lies before `end`. */
 function placesOf(slashes, end) {
     const places = [], length = lengthOf(slashes);
-    for (let i = 0, before = -1; i < length; i++) {
+    let before = -1;
+    for (let i = 0; i < length; i++) {
         const place = reading(() => slashes[i]);
         if (!Number.isInteger(place) || place < 0) throw badOption(`\`slashes[${i}]\` is not a place: those are whole numbers from 0 on`);
         if (place <= before) throw badOption(`\`slashes[${i}]\` is ${place}, which is not above the place before it, ${before}`);
-        if (place >= end) throw new EcmaError('NO_SLASH');
-        places.push(place);
+        if (place < end) places.push(place);
         before = place;
     }
+    if (before >= end) throw new EcmaError('NO_SLASH');
     return places;
 }
 
@@ -93,7 +98,7 @@ const BY_ROLE = { bits: SLASHES_BY_ROLE, places: NO_PLACES };
 /** How a text is to be read: bits of the library, and the places of slashes in units of the text, each of them that of a slash. */
 export function asked(text, options, optionBits) {
     mustBeText(text);
-    if (isAbsent(options)) return BY_ROLE;
+    if (areNone(options)) return BY_ROLE;
     const how = readOptions(options, optionBits, text.length);
     // What is read of the caller's objects may be code of the caller's.
     mustBeText(text);

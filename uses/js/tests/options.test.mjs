@@ -33,13 +33,16 @@ test('each fault of options has its message', () => {
         [/the option typescript is neither true nor false/, { typescript: 1 }],
         [/the option strict is neither true nor false/, { strict: 'yes' }],
         [/the option module is neither true nor false/, { module: {} }],
-        [/the options are not an object/, 1],
+        [/the options are not an object/, true],
         [/the options are not an object/, () => true],
     ];
     for (const [message, options] of rows) refused('BAD_OPTION', message, 'a', () => options);
     assert.throws(() => ecma.count('a', 'module'), { code: 'BAD_OPTION', message: /not an object/ });
     assert.throws(() => ecma.imports('a', { commonjs: 1 }), { code: 'BAD_OPTION', message: /commonjs is neither/ });
     assert.throws(() => [...tokenizer('a', {}, { strict: 1 })], { code: 'BAD_OPTION' });
+    // The number of a text in a list is none.
+    assert.deepEqual(['a', 'b c'].map(ecma.count), [1, 2]);
+    assert.deepEqual(['import "a"', 'a'].map(ecma.imports).map(([found]) => found.length), [1, 0]);
 });
 
 test('each fault of slashes has its message', () => {
@@ -65,8 +68,9 @@ test('each fault of slashes has its message', () => {
     ];
     for (const [message, slashes] of rows) refused('BAD_OPTION', message, '//a', () => ({ slashes }));
     refused('NO_SLASH', /not that of a slash/, '', () => ({ slashes: [0] }));
-    // A list that goes on behind the text is not read to its end.
-    refused('NO_SLASH', /not that of a slash/, 'a/b', () => ({ slashes: new Proxy({}, { get: (_, name) => (name === 'length' ? 2 ** 53 - 1 : Number(name)) }) }));
+    // What is no list of places is said before that a place is not in the text.
+    refused('BAD_OPTION', /`slashes\[1\]` is 5/, 'a', () => ({ slashes: [5, 5] }));
+    refused('NO_SLASH', /not that of a slash/, 'a', () => ({ slashes: Uint32Array.from({ length: 1000 }, (_, i) => i + 1) }));
 });
 
 test('options are their own fields', () => {
