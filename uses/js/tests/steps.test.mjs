@@ -71,7 +71,7 @@ test('steps of imports grow as the text', { skip: isThere ? false : 'wasm-opt is
     session.connect();
     await session.post('Profiler.enable');
     await session.post('Profiler.startPreciseCoverage', { callCount: true, detailed: true });
-    for (const part of PARTS) isTwice(await stepsOf(part.repeat(400)), await stepsOf(part.repeat(800)), part);
+    for (const part of PARTS) isTwice(await stepsOf(part.repeat(300)), await stepsOf(part.repeat(600)), part);
     // Backslashes before a quote: in front of each place the quote could be escaped.
     for (const end of ['"', ' "', '\\"']) isTwice(await stepsOf(`import "${'\\'.repeat(20_000)}${end}`), await stepsOf(`import "${'\\'.repeat(40_000)}${end}`), `backslashes and ${end}`);
     session.disconnect();
