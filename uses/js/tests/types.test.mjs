@@ -1,4 +1,4 @@
-// The declarations, by TypeScript's compiler where it is installed.
+// The declarations, by TypeScript's compiler where it is installed: `TSC`, a file, or that of Debian.
 import assert from 'node:assert/strict';
 import { spawnSync } from 'node:child_process';
 import fs from 'node:fs';
@@ -6,7 +6,7 @@ import path from 'node:path';
 import test from 'node:test';
 import { HERE, installed } from './package.mjs';
 
-const compiler = ['/usr/share/nodejs/typescript/lib/tsc.js', process.env.TSC].find((it) => it && fs.existsSync(it));
+const compiler = [process.env.TSC, '/usr/share/nodejs/typescript/lib/tsc.js'].find((it) => it && fs.existsSync(it));
 const release = compiler ? Number(/Version (\d+)/.exec(spawnSync(process.execPath, [compiler, '--version'], { encoding: 'utf8' }).stdout)[1]) : 0;
 
 // How a package is found, for which modules, with which libraries, and the releases of TypeScript that have it so.
