@@ -10,7 +10,7 @@ async function compileResponse(response) {
     return WebAssembly.compile(await response.arrayBuffer());
 }
 
-/** A module of node. Bundlers for browsers look for each whose name stands in an \`import\`, and stop where there is none. */
+/** A module of node. Bundlers for browsers look for each whose name stands in an `import`, and stop where there is none. */
 const ofNode = (name) => import(/* webpackIgnore: true */ /* @vite-ignore */ name);
 
 async function compileUrl(url) {
@@ -25,7 +25,7 @@ function notLoaded(error) {
     return error instanceof EcmaError ? error : new EcmaError('NOT_LOADED', `the module can't be loaded: ${error?.message}`, { cause: error });
 }
 
-/** The name of an object's class, which is the same in each realm. To ask for the class \`Response\` itself takes node 30 ms. */
+/** The name of an object's class, which is the same in each realm. To ask for the class `Response` itself takes node 30 ms. */
 const classOf = (it) => Object.prototype.toString.call(it).slice('[object '.length, -1);
 
 async function compile(source) {
@@ -55,7 +55,7 @@ export function loadSync(source) {
 }
 
 /**
- * A \`load\`, which without an argument loads what \`first\` answers, once. A URL, the bytes, a Response or a compiled module may be given;
+ * A `load`, which without an argument loads what `first` answers, once. A URL, the bytes, a Response or a compiled module may be given;
  * that module is then taken in place of the one before.
  */
 export function loader(first) {

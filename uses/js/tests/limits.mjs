@@ -19,18 +19,18 @@ const isSemicolon = (at) => ({ start, end }, i) => start === at + i && end === s
 const spread = (rows) => Array.from({ length: rows.length / 3 }, (_, i) => ({ start: rows[3 * i], end: rows[3 * i + 1] }));
 
 // By name: a text, the call, and whether its answer is right, where so many units come before the text. The texts are so long that each
-// call needs some five to forty pages beyond those that a module begins with.
+// call needs two to forty pages beyond those that a module begins with.
 const ROWS = [
     ['tokenRows', ';'.repeat(SEMICOLONS), ecma.tokenRows, (rows, at) => isEach(spread(rows), SEMICOLONS, isSemicolon(at))],
     ['tokens', ';'.repeat(SEMICOLONS), (text) => [...ecma.tokens(text)], (found, at) => isEach(found, SEMICOLONS, isSemicolon(at))],
     ['tokenArray', ';'.repeat(SEMICOLONS), ecma.tokenArray, (found, at) => isEach(found, SEMICOLONS, isSemicolon(at))],
     // Counting takes no room, so it is the text that does not fit; one that is cut has a token less.
-    ['count', `;${' '.repeat(1_000_000)};`, ecma.count, (number) => number === 2],
+    ['count', `;${' '.repeat(2_200_000)};`, ecma.count, (number) => number === 2],
     // The characters have more bytes than units: a second room is asked for, behind which the text goes on.
-    ['count of a wide text', `/*${'é'.repeat(300_000)}*/;`, ecma.count, (number) => number === 1],
+    ['count of a wide text', `/*${'é'.repeat(800_000)}*/;`, ecma.count, (number) => number === 1],
     // The places of the slashes take as much as the text.
     ['count by slashes', SLASHES_TEXT, (text, at) => ecma.count(text, { slashes: slashesFrom(at) }), (number) => number === 2 * SLASHES],
-    ['comments', '//a\n'.repeat(3000), ecma.comments, (found, at) => isEach(found.slice(-3000), 3000, ({ start, end }, i) => start === at + 4 * i && end === start + 3)],
+    ['comments', '//a\n'.repeat(6000), ecma.comments, (found, at) => isEach(found.slice(-6000), 6000, ({ start, end }, i) => start === at + 4 * i && end === start + 3)],
     ['errors', '"\n'.repeat(1200), ecma.errors, (found, at) => isEach(found, 1200, ({ start, end, message }, i) => start === at + 2 * i && end === start + 1 && message === 'Unterminated string constant')],
     ['canonical', ';'.repeat(24_000), ecma.canonical, (text) => text === `${'; '.repeat(23_999)};`],
     [

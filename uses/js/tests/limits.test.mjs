@@ -7,7 +7,7 @@ import { promisify } from 'node:util';
 import * as ecma from '../ecma/ecma.mjs';
 import { HERE, bytesOf } from './package.mjs';
 
-const PAGE = 1 << 16, LIMITS = 40, SHARES = 4;
+const PAGE = 1 << 16, LIMITS = 40, SHARES = 2;
 
 /** What comes of the calls of limits.mjs, by their names, at each of some limits in pages. */
 async function toldAt(limits) {
