@@ -1,6 +1,6 @@
 // The module of WebAssembly: how a call goes into it and comes back.
 import { EcmaError } from './error.mjs';
-import { OPTION_BITS, asked } from './options.mjs';
+import { OPTION_BITS, asked, sizeOf } from './options.mjs';
 
 // Statuses of the library (uses/c/ecma.h).
 const DONE = 0;
@@ -82,9 +82,9 @@ function putString(text) {
 }
 
 function putBytes(text) {
-    const at = textRoom(text.length);
+    const size = sizeOf(text), at = textRoom(size);
     bytes.set(text, at);
-    return [at, text.length];
+    return [at, size];
 }
 
 /** Places in units of a string become places in bytes. */

@@ -42,6 +42,10 @@ function bitsOf(own, optionBits) {
 
 const typedArray = Object.getPrototypeOf(Uint8Array.prototype);
 const typeOfArray = Object.getOwnPropertyDescriptor(typedArray, Symbol.toStringTag).get;
+const lengthOfArray = Object.getOwnPropertyDescriptor(typedArray, 'length').get;
+
+/** How many units or bytes a text has, whatever a class of the caller's says. */
+export const sizeOf = (text) => (typeof text === 'string' ? text.length : lengthOfArray.call(text));
 
 /** Whether the bytes of an array have gone elsewhere, as by `postMessage`: its length is then 0. */
 function isDetached(array) {
@@ -99,7 +103,7 @@ const BY_ROLE = { bits: SLASHES_BY_ROLE, places: NO_PLACES };
 export function asked(text, options, optionBits) {
     mustBeText(text);
     if (areNone(options)) return BY_ROLE;
-    const how = readOptions(options, optionBits, text.length);
+    const how = readOptions(options, optionBits, sizeOf(text));
     // What is read of the caller's objects may be code of the caller's.
     mustBeText(text);
     const unitAt = typeof text === 'string' ? (place) => text.charCodeAt(place) : (place) => text[place];

@@ -114,6 +114,12 @@ test('texts whose bytes are detached, or of another realm', () => {
     for (const text of [[97], { length: 1 }, new Uint8ClampedArray(1), new DataView(new ArrayBuffer(1)), Object.create(Uint8Array.prototype), inOtherRealm('new Int8Array(1)')]) {
         refused('BAD_TEXT', /neither a string nor a Uint8Array/, text, () => undefined);
     }
+    class Odd extends Uint8Array {
+        get length() {
+            throw new Error('mine');
+        }
+    }
+    assert.equal(ecma.count(new Odd([47, 97, 47]), { slashes: [0] }), 1);
     const text = inOtherRealm("new Uint8Array([47, 97, 47, 32, 98])");
     assert.deepEqual(ecma.tokenArray(text, inOtherRealm('({ module: true, slashes: [0] })')).map((it) => it.text), ['/a/', 'b']);
     assert.equal(ecma.count(text, { slashes: inOtherRealm('new Uint16Array([0])') }), 2);
