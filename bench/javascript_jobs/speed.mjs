@@ -150,7 +150,7 @@ run(100000); const begin = process.cpuUsage(); run(100000); const { user, system
 function printSmall() {
     console.log(`load: ${middle(inProcess(LOAD, 9)).toFixed(1)} ms; the first call behind it: ${middle(inProcess(FIRST, 9)).toFixed(1)} ms`);
     console.log(`a call on \`let x = 1;\`: ${inProcess(CALLS, 3)[0].toFixed(2)} microseconds`);
-    for (const name of ['ecma.wasm', 'ecma-plain.wasm', 'ecma.mjs', 'host.mjs', 'imports.mjs', 'values.mjs', 'kinds.mjs', 'acorn.mjs']) {
+    for (const name of fs.readdirSync(PACKAGE).filter((it) => /\.(wasm|mjs)$/.test(it))) {
         const bytes = fs.readFileSync(path.join(PACKAGE, name));
         console.log(`${name}: ${bytes.length} bytes, ${gzipSync(bytes, { level: 9 }).length} by gzip`);
     }

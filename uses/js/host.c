@@ -15,14 +15,18 @@ static uint64_t base(void) { return aligned((uint64_t)(uintptr_t)&__heap_base); 
 
 enum { PAGE_BITS = 16, SPARE_PAGES = 8 };
 
-/* Whether the memory reaches to `end`, once it has grown where it has to: by half a megabyte at least. */
+/* Whether the memory grew by so many pages. A refused one is -1 of 32 bits here: binaryen makes the memory one of 32 bits, and widens
+   what its instruction answers without a sign. */
+static int grows(uint64_t pages) { return (uint32_t)__builtin_wasm_memory_grow(0, (size_t)pages) != UINT32_MAX; }
+
+/* Whether the memory reaches to `end`, once it has grown where it has to: by half a megabyte, where there is so much. */
 static int reaches(uint64_t end) {
     uint64_t has = (uint64_t)__builtin_wasm_memory_size(0) << PAGE_BITS;
     if (end > 0xffff0000u) return 0;
     if (end <= has) return 1;
     uint64_t pages = (end - has + 0xffff) >> PAGE_BITS;
-    if (pages < SPARE_PAGES && has < 0xff000000u) pages = SPARE_PAGES;
-    return __builtin_wasm_memory_grow(0, (size_t)pages) != (size_t)-1;
+    if (pages < SPARE_PAGES && has < 0xff000000u && grows(SPARE_PAGES)) return 1;
+    return grows(pages);
 }
 
 /* The heap: blocks of 2^class bytes behind a header that holds the class. A freed block goes to the list of its class. */

@@ -1,5 +1,5 @@
 // The tokens as acorn's tokenizer has them: its types, its values, its places.
-import { Kind, cook, tokenRows } from './ecma.mjs';
+import { Kind, cook, tokenRows } from './calls.mjs';
 import { KIND, RESPELLED } from './rows.mjs';
 import { bigIntOf, cookTemplate, numberOf, regexpOf, withoutQuotes } from './values.mjs';
 

@@ -22,13 +22,31 @@ export interface Options {
     slashes?: ArrayLike<number> | 'flag';
 }
 
+// What is read of a URL, a Response and a compiled module. By the names of the DOM's library these declarations would need it.
+interface Address {
+    readonly href: string;
+    readonly protocol: string;
+}
+interface Answer {
+    readonly ok: boolean;
+    readonly status: number;
+    readonly url: string;
+    readonly headers: { get(name: string): string | null };
+    arrayBuffer(): Promise<ArrayBuffer>;
+}
+interface CompiledModule {
+    readonly [Symbol.toStringTag]?: string;
+}
+type Bytes = ArrayBuffer | ArrayBufferView;
+
 /**
- * Loads the module: without an argument the file beside this one, once. A URL, the bytes, a Response or a compiled module may be
- * given; that module is then taken in place of the one before. Where it can't be loaded, the code is `NOT_LOADED`.
+ * Loads the module: without an argument the file beside this one (by `fintaluy/inline` the one inside), once. A URL, the bytes, a
+ * Response or a compiled module may be given; that module is then taken in place of the one before. Where it can't be loaded, the code
+ * is `NOT_LOADED`.
  */
-export function load(source?: WebAssembly.Module | BufferSource | Response | URL | string): Promise<void>;
+export function load(source?: CompiledModule | Bytes | Answer | Address | string): Promise<void>;
 /** The same at once, of bytes or a compiled module. */
-export function loadSync(source: WebAssembly.Module | BufferSource): void;
+export function loadSync(source: CompiledModule | Bytes): void;
 
 export type TokenType = 'name' | 'keyword' | 'punctuator' | 'string' | 'number' | 'bigint' | 'regexp' | 'template' | 'shebang' | 'error';
 

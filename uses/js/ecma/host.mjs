@@ -1,36 +1,12 @@
-// The module of WebAssembly: how it is loaded, and how a call goes into it and comes back.
+// The module of WebAssembly: how a call goes into it and comes back.
+import { EcmaError } from './error.mjs';
+import { OPTION_BITS, asked, sizeOf } from './options.mjs';
 
-const MESSAGES = {
-    NOT_LOADED: 'the module is not loaded: `await load()` first',
-    BAD_TEXT: 'the text is neither a string nor a Uint8Array',
-    BAD_OPTION: 'an option is unknown, or `slashes` are neither `flag` nor ascending places',
-    NO_SLASH: 'a place of `slashes` is not that of a slash which is read as one',
-    NOT_UTF8: 'the bytes are not UTF-8',
-    TOO_LONG: 'the text has more than 4 GB',
-    OUT_OF_MEMORY: 'there is no memory',
-    STOPPED: 'the module stopped',
-};
-
-/** What a call could not do. `code` is one of the names above. */
-export class EcmaError extends Error {
-    constructor(code, message = MESSAGES[code], more) {
-        super(message, more);
-        this.code = code;
-    }
-
-    get name() {
-        return 'EcmaError';
-    }
-}
-
-// Statuses and options of the library (uses/c/ecma.h).
+// Statuses of the library (uses/c/ecma.h).
 const DONE = 0;
 export const NOT_CLEAN = 4;
 export const NO_ROOM = 6;
 const CODES = { 2: 'NO_SLASH', 3: 'NOT_UTF8', 5: 'OUT_OF_MEMORY', 7: 'BAD_OPTION', 8: 'TOO_LONG' };
-const OPTION_BITS = { typescript: 1, module: 2, strict: 4 };
-const SLASHES_BY_FLAG = 8;
-const SLASHES_BY_ROLE = 16;
 
 /** What an instance may hold between calls: a memory of WebAssembly never shrinks, so a larger one is let go. */
 const KEPT_BYTES = 64 << 20;
@@ -42,76 +18,8 @@ const decoder = new TextDecoder('utf-8', { ignoreBOM: true });
 
 let compiled, exports, bytes;
 
-// A module that uses SIMD, which engines without it do not accept.
-const SIMD_PROBE = [0, 97, 115, 109, 1, 0, 0, 0, 1, 5, 1, 96, 0, 1, 123, 3, 2, 1, 0, 10, 10, 1, 8, 0, 65, 0, 253, 15, 253, 98, 11];
-
-/** Where the module stands that this engine can run. Bundlers find both files by these two expressions. */
-function besideThisFile() {
-    if (WebAssembly.validate(new Uint8Array(SIMD_PROBE))) return new URL('./ecma.wasm', import.meta.url);
-    return new URL('./ecma-plain.wasm', import.meta.url);
-}
-
-async function compileResponse(response) {
-    if (!response.ok) throw new EcmaError('NOT_LOADED', `the module is not there: ${response.status} ${response.url}`);
-    // Streaming asks for the type; a server that does not know it still gives the bytes.
-    const type = response.headers.get('content-type') ?? '';
-    if (WebAssembly.compileStreaming && type.startsWith('application/wasm')) return WebAssembly.compileStreaming(response);
-    return WebAssembly.compile(await response.arrayBuffer());
-}
-
-async function compileUrl(url) {
-    // The fetch of node reads no files.
-    if (url.protocol !== 'file:' || typeof process === 'undefined') return compileResponse(await fetch(url));
-    const { readFile } = await import(/* webpackIgnore: true */ /* @vite-ignore */ 'node:fs/promises');
-    return WebAssembly.compile(await readFile(url));
-}
-
-/** What keeps a module from being loaded, as an error of this package. */
-function notLoaded(error) {
-    return error instanceof EcmaError ? error : new EcmaError('NOT_LOADED', `the module can't be loaded: ${error.message}`, { cause: error });
-}
-
-async function compile(source) {
-    if (source instanceof WebAssembly.Module) return source;
-    if (typeof source === 'string' || source instanceof URL) return compileUrl(new URL(source, globalThis.location?.href));
-    if (source instanceof ArrayBuffer || ArrayBuffer.isView(source)) return WebAssembly.compile(source);
-    // A Response. To ask for its class takes node 30 ms.
-    return compileResponse(source);
-}
-
-let loading;
-
-/**
- * Loads the module: without an argument the file beside this one, once. A URL, the bytes, a Response or a compiled module may be
- * given; that module is then taken in place of the one before.
- */
-export function load(source) {
-    if (source !== undefined) return loaded(source);
-    loading ??= compiled ? Promise.resolve() : loaded(besideThisFile()).catch((error) => {
-        loading = undefined;
-        throw error;
-    });
-    return loading;
-}
-
-async function loaded(source) {
-    try {
-        begin(await compile(source));
-    } catch (error) {
-        throw notLoaded(error);
-    }
-}
-
-/** The same at once, of bytes or a compiled module. */
-export function loadSync(source) {
-    try {
-        begin(source instanceof WebAssembly.Module ? source : new WebAssembly.Module(source));
-    } catch (error) {
-        throw notLoaded(error);
-    }
-}
-
-function begin(module) {
+/** Takes a module for all calls from here on. */
+export function begin(module) {
     start(module);
     compiled = module;
 }
@@ -122,6 +30,9 @@ function start(module) {
     exports = made;
     bytes = new Uint8Array(exports.memory.buffer);
 }
+
+/** Whether there is a module to make calls of. */
+export const isLoaded = () => compiled !== undefined;
 
 /** How many bytes the module holds now. */
 export function memory() {
@@ -166,47 +77,14 @@ function putString(text) {
     const end = written + 3 * (text.length - read);
     textRoom(end);
     const rest = encoder.encodeInto(text.slice(read), bytes.subarray(at + written, at + end));
+    if (read + rest.read !== text.length) throw new EcmaError('OUT_OF_MEMORY');
     return [at, written + rest.written];
 }
 
 function putBytes(text) {
-    const at = textRoom(text.length);
+    const size = sizeOf(text), at = textRoom(size);
     bytes.set(text, at);
-    return [at, text.length];
-}
-
-/** By the tokens before a slash, where nothing else is said. */
-function slashBits(slashes) {
-    if (slashes === undefined || slashes === null) return SLASHES_BY_ROLE;
-    return slashes === 'flag' ? SLASHES_BY_FLAG : 0;
-}
-
-function bitsOf(options) {
-    let bits = slashBits(options?.slashes);
-    for (const name in options) {
-        if (name === 'slashes') {
-            continue;
-        } else if (!Object.hasOwn(OPTION_BITS, name)) {
-            throw new EcmaError('BAD_OPTION', `there is no option ${name}`);
-        } else if (options[name]) {
-            bits |= OPTION_BITS[name];
-        }
-    }
-    return bits;
-}
-
-const NO_PLACES = [], SLASH = 47;
-
-/** The places of `slashes`, copied, once it is known that each is that of a slash behind the one before. */
-function slashesOf(text, options) {
-    if (options?.slashes === 'flag') return NO_PLACES;
-    const slashes = options?.slashes ?? NO_PLACES;
-    if (typeof slashes === 'string' || typeof slashes.length !== 'number') throw new EcmaError('BAD_OPTION');
-    const places = Array.from(slashes);
-    if (places.some((place, i) => !Number.isInteger(place) || place <= (places[i - 1] ?? -1))) throw new EcmaError('BAD_OPTION');
-    const unitAt = (place) => (typeof text === 'string' ? text.charCodeAt(place) : text[place]);
-    if (places.some((place) => unitAt(place) !== SLASH)) throw new EcmaError('NO_SLASH');
-    return places;
+    return [at, size];
 }
 
 /** Places in units of a string become places in bytes. */
@@ -225,17 +103,15 @@ function bytePlaces(text, places) {
 
 /** A text inside the module, and how it is to be read. */
 class Request {
-    constructor(text, options) {
+    constructor(text, { bits, places }) {
         const isString = typeof text === 'string';
-        if (!isString && !(text instanceof Uint8Array)) throw new EcmaError('BAD_TEXT');
-        this.bits = bitsOf(options);
-        const slashes = slashesOf(text, options);
         const [at, length] = isString ? putString(text) : putBytes(text);
+        this.bits = bits;
         this.at = at;
         this.length = length;
         /** Whether its places in bytes are not those in units. */
         this.isWide = isString && length !== text.length;
-        this.slashes = this.isWide && slashes.length ? bytePlaces(text, slashes) : slashes;
+        this.slashes = this.isWide && places.length ? bytePlaces(text, places) : places;
         this.slashesAt = 0;
     }
 
@@ -268,13 +144,17 @@ class Request {
     }
 }
 
-/** Does `work` with a text inside the module. Whatever comes of it, the next call finds a module that is in order. */
-export function withText(text, options, work) {
-    if (!exports && !compiled) throw new EcmaError('NOT_LOADED');
+/**
+ * Does `work` with a text inside the module. Whatever comes of it, the next call finds a module that is in order. The options that there
+ * are, and their bits, are those of `optionBits`.
+ */
+export function withText(text, options, work, optionBits = OPTION_BITS) {
+    if (!compiled) throw new EcmaError('NOT_LOADED');
+    const how = asked(text, options, optionBits);
     try {
         // The memory of a new instance may be more than there is.
         if (!exports) start(compiled);
-        const request = new Request(text, options);
+        const request = new Request(text, how);
         request.renew();
         return work(request);
     } catch (error) {

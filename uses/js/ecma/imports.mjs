@@ -1,5 +1,6 @@
 // What a module imports and exports, with the fields of es-module-lexer, of the rows that the library writes.
 import { NO_ROOM, room, stringAt, withText, wordsAt } from './host.mjs';
+import { OPTION_BITS, ownOptions } from './options.mjs';
 import { cook, isClosed, withoutQuotes } from './values.mjs';
 
 // Rows of imports: name, statement, each from where to where, parenthesis, attributes from where to where, then form + 256 * phase
@@ -7,8 +8,8 @@ import { cook, isClosed, withoutQuotes } from './values.mjs';
 const IMPORT_WIDTH = 12, IMPORT_PLACES = 7;
 const [START, END, STATEMENT_START, STATEMENT_END, PAREN, ATTRIBUTES, , FORM, FIRST_EXPORT, , EXPORTS] = Array(IMPORT_WIDTH).keys();
 const CALL = 2, META = 3, AMBIENT = 5, REQUIRE = 6;
-/** Asks for rows of `require`. */
-const COMMONJS_BIT = 32;
+/** `commonjs` asks for rows of `require`. */
+const IMPORT_BITS = { ...OPTION_BITS, commonjs: 32 };
 const PHASES = [undefined, 'defer', 'source'];
 // Rows of exports: name and local name, each from where to where, flags.
 const EXPORT_WIDTH = 5, EXPORT_PLACES = 4;
@@ -76,9 +77,8 @@ function exportOf([s, e, ls, le, flags], isForeign, between) {
 /** What a module imports and exports, as es-module-lexer answers it: `[imports, exports, facade, hasModuleSyntax]`. */
 export function imports(text, options) {
     // es-module-lexer has the name of a file there.
-    const { commonjs, module = true, ...more } = typeof options === 'string' ? {} : { ...options };
-    return withText(text, { ...more, module }, (request) => {
-        if (commonjs) request.bits |= COMMONJS_BIT;
+    const own = ownOptions(typeof options === 'string' ? undefined : options);
+    return withText(text, { ...own, module: own.module ?? true }, (request) => {
         const [importRows, exportRows, flags] = askImports(request);
         toUnits(request, importRows, IMPORT_WIDTH, IMPORT_PLACES);
         toUnits(request, exportRows, EXPORT_WIDTH, EXPORT_PLACES);
@@ -92,5 +92,5 @@ export function imports(text, options) {
         }
         const names = Array.from(foreign, (isForeign, i) => exportOf(exportRows.subarray(i * EXPORT_WIDTH, (i + 1) * EXPORT_WIDTH), isForeign, between));
         return [found, names, (flags & FACADE) !== 0, (flags & MODULE_SYNTAX) !== 0];
-    });
+    }, IMPORT_BITS);
 }

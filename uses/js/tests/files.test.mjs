@@ -30,6 +30,28 @@ test('what is exported is there, and declared', async () => {
     }
 });
 
+test('the package with the module inside is the same', async () => {
+    const inside = await import('../ecma/inline.mjs'), { MODULE } = await import('../ecma/ecma-plain.mjs');
+    assert.deepEqual(Object.keys(inside), Object.keys(ecma));
+    for (const [name, value] of Object.entries(ecma)) assert.equal(inside[name] === value, name !== 'load', name);
+    assert.deepEqual(Buffer.from(MODULE, 'base64'), bytesOf('ecma-plain.wasm'));
+});
+
+test('the module inside is loaded where nothing can be fetched or read', async () => {
+    await installed((folder) => {
+        const script = `
+            delete globalThis.fetch;
+            delete globalThis.process;
+            const { count, load } = await import('fintaluy/inline');
+            const code = await load(new URL('file:///ecma.wasm')).catch((error) => error.code);
+            await Promise.all([load(), load()]);
+            console.log(code, count('a b'));`;
+        fs.writeFileSync(path.join(folder, 'script.mjs'), script);
+        const made = spawnSync(process.execPath, ['script.mjs'], { cwd: folder, encoding: 'utf8' });
+        assert.equal(made.stdout, 'NOT_LOADED 2\n', made.stderr);
+    });
+});
+
 test('a module has at most 95 kB by gzip', () => {
     for (const name of ['ecma.wasm', 'ecma-plain.wasm']) assert.ok(gzipSync(bytesOf(name), { level: 9 }).length <= 95_000, name);
 });

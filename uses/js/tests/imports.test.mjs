@@ -173,13 +173,7 @@ test('whatever stands there, fields are places of the text', () => {
     }
 });
 
-test('long texts take time as they are long', () => {
-    const backslashes = '\\'.repeat(400_000);
-    const seconds = (text) => {
-        const begin = performance.now();
-        imports(text);
-        return (performance.now() - begin) / 1000;
-    };
-    for (const part of ['import(', 'import {', 'import a ', 'export let a ', 'export {', 'export let a = (', 'import {} ', 'import(é', 'import(import(é),', 'import "é"; ', 'export {é};']) assert.ok(seconds(part.repeat(100_000)) < 5, part);
-    for (const text of [`import "${backslashes}"`, `import "${backslashes} "`, `import "${backslashes}\\"`]) assert.ok(seconds(text) < 5, text.slice(-3));
+test('long texts', () => {
+    const rows = [['import(', 100_000, 0], ['import(import(é),', 200_000, 0], ['import "é"; ', 100_000, 0], ['export {é};', 0, 100_000]];
+    for (const [part, found, names] of rows) assert.deepEqual(imports(part.repeat(100_000)).slice(0, 2).map((it) => it.length), [found, names], part);
 });

@@ -11,7 +11,9 @@ export const TOP = path.join(HERE, '..', '..', '..');
 
 export const bytesOf = (name) => fs.readFileSync(path.join(PACKAGE, name));
 
-if (!fs.existsSync(path.join(PACKAGE, 'ecma.wasm'))) throw new Error('uses/js/ecma/ecma.wasm is not built: uses/js/build makes it');
+for (const name of ['ecma.wasm', 'ecma-plain.wasm', 'ecma-plain.mjs']) {
+    if (!fs.existsSync(path.join(PACKAGE, name))) throw new Error(`uses/js/ecma/${name} is not built: uses/js/build makes it`);
+}
 
 /** A folder with the package among its node_modules, for as long as `work` takes. */
 export async function installed(work) {
