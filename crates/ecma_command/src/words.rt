@@ -277,7 +277,13 @@ fn file_words<'a>(alloc: Global, command: Command<'a>) -> Result<Command<'a>, Al
         .short('r')
         .action(ArgAction::SetTrue)
         .help("Read the files in directories, by their endings, in order of their paths");
-    command.arg(files)?.arg(list)?.arg(recursive)
+    let null = Arg::new(alloc, "null")
+        .long("null")
+        .short('0')
+        .action(ArgAction::SetTrue)
+        .requires_arg("files-from")?
+        .help("With --files-from, each name ends with a NUL, and not with its line");
+    command.arg(files)?.arg(list)?.arg(null)?.arg(recursive)
 }
 
 /// The words that name slashes.
