@@ -1,7 +1,11 @@
 //! Lines on standard error.
+ghost use Rattle.std.specs.Prelude.{◌≡◌, ◌++◌, [], IfOk};
+ghost use Rattle.ecma_messages.specs.Visible.{lines_text, line_about};
 
 use crate::source::refusal;
-use ecma_stdio::{Halt, push_escaped, send};
+use clap::Error;
+use ecma_messages::{push_line, push_lines};
+use ecma_stdio::{Halt, send};
 use std::alloc::{AllocError, Global};
 use std::io;
 use std::io::{ErrorKind, Write};
@@ -26,19 +30,18 @@ impl From<Halt> for Refusal {
     }
 }
 
-/// A line about a file, whose name stands there as in rows.
-fn line_about(alloc: Global, name: &str, message: &str) -> Result<Vec<u8>, AllocError> {
+/// A line about a file, in which nothing controls a terminal.
+fn line_for(alloc: Global, name: &str, message: &str) -> Result<Vec<u8>, AllocError>
+    ensures { IfOk result (λ line. line.items ≡ [] ++ line_about name.now message.now) }
+{
     let mut line = Vec::new(alloc);
-    push_escaped(&mut line, name.as_bytes())?;
-    line.extend_from_slice(b": ")?;
-    line.extend_from_slice(message.as_bytes())?;
-    line.push(b'\n')?;
+    push_line(&mut line, name, message)?;
     Ok(line)
 }
 
 /// Writes a line about a file, and answers the status.
 pub fn refuse(rt: &HostRuntime, name: &str, message: &str) -> u8 {
-    match line_about(rt.alloc(), name, message) {
+    match line_for(rt.alloc(), name, message) {
         Ok(line) => send(&mut rt.stderr(), FAULTY, &line),
         Err(_) => send(&mut rt.stderr(), FAULTY, b"ecma: out of memory\n"),
     }
@@ -72,4 +75,25 @@ pub fn refuse_output(rt: &HostRuntime, failure: Option<io::Error>) -> u8 {
         Some(error) if error.kind() == ErrorKind::BrokenPipe => FAULTY,
         failure => refuse_for(rt, "standard output", "cannot be written", failure),
     }
+}
+
+/// Lines, in which nothing controls a terminal.
+fn visible_lines(alloc: Global, lines: &str) -> Result<Vec<u8>, AllocError>
+    ensures { IfOk result (λ bytes. bytes.items ≡ [] ++ lines_text lines.now) }
+{
+    let mut bytes = Vec::new(alloc);
+    push_lines(&mut bytes, lines)?;
+    Ok(bytes)
+}
+
+/// Writes why words were refused, and answers the status.
+///
+/// # Errors
+///
+/// `AllocError` where there is no memory.
+pub fn refuse_words(rt: &HostRuntime, error: &Error, status: u8) -> Result<u8, AllocError> {
+    let text = format!(in rt.alloc(); "{error}")?;
+    let lines = visible_lines(rt.alloc(), text.as_str())?;
+    let _ = send(&mut rt.stderr(), status, &lines);
+    Ok(status)
 }

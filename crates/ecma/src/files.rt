@@ -1,9 +1,9 @@
 //! The files that are reported on: those that the words give, those in directories, and those in a list.
 
-use crate::faults::{FAULTY, Refusal, refuse_for, refuse_text};
-use crate::source::read;
-use ecma_command::file_names::{Chosen, is_chosen};
-use ecma_stdio::{Halt, text_of};
+use crate::faults::{FAULTY, refuse_for, refuse_text};
+use crate::source::{read, refuse_bytes};
+use ecma_command::file_names::{Chosen, is_chosen, is_left_for_jsx};
+use ecma_stdio::text_of;
 use std::alloc::AllocError;
 use std::fs::DirEntry;
 use std::{fs, io};
@@ -19,6 +19,8 @@ struct Walk<'r> {
     /// Directories that are still to be looked into.
     directories: Vec<String>,
     files: Vec<String>,
+    /// How many files were passed over for their JSX alone.
+    left_for_jsx: u64,
     status: u8,
 }
 
@@ -33,6 +35,9 @@ impl Walk<'_> {
     fn take_in(&mut self, entry: &DirEntry<HostRuntime>) -> Result<(), io::Error> {
         let kind = entry.file_type()?;
         if !is_chosen(self.chosen, entry.file_name(), kind.is_dir()) {
+            if kind.is_file() && is_left_for_jsx(self.chosen, entry.file_name()) {
+                self.left_for_jsx = self.left_for_jsx.saturating_add(1);
+            }
             return Ok(());
         }
         let path = String::from_str(self.rt.alloc(), entry.path().as_str())?;
@@ -72,12 +77,12 @@ impl Walk<'_> {
     }
 }
 
-/// The files in a directory and in those inside it, sorted; and the status.
-fn files_in(
-    rt: &HostRuntime,
+/// What there is in a directory and in those inside it, with its files sorted.
+fn walked<'r>(
+    rt: &'r HostRuntime,
     chosen: Chosen,
     directory: &str,
-) -> Result<(Vec<String>, u8), AllocError> {
+) -> Result<Walk<'r>, AllocError> {
     let mut directories = Vec::new(rt.alloc());
     directories.push(String::from_str(rt.alloc(), directory)?)?;
     let mut walk = Walk {
@@ -85,11 +90,12 @@ fn files_in(
         chosen,
         directories,
         files: Vec::new(rt.alloc()),
+        left_for_jsx: 0,
         status: 0,
     };
     walk.look_into_all();
     walk.files.sort_unstable();
-    Ok((walk.files, walk.status))
+    Ok(walk)
 }
 
 /// Whether there is a directory with this name.
@@ -100,10 +106,19 @@ fn is_directory(rt: &HostRuntime, name: &str) -> bool {
     }
 }
 
+/// What ends a name in a list.
+#[derive(Clone, Copy, Debug, PartialEq, Eq)]
+pub enum NameEnds {
+    Line,
+    Nul,
+}
+
 /// The files that are reported on.
 #[derive(Drop)]
 pub struct Files {
     pub names: Vec<String>,
+    /// How many files in directories were passed over for their JSX alone.
+    pub left_for_jsx: u64,
     /// The status that they led to.
     pub status: u8,
 }
@@ -113,6 +128,7 @@ impl Files {
     pub fn new(rt: &HostRuntime) -> Files {
         Files {
             names: Vec::new(rt.alloc()),
+            left_for_jsx: 0,
             status: 0,
         }
     }
@@ -126,21 +142,59 @@ impl Files {
     ) -> Result<(), AllocError> {
         match chosen {
             Some(chosen) if is_directory(rt, name) => {
-                let (mut inside, status) = files_in(rt, chosen, name)?;
-                self.names.append(&mut inside)?;
-                self.status = self.status.max(status);
+                let mut walk = walked(rt, chosen, name)?;
+                self.names.append(&mut walk.files)?;
+                self.left_for_jsx = self.left_for_jsx.saturating_add(walk.left_for_jsx);
+                self.status = self.status.max(walk.status);
             }
             _ => self.names.push(String::from_str(rt.alloc(), name)?)?,
         }
         Ok(())
     }
 
-    /// Adds the names in a file, one a line, as `add` does.
+    /// Adds the names in a text, one a line, or each up to a NUL, as `add` does.
+    fn add_names(
+        &mut self,
+        rt: &HostRuntime,
+        chosen: Option<Chosen>,
+        names: &str,
+        ends: NameEnds,
+    ) -> Result<(), AllocError> {
+        match ends {
+            NameEnds::Line => {
+                for name in names.lines() {
+                    self.add_some(rt, chosen, name)?;
+                }
+            }
+            NameEnds::Nul => {
+                for name in names.split('\0') {
+                    self.add_some(rt, chosen, name)?;
+                }
+            }
+        }
+        Ok(())
+    }
+
+    /// Adds a name as `add` does, unless it is empty.
+    fn add_some(
+        &mut self,
+        rt: &HostRuntime,
+        chosen: Option<Chosen>,
+        name: &str,
+    ) -> Result<(), AllocError> {
+        if name.is_empty() {
+            return Ok(());
+        }
+        self.add(rt, chosen, name)
+    }
+
+    /// Adds the names in a file as `add` does.
     pub fn add_list(
         &mut self,
         rt: &HostRuntime,
         chosen: Option<Chosen>,
         list: &str,
+        ends: NameEnds,
     ) -> Result<(), AllocError> {
         let bytes = match read(rt, list) {
             Ok(bytes) => bytes,
@@ -152,16 +206,11 @@ impl Files {
         match text_of(&bytes) {
             Ok(text) => {
                 // Editors of some systems begin a list with a byte order mark.
-                let list = text.strip_prefix('\u{feff}').unwrap_or(text);
-                for line in list.lines() {
-                    if !line.is_empty() {
-                        self.add(rt, chosen, line)?;
-                    }
-                }
+                let names = text.strip_prefix('\u{feff}').unwrap_or(text);
+                self.add_names(rt, chosen, names, ends)?;
             }
             Err(fault) => {
-                let refusal = Refusal::from(Halt::Fault(fault));
-                self.status = refuse_text(rt, list, refusal).max(FAULTY);
+                self.status = refuse_bytes(rt, list, &bytes, fault).max(FAULTY);
             }
         }
         Ok(())

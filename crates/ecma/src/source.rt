@@ -1,8 +1,8 @@
 //! The texts that are reported on.
 
-use crate::faults::Refusal;
-use crate::watched::Watched;
-use ecma_stdio::{Fault, Halt, MOST_TURNS, read_all};
+use crate::faults::{Refusal, refuse, refuse_text};
+use ecma_messages::not_text;
+use ecma_stdio::{Fault, Halt, MOST_TURNS, Watched, read_all};
 use std::fs;
 use std::io::Read;
 
@@ -42,5 +42,19 @@ pub fn read(rt: &HostRuntime, name: &str) -> Result<Vec<u8>, Refusal> {
             halt: Halt::ReadFailed,
             failure: Some(error),
         }),
+    }
+}
+
+/// Writes why these bytes of a file are no text, and answers the status.
+pub fn refuse_bytes(rt: &HostRuntime, name: &str, bytes: &[u8], fault: Fault) -> u8 {
+    match not_text(bytes) {
+        Some(why) if fault == Fault::NotUtf8 => {
+            let (message, place) = (why.message(), why.place);
+            match format!(in rt.alloc(); "{message} {place}") {
+                Ok(message) => refuse(rt, name, message.as_str()),
+                Err(_) => refuse(rt, name, refusal(Halt::Fault(fault))),
+            }
+        }
+        _ => refuse_text(rt, name, Refusal::from(Halt::Fault(fault))),
     }
 }

@@ -29,6 +29,10 @@ is_hidden name = starts_with (λ a b. a == b) name (codes ".") || bytes_eq name 
 abbrev pub is_chosen : Chosen → List ℕ → Bool → Bool
 is_chosen chosen name is_directory = (chosen.hidden || not (is_hidden name)) && (is_directory || (is_source name || (chosen.as_is && has_jsx name)))
 
+-- it is passed over in a directory for its JSX alone
+abbrev pub is_left_for_jsx : Chosen → List ℕ → Bool
+is_left_for_jsx chosen name = has_jsx name && (not chosen.as_is && (chosen.hidden || not (is_hidden name)))
+
 -- what is asked for of a file, where the words say this
 abbrev pub for_file : Asked → List ℕ → Asked
 for_file asked name =

@@ -85,3 +85,10 @@ pub fn is_chosen(chosen: Chosen, name: &str, is_directory: bool) -> bool
     }
     is_directory || is_source(name) || (chosen.as_is && has_jsx(name))
 }
+
+/// Whether what a directory holds under this name is passed over for its JSX alone.
+pub fn is_left_for_jsx(chosen: Chosen, name: &str) -> bool
+    ensures { result ≡ names.is_left_for_jsx chosen name.now }
+{
+    has_jsx(name) && !chosen.as_is && (chosen.hidden || !is_hidden(name))
+}

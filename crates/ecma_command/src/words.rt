@@ -1,6 +1,7 @@
 //! The words of the command line.
 ghost use Rattle.std.specs.Prelude.{◌≡◌};
 ghost use Rattle.ecma_command.specs.FileNames.{for_file};
+ghost use Rattle.ecma_command.specs.Options.{has_rows, takes};
 
 use crate::file_names::{is_module, is_typescript};
 use clap::{Arg, ArgAction, ArgMatches, Command, value_parser};
@@ -66,6 +67,37 @@ impl Face {
             Face::Imports => "A line for each import: how the module is named, where, and its name",
             Face::Exports =>
                 "A line for each name that a module exports, with its name in the module",
+        }
+    }
+
+    /// Whether it writes rows, which may have lines and columns.
+    fn has_rows(self) -> bool
+        ensures { result ≡ has_rows self }
+    {
+        match self {
+            Face::Tokens
+            | Face::Comments
+            | Face::Errors
+            | Face::Classes
+            | Face::Imports
+            | Face::Exports => true,
+            Face::Canonical | Face::Html | Face::Show => false,
+        }
+    }
+
+    /// Whether this option has a meaning for it.
+    fn takes(self, option: &str) -> bool
+        ensures { result ≡ takes self option.now }
+    {
+        match option {
+            "values" => self == Face::Tokens,
+            "commonjs" => self == Face::Imports,
+            "page" => self == Face::Html,
+            "color" => self == Face::Show,
+            "columns" => self != Face::Show,
+            "lines" => self.has_rows(),
+            "with-filename" | "no-filename" => self.has_rows() || self == Face::Show,
+            _ => true,
         }
     }
 
@@ -245,7 +277,13 @@ fn file_words<'a>(alloc: Global, command: Command<'a>) -> Result<Command<'a>, Al
         .short('r')
         .action(ArgAction::SetTrue)
         .help("Read the files in directories, by their endings, in order of their paths");
-    command.arg(files)?.arg(list)?.arg(recursive)
+    let null = Arg::new(alloc, "null")
+        .long("null")
+        .short('0')
+        .action(ArgAction::SetTrue)
+        .requires_arg("files-from")?
+        .help("With --files-from, each name ends with a NUL, and not with its line");
+    command.arg(files)?.arg(list)?.arg(null)?.arg(recursive)
 }
 
 /// The words that name slashes.
@@ -271,8 +309,26 @@ fn slash_words<'a>(alloc: Global, command: Command<'a>) -> Result<Command<'a>, A
 /// When colours are written, as words name it.
 const COLORS: &[&str] = &["auto", "always", "never"];
 
+/// Adds an option, where it has a meaning for what is asked for.
+fn with_option<'a>(
+    command: Command<'a>,
+    face: Face,
+    option: &str,
+    arg: Arg<'a>,
+) -> Result<Command<'a>, AllocError> {
+    if face.takes(option) {
+        command.arg(arg)
+    } else {
+        Ok(command)
+    }
+}
+
 /// The words that say what columns count, and when colours are written.
-fn look_words<'a>(alloc: Global, command: Command<'a>) -> Result<Command<'a>, AllocError> {
+fn look_words<'a>(
+    alloc: Global,
+    command: Command<'a>,
+    face: Face,
+) -> Result<Command<'a>, AllocError> {
     let columns = Arg::new(alloc, "columns")
         .long("columns")
         .value_name("UNIT")
@@ -285,20 +341,21 @@ fn look_words<'a>(alloc: Global, command: Command<'a>) -> Result<Command<'a>, Al
         .help(
             "With show, write colours always, never, or into a terminal (auto, if left out) where NO_COLOR is not set",
         );
-    command.arg(columns)?.arg(color)
+    let command = with_option(command, face, "columns", columns)?;
+    with_option(command, face, "color", color)
 }
 
 /// The subcommand that asks for this, with its help.
 fn subcommand<'a>(alloc: Global, face: Face) -> Result<Command<'a>, AllocError> {
     let command = Command::new(alloc, face.name()).about(face.help());
     let command = slash_words(alloc, file_words(alloc, command)?)?;
-    let mut command = look_words(alloc, command)?;
+    let mut command = look_words(alloc, command, face)?;
     for (name, help) in FLAGS {
         let flag = Arg::new(alloc, name)
             .long(name)
             .action(ArgAction::SetTrue)
             .help(help);
-        command = command.arg(flag)?;
+        command = with_option(command, face, name, flag)?;
     }
     Ok(command)
 }

@@ -7,12 +7,12 @@ use Rattle.ecma_html.specs.Marked.{AreInOrder, number_of}
 use Rattle.std.specs.Prelude.{◌&&◌, not}
 use Rattle.ecma_faces.specs.Whole.{begins_at, places_of, shown_head}
 use Rattle.ecma_report.specs.Rows.{Look}
-use Rattle.ecma_stdio.specs.Escaped.{escaped}
+use Rattle.ecma_messages.specs.Visible.{name_text}
 
-pub head-of-named : (l : Look) (file : List ℕ) → l.among.names ≡ true → l.asked.json ≡ false → shown_head l file ≡ escaped file ++ 58 ∷ 10 ∷ []
+pub head-of-named : (l : Look) (file : List ℕ) → l.among.names ≡ true → l.asked.json ≡ false → shown_head l file ≡ name_text file ++ 58 ∷ 10 ∷ []
 head-of-named l file names plain =
-    ap (λ b. if b && not l.asked.json then escaped file ++ 58 ∷ 10 ∷ [] else []) names
-    ∙ ap (λ b. if true && not b then escaped file ++ 58 ∷ 10 ∷ [] else []) plain
+    ap (λ b. if b && not l.asked.json then name_text file ++ 58 ∷ 10 ∷ [] else []) names
+    ∙ ap (λ b. if true && not b then name_text file ++ 58 ∷ 10 ∷ [] else []) plain
 
 -- errors in order of place begin at places in order
 pub places-in-order : (errors : List FoundView) → IsNonDecreasingBy place_of errors → AreInOrder (places_of errors)

@@ -19,7 +19,7 @@ use Rattle.ecma_looks.specs.Shown.{IsShown}
 use Rattle.ecma_reader.specs.Outputs.{error_tokens}
 use Rattle.ecma_report.specs.Rows.{Look, whole_text}
 use Rattle.ecma_report.specs.Runs.{read_to}
-use Rattle.ecma_stdio.specs.Escaped.{escaped}
+use Rattle.ecma_messages.specs.Visible.{name_text}
 use Rattle.ecma_command.specs.declared.words.Named.{Named}
 
 -- The canonical text
@@ -96,9 +96,9 @@ OfHtml named l file text P = OfHtmlBehind l file text (read_to true named l text
 
 -- As a terminal shows it
 
--- the name of the file, as rows have it, in a line of its own, where lines name their file
+-- the name of the file, as messages have it, in a line of its own, where lines name their file
 abbrev pub shown_head : Look → List ℕ → List ℕ
-shown_head l file = if l.among.names && not l.asked.json then escaped file ++ 58 ∷ 10 ∷ [] else []
+shown_head l file = if l.among.names && not l.asked.json then name_text file ++ 58 ∷ 10 ∷ [] else []
 
 -- this holds of the lines that show a text with these tokens, comments and errors
 pub record OfLines (l : Look) (file text : List ℕ) (kept : List Kept) (comments : List BufferedComment) (errors : List FoundView) (P : List ℕ → Type 0) : Type 0 where

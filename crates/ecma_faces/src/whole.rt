@@ -15,7 +15,7 @@ ghost use Rattle.ecma_report.specs.Runs.{read_to};
 ghost use Rattle.ecma_report.specs.Reports.{Adds, IsOf, Stays, look_of};
 ghost use Rattle.ecma_report.specs.Rows.{Look};
 ghost use Rattle.ecma_report.specs.Unmet.{unmet_by};
-ghost use Rattle.ecma_stdio.specs.Escaped.{escaped};
+ghost use Rattle.ecma_messages.specs.Visible.{name_text};
 ghost use Rattle.ecma_command.specs.declared.words.Face.TheVariants as face;
 
 use crate::html::write_html;
@@ -23,13 +23,13 @@ use ecma_classes::{Cover, Piece};
 use ecma_command::words::{Face, Named};
 use ecma_faults::{Found, in_order};
 use ecma_looks::show_text;
+use ecma_messages::push_name;
 use ecma_names::piece_name;
 use ecma_reader::{Gathered, ReadOut, read_out};
 use ecma_report::faults::tell_found;
 use ecma_report::report::{More, Report, Row, Stop};
 use ecma_report::slashes::{START, slashes_at};
 use ecma_report::unmet::tell_unmet;
-use ecma_stdio::push_escaped;
 use std::alloc::{AllocError, Global};
 use std::io::Write;
 
@@ -76,12 +76,12 @@ fn write_pieces<W: Write>(report: &mut Report, gathered: &Gathered, out: &mut W)
     Ok(())
 }
 
-/// The name of a file, as rows have it, in a line of its own.
+/// The name of a file, as messages have it, in a line of its own.
 fn name_line(alloc: Global, name: &str) -> Result<Vec<u8>, AllocError>
-    ensures { IfOk result (λ line. line.items ≡ escaped name.now ++ 58 ∷ 10 ∷ []) }
+    ensures { IfOk result (λ line. line.items ≡ name_text name.now ++ 58 ∷ 10 ∷ []) }
 {
     let mut line = Vec::new(alloc);
-    push_escaped(&mut line, name.as_bytes())?;
+    push_name(&mut line, name)?;
     line.extend_from_slice(b":\n")?;
     Ok(line)
 }

@@ -1,5 +1,5 @@
 -- Lines of faults, which people read on standard error.
-use Rattle.std.specs.Prelude.{◌≡◌, ℕ, ◌==◌, List, [], ◌∷◌, ◌++◌, ◌||◌, Bool, true, false, codes, flat_map, if◌then◌else◌, length, map, not}
+use Rattle.std.specs.Prelude.{◌≡◌, ℕ, ◌==◌, List, [], ◌∷◌, ◌++◌, ◌||◌, Bool, true, false, codes, flat_map, if◌then◌else◌, length, not}
 use Rattle.std.specs.Fmt.{decimal}
 use Rattle.std.specs.List.{list_any}
 use Rattle.ecma_span.specs.declared.place.Span.{Span}
@@ -9,20 +9,19 @@ use Rattle.ecma_faults.specs.declared.found.Origin.{Origin}
 use Rattle.ecma_faults.specs.declared.found.Origin.TheVariants.{Waiting}
 use Rattle.ecma_positions.specs.Columns.{position_by}
 use Rattle.ecma_positions.specs.declared.position.Position.{Position}
-use Rattle.ecma_print.specs.Rows.{one_line}
-use Rattle.ecma_stdio.specs.Escaped.{escaped}
+use Rattle.ecma_messages.specs.Visible.{message_text, name_text}
 use Rattle.ecma_report.specs.Rows.{Look}
 use Rattle.ecma_report.specs.declared.report.Report.{Report}
 use Rattle.ecma_command.specs.declared.words.Face.{Face}
 use Rattle.ecma_command.specs.declared.words.Face.TheVariants.{Errors, Show}
 
--- the name of the file, as rows have it, a line and a column
+-- the name of the file, a line and a column
 abbrev pub place_in : List ℕ → Position → List ℕ
-place_in file at = escaped file ++ 58 ∷ (decimal at.line ++ 58 ∷ decimal at.column)
+place_in file at = name_text file ++ 58 ∷ (decimal at.line ++ 58 ∷ decimal at.column)
 
 -- and a message, in one line
 abbrev pub line_at : List ℕ → Position → List ℕ → List ℕ
-line_at file at message = place_in file at ++ (codes ": " ++ (map one_line message ++ 10 ∷ []))
+line_at file at message = place_in file at ++ (codes ": " ++ (message_text message ++ 10 ∷ []))
 
 -- of what is wrong at a span of the text
 abbrev pub fault_line : Look → List ℕ → List ℕ → Span → List ℕ → List ℕ

@@ -8,7 +8,7 @@ use Rattle.ecma_token.specs.declared.token.Token.{Template'}
 use Rattle.ecma_options.specs.Begin.{begin}
 use Rattle.ecma_reader.specs.Readers.{tokens_by}
 use Rattle.ecma_reader.specs.Rereads.{ascend, rereads, steps_to_end_by}
-use Rattle.ecma_stdio.specs.Escaped.{escaped}
+use Rattle.ecma_messages.specs.Visible.{name_text}
 use Rattle.ecma_report.specs.Rows.{Look}
 use Rattle.ecma_report.specs.Slashes.{rule_at}
 use Rattle.ecma_report.specs.declared.unmet.NamedPlace.{NamedPlace}
@@ -48,7 +48,7 @@ AreMarked text places marked tokens = marked ≡ named_places (has_slash text to
 
 -- the line of a place at which none does
 abbrev pub unmet_line : List ℕ → BytePos → List ℕ
-unmet_line file place = escaped file ++ (codes ": no slash is read at the place " ++ (decimal place.0 ++ 10 ∷ []))
+unmet_line file place = name_text file ++ (codes ": no slash is read at the place " ++ (decimal place.0 ++ 10 ∷ []))
 
 abbrev pub line_unless_slash : List ℕ → NamedPlace → List ℕ
 line_unless_slash file marked = if marked.has_slash then [] else unmet_line file marked.place

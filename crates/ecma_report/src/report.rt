@@ -11,12 +11,12 @@ ghost use Rattle.ecma_print.specs.Rows.{head, more_view, own_text};
 ghost use Rattle.ecma_report.specs.Rows.{alone, line_text, look, name_asked, part_at, place_asked, row_parts, row_text, whole_begin, whole_end, whole_part, whole_text};
 
 use ecma_command::words::{Among, Asked};
+use ecma_messages::{push_message, push_name};
 use ecma_positions::Position;
 use ecma_print::lines::Lines;
 pub use ecma_print::row::{More, Row};
 use ecma_print::written::{
-    push_head, push_message, push_object, push_own_text, push_text_begin, push_text_end,
-    push_text_part,
+    push_head, push_object, push_own_text, push_text_begin, push_text_end, push_text_part,
 };
 use ecma_span::{BytePos, Span};
 use ecma_stdio::{FAILED, push_escaped, push_number, send};
@@ -79,11 +79,11 @@ fn write_all<W: Write>(out: &mut W, bytes: &[u8]) -> Result<(), Stop>
     Ok(())
 }
 
-/// Adds the name of a file, as rows have it, a line and a column.
+/// Adds the name of a file, a line and a column.
 fn push_place(out: &mut Vec<u8>, name: &str, position: Position) -> Result<(), AllocError>
     ensures { OnOk result (out.new.items ≡ out.old.items ++ place_in name.now position) }
 {
-    push_escaped(out, name.as_bytes())?;
+    push_name(out, name)?;
     out.push(b':')?;
     push_number(out, position.line)?;
     out.push(b':')?;
@@ -95,7 +95,7 @@ fn push_fault_line(
     out: &mut Vec<u8>,
     name: &str,
     position: Position,
-    message: &[u8],
+    message: &str,
 ) -> Result<(), AllocError>
     ensures { OnOk result (out.new.items ≡ out.old.items ++ line_at name.now position message.now) }
 {
@@ -369,6 +369,6 @@ impl<'a> Report<'a> {
     {
         let position = self.position(span.lo);
         let message = kind.msg(self.alloc)?;
-        push_fault_line(&mut self.faults, self.name, position, message.as_bytes())
+        push_fault_line(&mut self.faults, self.name, position, message.as_str())
     }
 }

@@ -13,10 +13,11 @@ ghost use Rattle.ecma_report.specs.Unmet.{AreMarked};
 use crate::report::Report;
 use crate::slashes::open;
 use ecma_command::words::Named;
+use ecma_messages::push_name;
 use ecma_reader::{Reader, ascend};
 use ecma_slot::Slot;
 use ecma_span::BytePos;
-use ecma_stdio::{push_escaped, push_number};
+use ecma_stdio::push_number;
 use ecma_token::{Token, TokenAndSpan};
 use std::alloc::{AllocError, Global};
 
@@ -134,7 +135,7 @@ fn marked_places(
 fn push_unmet(lines: &mut Vec<u8>, name: &str, place: BytePos) -> Result<(), AllocError>
     ensures { OnOk result (lines.new.items ≡ lines.old.items ++ unmet.unmet_line name.now place) }
 {
-    push_escaped(lines, name.as_bytes())?;
+    push_name(lines, name)?;
     lines.extend_from_slice(b": no slash is read at the place ")?;
     push_number(lines, place.0 as usize)?;
     lines.push(b'\n')?;

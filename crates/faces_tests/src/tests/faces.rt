@@ -279,14 +279,6 @@ const VALUES: &[Told] = &[
         "{\"column\":1,\"file\":\"a.js\",\"flags\":\"g\",\"hi\":4,\"kind\":\"regexp\",\"line\":1,\"line_break_before\":true,\"lo\":0,\"pattern\":\"a\",\"text\":\"/a/g\"}\n{\"column\":5,\"file\":\"a.js\",\"hi\":5,\"kind\":\"punctuator\",\"line\":1,\"line_break_before\":false,\"lo\":4,\"text\":\",\"}\n{\"column\":6,\"file\":\"a.js\",\"hi\":9,\"kind\":\"string\",\"line\":1,\"line_break_before\":false,\"lo\":5,\"text\":\"'\\\\\\\"'\",\"value\":\"\\\"\"}\n{\"column\":10,\"file\":\"a.js\",\"hi\":10,\"kind\":\"punctuator\",\"line\":1,\"line_break_before\":false,\"lo\":9,\"text\":\",\"}\n{\"column\":11,\"digits\":\"1.5\",\"file\":\"a.js\",\"hi\":13,\"kind\":\"number\",\"line\":1,\"line_break_before\":false,\"lo\":10,\"radix\":10,\"text\":\"1.5\"}\n{\"column\":14,\"file\":\"a.js\",\"hi\":14,\"kind\":\"punctuator\",\"line\":1,\"line_break_before\":false,\"lo\":13,\"text\":\",\"}\n{\"column\":15,\"digits\":\"1\",\"file\":\"a.js\",\"hi\":18,\"kind\":\"number\",\"line\":1,\"line_break_before\":false,\"lo\":14,\"radix\":16,\"text\":\"0x1n\"}\n{\"column\":19,\"file\":\"a.js\",\"hi\":19,\"kind\":\"punctuator\",\"line\":1,\"line_break_before\":false,\"lo\":18,\"text\":\",\"}\n{\"column\":20,\"file\":\"a.js\",\"hi\":20,\"kind\":\"template\",\"line\":1,\"line_break_before\":false,\"lo\":19,\"text\":\"`\"}\n{\"column\":21,\"file\":\"a.js\",\"hi\":22,\"kind\":\"template\",\"line\":1,\"line_break_before\":false,\"lo\":20,\"text\":\"\\\\u\",\"value\":null}\n{\"column\":23,\"file\":\"a.js\",\"hi\":23,\"kind\":\"template\",\"line\":1,\"line_break_before\":false,\"lo\":22,\"text\":\"`\"}\n",
         "",
     ),
-    // Of others than tokens it changes nothing.
-    (
-        "exports --values",
-        "export { a }",
-        false,
-        "export 9 10 a a\n",
-        "",
-    ),
 ];
 
 /// Rows of comments.

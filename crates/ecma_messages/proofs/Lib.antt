@@ -1,0 +1,2 @@
+pub mod CharLemmas
+pub mod JsxLemmas

@@ -1,0 +1,3 @@
+pub mod Encoding
+pub mod Jsx
+pub mod Visible
