@@ -25,6 +25,8 @@ mod calls;
 mod known;
 pub mod laws;
 mod module;
+mod reading;
+mod region;
 mod scan;
 mod statement;
 
@@ -32,4 +34,6 @@ pub use ecma_module_table::rows::{
     Argument, Export, Form, Import, ImportTold, ModuleOptions, Phase, Specifier, Told,
 };
 pub use module::{Gathering, Module, module_of};
+pub use reading::gather_next;
+pub use region::{ModuleToken, Region};
 pub use scan::Scan;

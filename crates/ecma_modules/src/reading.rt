@@ -1,0 +1,65 @@
+//! A text that is read, and what is gathered of it.
+ghost use Rattle.std.specs.Prelude.{◌≡◌, ◌<◌, ◌++◌, List, is_some, option_map, true, IfOk, OnErr, OnOk};
+ghost use Rattle.ecma_module_table.specs.declared.rows.ModuleOptions.{ModuleOptions};
+ghost use Rattle.ecma_modules.specs.Readings.{Gathers};
+ghost use Rattle.ecma_modules.specs.Regions as regions;
+ghost use Rattle.ecma_reader.specs.Readers.{IsReady, Reads, Shows, expected_behind, tokens_found};
+ghost use Rattle.ecma_reader.specs.Rereads.{SlashRule};
+ghost use Rattle.ecma_state.specs.Ending.{most_tokens};
+ghost use Rattle.ecma_state.specs.Session.{Session, lexer_state};
+ghost use Rattle.ecma_token.specs.View.{SpannedView, spanned_view};
+
+use crate::module::Gathering;
+use crate::region::{ModuleToken, Region, is_import};
+use ecma_reader::Reader;
+use ecma_state::Kept;
+use ecma_token::{TokenAndSpan, TokenKind};
+use std::alloc::AllocError;
+
+/// The region of the token of this kind that was read last.
+#[inline]
+fn region_read(reader: &mut Reader, kind: TokenKind) -> Result<Region, AllocError>
+    ensures region { (rule : SlashRule) (begin : Session) (tokens : List SpannedView) → Shows rule begin tokens reader.old
+        → IfOk result (λ region. region ≡ regions.region_of kind (expected_behind rule begin tokens)) }
+    ensures shows { (rule : SlashRule) (begin : Session) (tokens : List SpannedView) → Shows rule begin tokens reader.old → Shows rule begin tokens reader.new }
+    ensures ready { IsReady reader.old → IsReady reader.new }
+    ensures same { lexer_state reader.new.lexer ≡ lexer_state reader.old.lexer }
+{
+    if !is_import(kind) {
+        return Ok(Region::Code);
+    }
+    Ok(Region::behind(reader.expected()?))
+}
+
+/// Reads one token more into a slot that is kept, gathers what it tells, and answers whether there was one: the slot is empty
+/// at the end. What an `import` is goes by what is expected there, where the reader knows that.
+///
+/// # Errors
+///
+/// `AllocError` as of [`Reader::read_into`] and [`Gathering::take`]. What is then gathered is not said, nor which token the slot
+/// holds.
+#[inline]
+pub fn gather_next<'a>(
+    gathering: &mut Gathering,
+    reader: &mut Reader<'a>,
+    slot: &mut Option<TokenAndSpan<'a>>,
+) -> Result<bool, AllocError>
+    requires ready { IsReady reader.old }
+    ensures reads { (rule : SlashRule) (begin : Session) (tokens : List SpannedView) → Shows rule begin tokens reader.old
+        → IfOk result (λ more. Reads rule begin tokens (option_map spanned_view slot.new) more reader.new) }
+    ensures gathers { (rule : SlashRule) (begin : Session) (tokens : List SpannedView) (options : ModuleOptions) → Shows rule begin tokens reader.old → Gathers rule begin options tokens gathering.old
+        → OnOk result (Gathers rule begin options (tokens ++ tokens_found (option_map spanned_view slot.new)) gathering.new) }
+    ensures told { IfOk result (λ more. more ≡ is_some slot.new) }
+    ensures fewer { IfOk result (λ more. more ≡ true → most_tokens (lexer_state reader.new.lexer) < most_tokens (lexer_state reader.old.lexer)) }
+    ensures ready { IfOk result (λ more. more ≡ true → IsReady reader.new) }
+{
+    if !reader.read_into(slot)? {
+        return Ok(false);
+    }
+    if let Some(token) = slot {
+        let kept = Kept::of(token);
+        let region = region_read(reader, kept.kind)?;
+        gathering.take(&ModuleToken { kept, region })?;
+    }
+    Ok(true)
+}
