@@ -23,5 +23,5 @@ abbrev pub module_tokens : SlashRule → Session → List SpannedView → List M
 module_tokens rule begin tokens = module_tokens_behind rule begin [] tokens
 
 -- what they tell was gathered
-abbrev pub Gathers : SlashRule → Session → ModuleOptions → List SpannedView → GatheringView → Type 0
-Gathers rule begin options tokens g = g ≡ gathered options (module_tokens rule begin tokens)
+abbrev pub Gathers : SlashRule → Session → ModuleOptions → GatheringView → List SpannedView → Type 0
+Gathers rule begin options g tokens = g ≡ gathered options (module_tokens rule begin tokens)
