@@ -9,7 +9,7 @@ use Rattle.ecma_module_table.specs.declared.rows.Import.{Import}
 use Rattle.ecma_module_table.specs.declared.rows.ModuleOptions.{ModuleOptions}
 use Rattle.ecma_module_table.specs.declared.rows.Phase.{Phase}
 use Rattle.ecma_module_table.specs.declared.rows.Phase.TheVariants as phase
-use Rattle.ecma_modules.specs.Readings.{module_tokens}
+use Rattle.ecma_module_reader.specs.Readings.{module_tokens}
 use Rattle.ecma_modules.specs.declared.region.ModuleToken.{ModuleToken}
 use Rattle.ecma_print.specs.Rows.{ImportView, exported, imported}
 use Rattle.ecma_reader.specs.Readers.{tokens_by}

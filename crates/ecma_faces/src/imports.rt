@@ -2,7 +2,7 @@
 ghost use Rattle.std.specs.Prelude.{◌≡◌, ◌++◌, ◌<◌, ◌^◌, List, [], false, length, map, ℕ, IfOk, OnOk};
 ghost use Rattle.ecma_module_table.specs.declared.rows.ModuleOptions.{ModuleOptions};
 ghost use Rattle.ecma_modules.specs.Modules.{exports_of, gathered, imports_of};
-ghost use Rattle.ecma_modules.specs.Readings.{module_tokens};
+ghost use Rattle.ecma_module_reader.specs.Readings.{module_tokens};
 ghost use Rattle.ecma_state.specs.Session.{Session};
 ghost use Rattle.ecma_reader.specs.Rereads.{SlashRule};
 ghost use Rattle.ecma_token.specs.View.{error_view};
@@ -21,7 +21,8 @@ ghost use Rattle.ecma_report.specs.Unmet.{unmet_by};
 use crate::errors::tell_errors;
 use ecma_command::words::{Asked, Named};
 use ecma_module_table::rows::{Export, Form, Import, ModuleOptions, Phase};
-use ecma_modules::{Gathering, Module, gather_next};
+use ecma_module_reader::gather_next;
+use ecma_modules::{Gathering, Module};
 use ecma_print::row::Imported;
 use ecma_reader::Reader;
 use ecma_report::faults::keep_error;

@@ -12,7 +12,6 @@ use Rattle.ecma_role_table.specs.declared.frame.FrameKind.{FrameKind}
 use Rattle.ecma_role_table.specs.declared.frame.FrameKind.TheVariants as frame
 use Rattle.ecma_role_table.specs.declared.state.State.{State}
 use Rattle.ecma_role_table.specs.declared.state.State.TheVariants as state
-use Rattle.ecma_slashes.specs.declared.decider.Expected.{Expected}
 use Rattle.ecma_module_table.specs.Parts.{part_of}
 use Rattle.ecma_module_table.specs.declared.part.Part.{Part}
 use Rattle.ecma_module_table.specs.declared.part.Part.TheVariants as part
@@ -37,18 +36,14 @@ in_expression (Some frame.Candidate) = region.Arguments
 in_expression (Some frame.AsyncCandidate) = region.Arguments
 in_expression top = region.Code
 
-abbrev pub region_in : State → Option FrameKind → Region
-region_in state.Member top = region.Name
-region_in state.Key top = region.Name
-region_in state.TypeOperand top = region.Type
-region_in state.TypeBrackets top = in_type_brackets top
-region_in state.ImportExpression top = in_expression top
-region_in other top = region.Code
-
--- behind an `import`
-abbrev pub region_behind : Option Expected → Region
-region_behind None = region.Code
-region_behind (Some e) = region_in e.state e.top
+-- by the state of a track behind an `import`, and the innermost bracket or mark
+abbrev pub region_behind : State → Option FrameKind → Region
+region_behind state.Member top = region.Name
+region_behind state.Key top = region.Name
+region_behind state.TypeOperand top = region.Type
+region_behind state.TypeBrackets top = in_type_brackets top
+region_behind state.ImportExpression top = in_expression top
+region_behind other top = region.Code
 
 -- The token before
 
@@ -95,9 +90,10 @@ word_behind region.Arguments before = if begins_argument before then word.Import
 
 -- Tokens
 
-abbrev pub is_import : TokenKind → Bool
-is_import (kind.Word (a_word.Keyword keyword.Import)) = true
-is_import k = false
+-- an `import`, of which alone the region is asked for
+abbrev pub is_asked : TokenKind → Bool
+is_asked (kind.Word (a_word.Keyword keyword.Import)) = true
+is_asked k = false
 
 -- a text begins with a declaration or an expression
 abbrev pub import_in : Region → Option TokenKind → Word
@@ -111,7 +107,3 @@ with_region r before p = p
 -- what a token is behind the token before, if there is one
 abbrev pub part_in : ModuleToken → Option TokenKind → Part
 part_in token before = with_region token.region before (part_of token.kept.kind token.kept.span)
-
--- nothing is asked of what is expected, but behind an `import`
-abbrev pub region_of : TokenKind → Option Expected → Region
-region_of k expected = if is_import k then region_behind expected else region.Code

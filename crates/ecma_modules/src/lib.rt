@@ -1,7 +1,7 @@
 //! Imports and exports as rows, by tokens alone: no text is read, and no tree is made.
 //!
-//! [`module_of`] returns all rows for a list of tokens. [`Gathering`] takes one token after another, for who keeps no list:
-//! [`gather_next`] reads the next one and has it taken. [`Scan`] returns each row as soon as it is complete: `step` for each
+//! [`module_of`] returns all rows for a list of tokens. [`Gathering`] takes one token after another, for who keeps no list
+//! (`ecma_module_reader` has it take what a reader reads). [`Scan`] returns each row as soon as it is complete: `step` for each
 //! token, then `end`, then `end_call` until it returns none. A row of [`Import`] has the string that names the module, by its place
 //! and by the number of its token, whose value it is; the statement; of a call its first argument; attributes; and
 //! which rows of exports are its own. A row of [`Export`] has the exported name and the name in the module. From these follow
@@ -10,11 +10,11 @@
 //! each name that a declaration of variables binds, also by a pattern (`export const { a, b: [c] } = d`).
 //!
 //! What an `import` is goes by the [`Region`] of its token ([`ModuleToken`]): the name of a member or key is no import, and
-//! a call that stands where a type does imports types alone. `gather_next` has the region from what is expected there, where
-//! the reader names slashes by role; where nothing is known of that, each `import(` is a call that evaluates a module.
+//! a call that stands where a type does imports types alone. A track of the tokens (`ecma_roles`) says what is expected behind
+//! an `import`, and that its region; where nothing is known of that, each `import(` is a call that evaluates a module.
 //!
 //! `ecma_module_table` has what each token says and changes. `specs/` has regions (`Regions`) and open calls (`Calls`), above
-//! them the machine (`Known`, `Scans`) and all rows of a text (`Modules`), and the tokens of a text that is read (`Readings`).
+//! them the machine (`Known`, `Scans`) and all rows of a text (`Modules`).
 //! Promised: code and definitions agree, the rows of a text's beginning don't change with what follows, and each row lies
 //! within the tokens up to the one that completes it, its parts within its statement (`laws.rt`, `Places`).
 //!
@@ -29,7 +29,6 @@ mod calls;
 mod known;
 pub mod laws;
 mod module;
-mod reading;
 mod region;
 mod scan;
 mod statement;
@@ -38,6 +37,5 @@ pub use ecma_module_table::rows::{
     Argument, Export, Form, Import, ImportTold, ModuleOptions, Phase, Specifier, Told,
 };
 pub use module::{Gathering, Module, module_of};
-pub use reading::gather_next;
 pub use region::{ModuleToken, Region};
 pub use scan::Scan;

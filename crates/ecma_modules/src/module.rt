@@ -69,7 +69,7 @@ fn take_calls(imports: &mut Vec<Import>, scan: &mut Scan) -> Result<(), AllocErr
 }
 
 /// Gathers what the tokens of a text import and export, one after another, for who reads a text and keeps no list of its tokens:
-/// `take` for each token, or [`gather_next`](crate::gather_next) for each that a reader reads, then `finish`.
+/// `take` for each token, then `finish`.
 #[derive(Drop)]
 pub struct Gathering {
     scan: Scan,

@@ -3,7 +3,6 @@ ghost use Rattle.std.specs.Prelude.{◌≡◌};
 ghost use Rattle.ecma_modules.specs.Regions as regions;
 
 use ecma_module_table::part::{Part, Word};
-use ecma_reader::Expected;
 use ecma_role_table::frame::FrameKind;
 use ecma_role_table::state::State;
 use ecma_state::Kept;
@@ -105,27 +104,24 @@ fn begins_argument(before: TokenKind) -> bool
     }
 }
 
-/// Whether the token of this kind is an `import`.
-#[inline]
-pub(crate) fn is_import(kind: TokenKind) -> bool
-    ensures { result ≡ regions.is_import kind }
-{
-    matches!(kind, TokenKind::Word(WordKind::Keyword(Keyword::Import)))
-}
-
 impl Region {
-    /// What an `import` is, by what is expected behind it.
-    pub fn behind(expected: Option<Expected>) -> Region
-        ensures { result ≡ regions.region_behind expected }
+    /// Whether the region of a token of this kind is asked for: of an `import` alone.
+    #[inline]
+    pub fn is_asked(kind: TokenKind) -> bool
+        ensures { result ≡ regions.is_asked kind }
     {
-        let Some(expected) = expected else {
-            return Region::Code;
-        };
-        match expected.state {
+        matches!(kind, TokenKind::Word(WordKind::Keyword(Keyword::Import)))
+    }
+
+    /// What an `import` is, by the state of a track behind it, and the innermost bracket that is open there, or mark.
+    pub fn behind(state: State, top: Option<FrameKind>) -> Region
+        ensures { result ≡ regions.region_behind state top }
+    {
+        match state {
             State::Member | State::Key => Region::Name,
             State::TypeOperand => Region::Type,
-            State::TypeBrackets => in_type_brackets(expected.top),
-            State::ImportExpression => in_expression(expected.top),
+            State::TypeBrackets => in_type_brackets(top),
+            State::ImportExpression => in_expression(top),
             _ => Region::Code,
         }
     }

@@ -14,7 +14,7 @@ use Rattle.ecma_module_table.specs.declared.rows.Phase.TheVariants as phase
 use Rattle.ecma_module_table.specs.declared.rows.Specifier.{Specifier}
 use Rattle.ecma_modules.specs.Modules as modules
 use Rattle.ecma_modules.specs.Modules.{exports_of, imports_of}
-use Rattle.ecma_modules.specs.Readings.{module_tokens}
+use Rattle.ecma_module_reader.specs.Readings.{module_tokens}
 use Rattle.ecma_modules.specs.declared.module.Module.{Module}
 use Rattle.ecma_modules.specs.declared.region.ModuleToken.{ModuleToken}
 use Rattle.ecma_reader.specs.Readers.{tokens_by}

@@ -2,7 +2,7 @@
 ghost use Rattle.std.specs.Prelude.{◌≡◌, Ok, [], false, map, IfOk, OnErr, OnOk};
 ghost use Rattle.ecma_module_table.specs.declared.rows.ModuleOptions.{ModuleOptions};
 ghost use Rattle.ecma_modules.specs.Modules.{gathered};
-ghost use Rattle.ecma_modules.specs.Readings.{module_tokens};
+ghost use Rattle.ecma_module_reader.specs.Readings.{module_tokens};
 ghost use Rattle.ecma_state.specs.Session.{Session};
 ghost use Rattle.ecma_reader.specs.Rereads.{SlashRule};
 ghost use Rattle.ecma_reader.specs.Readers.{HasRead, IsReady, Shows, tokens_by};
@@ -17,7 +17,8 @@ use crate::outcome::{Status, status_of};
 use crate::request::{Asked, judge, places};
 use crate::room::put;
 use ecma_module_table::rows::{Export, Import, ModuleOptions};
-use ecma_modules::{Gathering, Module, gather_next};
+use ecma_module_reader::gather_next;
+use ecma_modules::{Gathering, Module};
 use ecma_reader::Reader;
 use ecma_slot::Slot;
 use std::alloc::{AllocError, Global};

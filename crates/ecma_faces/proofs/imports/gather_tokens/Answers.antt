@@ -1,8 +1,8 @@
 use Rattle.std.proofs.Common.{ap, map}
 use Rattle.std.specs.Prelude.{option_map}
 use Rattle.ecma_token.specs.View.{SpannedView, error_view, refusal_of, spanned_view}
-use Rattle.ecma_modules.specs.Readings.{Gathers}
-use Rattle.ecma_modules.proofs.TokenLemmas.{gathers-end, gathers-next}
+use Rattle.ecma_module_reader.specs.Readings.{Gathers}
+use Rattle.ecma_module_reader.proofs.TokenLemmas.{gathers-end, gathers-next}
 use Rattle.ecma_reader.specs.Readers.{FlatMaps}
 use Rattle.ecma_reader.proofs.FoldLemmas.{flat_mapped-next, told-end, told-start}
 use Rattle.ecma_faces.proofs.imports.gather_tokens.Goals as goal

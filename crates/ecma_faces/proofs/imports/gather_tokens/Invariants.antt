@@ -3,7 +3,7 @@ use Rattle.std.proofs.Common.{◌≡◌, [], map}
 use Rattle.ecma_token.specs.View.{error_view, refusal_of}
 use Rattle.ecma_module_table.specs.declared.rows.ModuleOptions.{ModuleOptions}
 use Rattle.ecma_modules.specs.Modules.{gathered}
-use Rattle.ecma_modules.specs.Readings.{Gathers}
+use Rattle.ecma_module_reader.specs.Readings.{Gathers}
 use Rattle.ecma_state.specs.Session.{Session, lexer_state}
 use Rattle.ecma_state.specs.Ending.{most_tokens}
 use Rattle.ecma_reader.specs.Rereads.{SlashRule}

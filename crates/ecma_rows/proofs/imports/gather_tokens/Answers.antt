@@ -1,7 +1,7 @@
 use Rattle.std.specs.Prelude.{option_map}
 use Rattle.ecma_token.specs.View.{spanned_view}
-use Rattle.ecma_modules.specs.Readings.{Gathers}
-use Rattle.ecma_modules.proofs.TokenLemmas.{gathers-end, gathers-next}
+use Rattle.ecma_module_reader.specs.Readings.{Gathers}
+use Rattle.ecma_module_reader.proofs.TokenLemmas.{gathers-end, gathers-next}
 use Rattle.ecma_reader.proofs.FoldLemmas.{told-start}
 use Rattle.ecma_rows.proofs.imports.gather_tokens.Goals as goal
 

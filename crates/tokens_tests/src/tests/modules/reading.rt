@@ -1,7 +1,8 @@
 //! The tokens of a text, and what they import and export.
 ghost use Rattle.ecma_reader.specs.Readers.{IsReady};
 
-use ecma_modules::{Gathering, Module, ModuleOptions, gather_next};
+use ecma_module_reader::gather_next;
+use ecma_modules::{Gathering, Module, ModuleOptions};
 use ecma_place::{BytePos, StringInput};
 use ecma_reader::{Reader, Slashes};
 use ecma_slot::Slot;

@@ -8,7 +8,7 @@ use Rattle.ecma_reader.specs.Readers.{HasRead, Reads, Tells, expected_behind, to
 use Rattle.ecma_reader.specs.declared.reader.Reader.{Reader}
 use Rattle.ecma_module_table.specs.declared.rows.ModuleOptions.{ModuleOptions}
 use Rattle.ecma_modules.specs.Modules.{GatheringView, gathered, gathered_with}
-use Rattle.ecma_modules.specs.Readings.{Gathers, module_token, module_tokens, module_tokens_behind}
+use Rattle.ecma_module_reader.specs.Readings.{Gathers, module_token, module_tokens, module_tokens_behind}
 use Rattle.ecma_modules.proofs.GoOnLemmas.{gathered-on}
 
 tokens-on : (rule : SlashRule) (begin : Session) (before xs : List SpannedView) (t : SpannedView)

@@ -1,34 +1,43 @@
 //! A text that is read, and what is gathered of it.
 ghost use Rattle.std.specs.Prelude.{◌≡◌, ◌<◌, ◌∷◌, ◌++◌, List, [], is_some, option_map, true, IfOk, OnOk};
 ghost use Rattle.ecma_module_table.specs.declared.rows.ModuleOptions.{ModuleOptions};
-ghost use Rattle.ecma_modules.specs.Readings.{Gathers};
-ghost use Rattle.ecma_modules.specs.Regions as regions;
+ghost use Rattle.ecma_module_reader.specs.Readings as readings;
+ghost use Rattle.ecma_module_reader.specs.Readings.{Gathers};
 ghost use Rattle.ecma_reader.specs.Readers.{Goes, IsReady, Reads, Shows, expected_behind, tokens_found};
 ghost use Rattle.ecma_reader.specs.Rereads.{SlashRule};
 ghost use Rattle.ecma_state.specs.Ending.{most_tokens};
 ghost use Rattle.ecma_state.specs.Session.{Session, lexer_state};
 ghost use Rattle.ecma_token.specs.View.{SpannedView, spanned_view};
 
-use crate::module::Gathering;
-use crate::region::{ModuleToken, Region, is_import};
-use ecma_reader::Reader;
+use ecma_modules::{Gathering, ModuleToken, Region};
+use ecma_reader::{Expected, Reader};
 use ecma_state::Kept;
 use ecma_token::{TokenAndSpan, TokenKind};
 use std::alloc::AllocError;
+
+/// The region of an `import`, by what is expected behind it, as far as that is known.
+fn region_expected(expected: Option<Expected>) -> Region
+    ensures { result ≡ readings.region_expected expected }
+{
+    match expected {
+        Some(expected) => Region::behind(expected.state, expected.top),
+        None => Region::Code,
+    }
+}
 
 /// The region of the token of this kind that was read last.
 #[inline]
 fn region_read(reader: &mut Reader, kind: TokenKind) -> Result<Region, AllocError>
     ensures region { (rule : SlashRule) (begin : Session) (tokens : List SpannedView) → Shows rule begin tokens reader.old
-        → IfOk result (λ region. region ≡ regions.region_of kind (expected_behind rule begin tokens)) }
+        → IfOk result (λ region. region ≡ readings.region_of kind (expected_behind rule begin tokens)) }
     ensures shows { (rule : SlashRule) (begin : Session) (tokens : List SpannedView) → Shows rule begin tokens reader.old → Shows rule begin tokens reader.new }
     ensures ready { IsReady reader.old → IsReady reader.new }
     ensures same { lexer_state reader.new.lexer ≡ lexer_state reader.old.lexer }
 {
-    if !is_import(kind) {
+    if !Region::is_asked(kind) {
         return Ok(Region::Code);
     }
-    Ok(Region::behind(reader.expected()?))
+    Ok(region_expected(reader.expected()?))
 }
 
 /// Takes the token that a reader read last.
