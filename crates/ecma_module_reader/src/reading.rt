@@ -55,7 +55,8 @@ fn take_token(
 {
     let kept = Kept::of(token);
     let region = region_read(reader, kept.kind)?;
-    gathering.take(&ModuleToken { kept, region })
+    gathering.take(&ModuleToken { kept, region })?;
+    Ok(())
 }
 
 /// Takes what a reader read last, if there is a token.

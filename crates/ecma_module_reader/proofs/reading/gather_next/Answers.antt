@@ -10,7 +10,7 @@ returns-clause-reads c = λ rule begin tokens shows.
 
 pub returns-clause-gathers : goal.returns-clause-gathers
 returns-clause-gathers c = λ rule begin tokens options shows so.
-    c.in_ok-take_read.ensures rule begin tokens options (c.in_ok-more.ensures.reads rule begin tokens shows).goes so
+    c.in_ok-take_read.ensures.gathers rule begin tokens options (c.in_ok-more.ensures.reads rule begin tokens shows).goes so
 
 pub returns-clause-ready : goal.returns-clause-ready
 returns-clause-ready c = λ more. c.take_read.ensures.ready (c.in_ok-more.ensures.ready more)
