@@ -1,5 +1,5 @@
 -- Calls of `import` whose parentheses are open (ECMA-262, 13.3.10)
-use Rattle.std.specs.Prelude.{ℕ, ◌&&◌, ◌∷◌, Bool, false, List, [], Option, Some, None, not, nat_lt, if◌then◌else◌}
+use Rattle.std.specs.Prelude.{ℕ, ◌&&◌, ◌∷◌, Bool, List, [], Option, Some, None, not, nat_lt, if◌then◌else◌}
 use Rattle.ecma_span.specs.declared.place.BytePos.{BytePos}
 use Rattle.ecma_span.specs.declared.place.Span.{Span}
 use Rattle.ecma_modules.specs.declared.calls.At.{At}

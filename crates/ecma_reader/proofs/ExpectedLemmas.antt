@@ -1,12 +1,13 @@
 -- What is expected behind the tokens that were read.
-use Rattle.std.proofs.Common.{◌≡◌, ◌∙◌, ℕ, zero, suc, ◌+◌, Bool, true, false, List, [], ◌++◌, append-nil, map, refl, sym, ap}
+use Rattle.std.proofs.Common.{◌≡◌, ◌∙◌, ℕ, zero, suc, ◌+◌, Bool, true, false, List, append-nil, map, refl, sym, ap}
+use Rattle.std.specs.Prelude.{IfOk, Result, Ok, Err}
 use Rattle.std.proofs.lemmas.List.Sums.{fold-append}
 use Rattle.ecma_syntax.specs.Questions.{typescript}
 use Rattle.ecma_token.specs.View.{SpannedView}
 use Rattle.ecma_roles.specs.Track as tracks
 use Rattle.ecma_state.specs.Run.{act_all, act_on}
 use Rattle.ecma_state.specs.Session.{Session, has_ended}
-use Rattle.ecma_slashes.specs.Known.{Known, expected_next, leading}
+use Rattle.ecma_slashes.specs.Known.{expected_next, leading}
 use Rattle.ecma_slashes.specs.Rereads.{SlashRule, all_by, at_places, behind_by, by_flag, by_role, is_in_order, known_by, known_to, numbered, rule_of, steps_by, unless_ended}
 use Rattle.ecma_slashes.specs.Roles.{part_in, tokens_kept}
 use Rattle.ecma_slashes.specs.declared.decider.Decider.{Decider}
@@ -89,3 +90,8 @@ shows-caught-up rule begin tokens reader decider same follows shows =
       are_kept = shows.are_kept;
       counted = shows.counted;
     }
+
+-- what is told is told by another name
+pub told-if : {T E : Type 0} (result : Result T E) (one other : T) → one ≡ other → IfOk result (λ v. v ≡ one) → IfOk result (λ v. v ≡ other)
+told-if (Ok v) one other same told = told ∙ same
+told-if (Err e) one other same told = tt

@@ -1,6 +1,3 @@
-use Rattle.std.proofs.Common.{◌≡◌, ◌∙◌, ap, subst, sym}
-use Rattle.std.specs.Prelude.{option_map}
-use Rattle.ecma_token.specs.View.{spanned_view}
 use Rattle.ecma_module_reader.proofs.reading.gather_next.Goals as goal
 
 pub returns-clause-reads : goal.returns-clause-reads
