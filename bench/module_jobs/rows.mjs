@@ -9,7 +9,7 @@ import { fileURLToPath } from 'node:url';
 const HERE = path.dirname(fileURLToPath(import.meta.url));
 const TOP = path.dirname(path.dirname(HERE));
 const CRATE = 'printed_modules';
-const USES = 'ecma_place ecma_state ecma_slashes ecma_reader ecma_modules ecma_options ecma_stdio';
+const USES = 'ecma_place ecma_state ecma_slashes ecma_reader ecma_modules ecma_module_reader ecma_options ecma_stdio';
 
 export const PACKAGES = process.env.PACKAGES ?? '/usr/share/nodejs';
 export const SEED = Number(process.env.SEED ?? 1);

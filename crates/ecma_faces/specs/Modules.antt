@@ -1,8 +1,6 @@
 -- Rows of what is imported and exported.
-use Rattle.std.specs.Prelude.{ℕ, List, Bool, true, false, Option, Some, None, codes, flat_map, map}
+use Rattle.std.specs.Prelude.{ℕ, List, Bool, true, false, Option, Some, None, codes, flat_map}
 use Rattle.ecma_place.specs.declared.place.Span.{Span}
-use Rattle.ecma_state.specs.Session.{kept_of}
-use Rattle.ecma_state.specs.declared.kept.Kept.{Kept}
 use Rattle.ecma_module_table.specs.Rows.{named_at}
 use Rattle.ecma_module_table.specs.declared.rows.Export.{Export}
 use Rattle.ecma_module_table.specs.declared.rows.Form.{Form}
@@ -11,6 +9,8 @@ use Rattle.ecma_module_table.specs.declared.rows.Import.{Import}
 use Rattle.ecma_module_table.specs.declared.rows.ModuleOptions.{ModuleOptions}
 use Rattle.ecma_module_table.specs.declared.rows.Phase.{Phase}
 use Rattle.ecma_module_table.specs.declared.rows.Phase.TheVariants as phase
+use Rattle.ecma_module_reader.specs.Readings.{module_tokens}
+use Rattle.ecma_modules.specs.declared.region.ModuleToken.{ModuleToken}
 use Rattle.ecma_print.specs.Rows.{ImportView, exported, imported}
 use Rattle.ecma_reader.specs.Readers.{tokens_by}
 use Rattle.ecma_report.specs.Rows.{Look, part_at, row_of}
@@ -24,8 +24,8 @@ abbrev pub module_options : Asked → ModuleOptions
 module_options asked = record { typescript = asked.options.typescript; commonjs = asked.commonjs }
 
 -- the tokens of a text, read as it is asked for
-abbrev pub kept_by : Named → Look → List ℕ → List Kept
-kept_by named l text = map kept_of (tokens_by (rule_at named) (begun l.asked text))
+abbrev pub tokens_of : Named → Look → List ℕ → List ModuleToken
+tokens_of named l text = module_tokens (rule_at named) (begun l.asked text) (tokens_by (rule_at named) (begun l.asked text))
 
 -- Imports
 

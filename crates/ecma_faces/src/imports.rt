@@ -2,7 +2,8 @@
 ghost use Rattle.std.specs.Prelude.{◌≡◌, ◌++◌, ◌<◌, ◌^◌, List, [], false, length, map, ℕ, IfOk, OnOk};
 ghost use Rattle.ecma_module_table.specs.declared.rows.ModuleOptions.{ModuleOptions};
 ghost use Rattle.ecma_modules.specs.Modules.{exports_of, gathered, imports_of};
-ghost use Rattle.ecma_state.specs.Session.{Session, kept_of};
+ghost use Rattle.ecma_module_reader.specs.Readings.{module_tokens};
+ghost use Rattle.ecma_state.specs.Session.{Session};
 ghost use Rattle.ecma_reader.specs.Rereads.{SlashRule};
 ghost use Rattle.ecma_token.specs.View.{error_view};
 ghost use Rattle.ecma_reader.specs.Outputs.{errors_among};
@@ -10,7 +11,7 @@ ghost use Rattle.ecma_reader.specs.Readers.{HasRead, IsReady, Shows, tokens_by};
 ghost use Rattle.ecma_print.specs.Rows.{text_behind};
 ghost use Rattle.ecma_faces.specs.Whole.{errors_told};
 ghost use Rattle.ecma_faces.specs.Modules as rows;
-ghost use Rattle.ecma_faces.specs.Modules.{export_rows, import_rows, kept_by};
+ghost use Rattle.ecma_faces.specs.Modules.{export_rows, import_rows, tokens_of};
 ghost use Rattle.ecma_report.specs.FaultLines.{OfFaults};
 ghost use Rattle.ecma_report.specs.Runs.{read_to};
 ghost use Rattle.ecma_report.specs.Reports.{Adds, IsOf, IsStill, Stays, writes_errors};
@@ -20,6 +21,7 @@ ghost use Rattle.ecma_report.specs.Unmet.{unmet_by};
 use crate::errors::tell_errors;
 use ecma_command::words::{Asked, Named};
 use ecma_module_table::rows::{Export, Form, Import, ModuleOptions, Phase};
+use ecma_module_reader::gather_next;
 use ecma_modules::{Gathering, Module};
 use ecma_print::row::Imported;
 use ecma_reader::Reader;
@@ -134,15 +136,14 @@ fn gather_tokens<'a>(
 ) -> Result<(), AllocError>
     requires ready { IsReady reader.old }
     ensures gathered { (rule : SlashRule) (begin : Session) (options : ModuleOptions) → Shows rule begin [] reader.old → gathering.old ≡ gathered options []
-        → OnOk result (gathering.new ≡ gathered options (map kept_of (tokens_by rule begin))) }
+        → OnOk result (gathering.new ≡ gathered options (module_tokens rule begin (tokens_by rule begin))) }
     ensures kept { (rule : SlashRule) (begin : Session) → Shows rule begin [] reader.old → errors.old.items ≡ []
         → OnOk result (map error_view errors.new.items ≡ errors_among (tokens_by rule begin)) }
     ensures read { (rule : SlashRule) (begin : Session) → Shows rule begin [] reader.old → errors.old.items ≡ []
         → OnOk result (HasRead rule begin reader.new) }
 {
     let mut slot = Slot::new();
-    'tokens: while reader.read_into(&mut slot.token)? {
-        gathering.take_read(&slot.token)?;
+    'tokens: while gather_next(gathering, reader, &mut slot.token)? {
         keep_error(errors, &mut slot.token)?;
     }
     Ok(())
@@ -166,9 +167,9 @@ fn read_module<'a, W: Write>(
 ) -> Result<Module, Stop>
     requires { length report.old.text.now < 2 ^ 32 }
     ensures imports { (look : Look) (name text : List ℕ) → IsOf look name text report.old
-        → IfOk result (λ m. m.imports.items ≡ imports_of (rows.module_options look.asked) (kept_by named.entry look text)) }
+        → IfOk result (λ m. m.imports.items ≡ imports_of (rows.module_options look.asked) (tokens_of named.entry look text)) }
     ensures exports { (look : Look) (name text : List ℕ) → IsOf look name text report.old
-        → IfOk result (λ m. m.exports.items ≡ exports_of (rows.module_options look.asked) (kept_by named.entry look text)) }
+        → IfOk result (λ m. m.exports.items ≡ exports_of (rows.module_options look.asked) (tokens_of named.entry look text)) }
     ensures nothing { writes_errors report.old.asked.face ≡ false
         → OnOk result (Adds (W.contents out.old) (W.contents out.new) report.old.out.items report.new.out.items []) }
     ensures lines { (look : Look) (name text : List ℕ) → IsOf look name text report.old
@@ -195,7 +196,7 @@ pub(crate) fn write_imports<'a, W: Write>(
     requires { length report.old.text.now < 2 ^ 32 }
     ensures adds { (look : Look) (name text : List ℕ) → IsOf look name text report.old → writes_errors look.asked.face ≡ false
         → OnOk result (Adds (W.contents out.old) (W.contents out.new) report.old.out.items report.new.out.items
-        (import_rows look name text (imports_of (rows.module_options look.asked) (kept_by named.entry look text)))) }
+        (import_rows look name text (imports_of (rows.module_options look.asked) (tokens_of named.entry look text)))) }
     ensures lines { (look : Look) (name text : List ℕ) → IsOf look name text report.old
         → OnOk result (OfFaults (unmet_by false named.entry look name text) look name text (errors_told (read_to false named.entry look text)) report.old report.new) }
 {
@@ -213,7 +214,7 @@ pub(crate) fn write_exports<'a, W: Write>(
     requires { length report.old.text.now < 2 ^ 32 }
     ensures adds { (look : Look) (name text : List ℕ) → IsOf look name text report.old → writes_errors look.asked.face ≡ false
         → OnOk result (Adds (W.contents out.old) (W.contents out.new) report.old.out.items report.new.out.items
-        (export_rows look name text (exports_of (rows.module_options look.asked) (kept_by named.entry look text)))) }
+        (export_rows look name text (exports_of (rows.module_options look.asked) (tokens_of named.entry look text)))) }
     ensures lines { (look : Look) (name text : List ℕ) → IsOf look name text report.old
         → OnOk result (OfFaults (unmet_by false named.entry look name text) look name text (errors_told (read_to false named.entry look text)) report.old report.new) }
 {

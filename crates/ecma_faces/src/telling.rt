@@ -6,7 +6,7 @@ ghost use Rattle.ecma_reader.specs.Readers.{tokens_by};
 ghost use Rattle.ecma_modules.specs.Modules.{exports_of, imports_of};
 ghost use Rattle.ecma_faces.specs.Comments.{comment_rows, comments_by};
 ghost use Rattle.ecma_report.specs.Errors.{OfRowsByPlace, errors_by};
-ghost use Rattle.ecma_faces.specs.Modules.{export_rows, import_rows, kept_by, module_options};
+ghost use Rattle.ecma_faces.specs.Modules.{export_rows, import_rows, module_options, tokens_of};
 ghost use Rattle.ecma_faces.specs.Pieces.{piece_rows, pieces_by};
 ghost use Rattle.ecma_faces.specs.Whole.{OfCanon, OfHtml, OfShown, errors_told, plainly, steps_by};
 ghost use Rattle.ecma_report.specs.FaultLines.{OfFaults, OfUnmet, has_fault, tells_faults};
@@ -39,9 +39,9 @@ fn write_face<'a, W: Write>(
     ensures tokens { (look : Look) (name text : List ℕ) → IsOf look name text report.old → look.asked.face ≡ face.Tokens
         → OnOk result (Adds (W.contents out.old) (W.contents out.new) report.old.out.items report.new.out.items (token_rows look name text None (tokens_by (rule_at named.entry) (begun look.asked text)))) }
     ensures imports { (look : Look) (name text : List ℕ) → IsOf look name text report.old → look.asked.face ≡ face.Imports
-        → OnOk result (Adds (W.contents out.old) (W.contents out.new) report.old.out.items report.new.out.items (import_rows look name text (imports_of (module_options look.asked) (kept_by named.entry look text)))) }
+        → OnOk result (Adds (W.contents out.old) (W.contents out.new) report.old.out.items report.new.out.items (import_rows look name text (imports_of (module_options look.asked) (tokens_of named.entry look text)))) }
     ensures exports { (look : Look) (name text : List ℕ) → IsOf look name text report.old → look.asked.face ≡ face.Exports
-        → OnOk result (Adds (W.contents out.old) (W.contents out.new) report.old.out.items report.new.out.items (export_rows look name text (exports_of (module_options look.asked) (kept_by named.entry look text)))) }
+        → OnOk result (Adds (W.contents out.old) (W.contents out.new) report.old.out.items report.new.out.items (export_rows look name text (exports_of (module_options look.asked) (tokens_of named.entry look text)))) }
     ensures comments { (look : Look) (name text : List ℕ) → IsOf look name text report.old → look.asked.face ≡ face.Comments
         → OnOk result (Adds (W.contents out.old) (W.contents out.new) report.old.out.items report.new.out.items (comment_rows look name text (comments_by named.entry look text))) }
     ensures errors { (look : Look) (name text : List ℕ) → IsOf look name text report.old → look.asked.face ≡ face.Errors
@@ -95,9 +95,9 @@ pub fn tell<'a, W: Write>(
         → OnOk result (Appends (W.contents out.old) (W.contents out.new) (report.old.out.items ++ token_rows look name text None (tokens_by (rule_at named.entry) (begun look.asked text)))) }
     // Where imports or exports are asked for, it is the row of each, in the order in which they begin.
     ensures imports { (look : Look) (name text : List ℕ) → IsOf look name text report.old → look.asked.face ≡ face.Imports
-        → OnOk result (Appends (W.contents out.old) (W.contents out.new) (report.old.out.items ++ import_rows look name text (imports_of (module_options look.asked) (kept_by named.entry look text)))) }
+        → OnOk result (Appends (W.contents out.old) (W.contents out.new) (report.old.out.items ++ import_rows look name text (imports_of (module_options look.asked) (tokens_of named.entry look text)))) }
     ensures exports { (look : Look) (name text : List ℕ) → IsOf look name text report.old → look.asked.face ≡ face.Exports
-        → OnOk result (Appends (W.contents out.old) (W.contents out.new) (report.old.out.items ++ export_rows look name text (exports_of (module_options look.asked) (kept_by named.entry look text)))) }
+        → OnOk result (Appends (W.contents out.old) (W.contents out.new) (report.old.out.items ++ export_rows look name text (exports_of (module_options look.asked) (tokens_of named.entry look text)))) }
     // Where comments are asked for, it is the row of each, in the order in which they are handed over.
     ensures comments { (look : Look) (name text : List ℕ) → IsOf look name text report.old → look.asked.face ≡ face.Comments
         → OnOk result (Appends (W.contents out.old) (W.contents out.new) (report.old.out.items ++ comment_rows look name text (comments_by named.entry look text))) }

@@ -121,6 +121,7 @@ if_so false s c = (stage.Nothing, change.Other)
 -- the stage behind a token that may begin something, and what it changes
 abbrev pub begun : Seen → Part → Stage × Change
 begun seen (part.Word word.Import) = (import_begun (seen.depth == 0), change.Begin)
+begun seen (part.Word word.ImportType) = (stage.Inside, change.BeginType)
 begun seen (part.Word word.Export) = if_so (seen.depth == 0) stage.Export change.BeginExport
 begun seen (part.Word word.Declare) = if_so (seen.depth == 0) stage.Declare change.BeginOther
 begun seen (part.Word word.Require) = if_so seen.commonjs stage.Require change.BeginOther

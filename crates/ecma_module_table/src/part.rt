@@ -10,6 +10,8 @@ use ecma_word::{AssignOp, BinOpToken, IdentKind, Keyword, KnownIdent, WordKind};
 #[derive(Clone, Copy, Debug, PartialEq, Eq)]
 pub enum Word {
     Import,
+    /// `import` where a type of TypeScript begins.
+    ImportType,
     Export,
     Default,
     From,

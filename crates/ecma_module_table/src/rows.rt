@@ -66,7 +66,8 @@ pub struct Argument {
 pub struct Import {
     pub form: Form,
     pub phase: Phase,
-    /// Whether types alone are imported or exported, as TypeScript's `type` says of the whole statement.
+    /// Whether types alone are imported or exported, as TypeScript's `type` says of the whole statement, or where a call of
+    /// `import` stands that is a type.
     pub is_type: bool,
     /// From its first token to its last; a semicolon is none of it.
     pub statement: Span,

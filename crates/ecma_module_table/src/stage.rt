@@ -123,9 +123,11 @@ pub enum Change {
     Other,
     /// A statement begins.
     Begin,
-    /// The same, and the text is a module's.
+    /// The same, of a type, so that types alone are imported.
+    BeginType,
+    /// A statement begins, and the text is a module's.
     BeginExport,
-    /// The same, of a statement that is other than an import or export.
+    /// A statement begins that is other than an import or export.
     BeginOther,
     /// Types alone are imported or exported.
     TypeOnly,

@@ -168,6 +168,7 @@ pub fn begun(seen: Seen, part: Part) -> (Stage, Change)
     let top = seen.depth == 0;
     match part {
         Part::Word(Word::Import) => (import_begun(top), Change::Begin),
+        Part::Word(Word::ImportType) => (Stage::Inside, Change::BeginType),
         Part::Word(Word::Export) => if_so(top, Stage::Export, Change::BeginExport),
         Part::Word(Word::Declare) => if_so(top, Stage::Declare, Change::BeginOther),
         Part::Word(Word::Require) => if_so(seen.commonjs, Stage::Require, Change::BeginOther),

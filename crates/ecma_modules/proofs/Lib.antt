@@ -2,4 +2,3 @@ pub mod GoOnLemmas
 pub mod PassLemmas
 pub mod PlaceLemmas
 pub mod ScanLemmas
-pub mod TokenLemmas

@@ -48,6 +48,7 @@ statement-further b q c r s bc qr lies =
 -- behind a change by a token that lies there
 pub statement-changes : (c : Change) (at : At) (exports : ℕ) (s : Statement) → at.span.lo.0 ≤ at.span.hi.0 → StatementLies at.span.lo.0 at.span.hi.0 s → StatementLies at.span.lo.0 at.span.hi.0 (statement_behind c at exports s)
 statement-changes change.Begin at exports s le lies = record { begins = omega arith; specifier = tt; attributes = (omega arith, le); name = (omega arith, le, omega arith); alias = (omega arith, le, omega arith) }
+statement-changes change.BeginType at exports s le lies = record { begins = omega arith; specifier = tt; attributes = (omega arith, le); name = (omega arith, le, omega arith); alias = (omega arith, le, omega arith) }
 statement-changes change.BeginExport at exports s le lies = record { begins = omega arith; specifier = tt; attributes = (omega arith, le); name = (omega arith, le, omega arith); alias = (omega arith, le, omega arith) }
 statement-changes change.BeginOther at exports s le lies = record { begins = omega arith; specifier = tt; attributes = (omega arith, le); name = (omega arith, le, omega arith); alias = (omega arith, le, omega arith) }
 statement-changes change.TypeOnly at exports s le lies = record { begins = lies.begins; specifier = lies.specifier; attributes = lies.attributes; name = lies.name; alias = lies.alias }

@@ -2,6 +2,7 @@
 use Rattle.std.proofs.Common.{◌≤◌, ◌++◌, ◌∷◌, ℕ, Bool, true, false, List, [], Option, Some, None, if◌then◌else◌, option_map, arith}
 use Rattle.ecma_span.specs.declared.place.Span.{Span}
 use Rattle.ecma_state.specs.declared.kept.Kept.{Kept}
+use Rattle.ecma_modules.specs.declared.region.ModuleToken.{ModuleToken}
 use Rattle.ecma_modules.specs.declared.calls.At.{At}
 use Rattle.ecma_modules.specs.declared.calls.Call.{Call}
 use Rattle.ecma_modules.specs.declared.known.Known.{Known}
@@ -178,29 +179,29 @@ pub record ScanLies (q : ℕ) (s : ScanView) : Type 0 where
 behind-lies : (b q : ℕ) (token : Kept) (at : At) (k : Known) → KnownLies b q k → Lies 0 q token.span → KnownLies b q (behind token at k)
 behind-lies b q token at k lies here = record { statement = lies.statement; variable = lies.variable; last = here }
 
-scan-step : (q : ℕ) (s : ScanView) (k : Kept) → q ≤ k.span.lo.0 → k.span.lo.0 ≤ k.span.hi.0 → ScanLies q s → ScanLies k.span.hi.0 (scanned s k)
+scan-step : (q : ℕ) (s : ScanView) (k : ModuleToken) → q ≤ k.kept.span.lo.0 → k.kept.span.lo.0 ≤ k.kept.span.hi.0 → ScanLies q s → ScanLies k.kept.span.hi.0 (scanned s k)
 scan-step q s k before le lies =
     let at = at_of s.known k in
-    let known = known-further q q k.span.lo.0 k.span.hi.0 s.known before (omega (arith, before, le)) lies.known in
-    let read = step-lies k.flag at s.known le known in
+    let known = known-further q q k.kept.span.lo.0 k.kept.span.hi.0 s.known before (omega (arith, before, le)) lies.known in
+    let read = step-lies k.kept.flag at s.known le known in
     record {
-      known = known-further k.span.lo.0 k.span.hi.0 k.span.hi.0 k.span.hi.0 (behind k at (stepped k.flag at s.known).0) le (omega arith)
-          (behind-lies k.span.lo.0 k.span.hi.0 k at (stepped k.flag at s.known).0 read.0 (omega arith, le, omega arith));
+      known = known-further k.kept.span.lo.0 k.kept.span.hi.0 k.kept.span.hi.0 k.kept.span.hi.0 (behind k.kept at (stepped k.kept.flag at s.known).0) le (omega arith)
+          (behind-lies k.kept.span.lo.0 k.kept.span.hi.0 k.kept at (stepped k.kept.flag at s.known).0 read.0 (omega arith, le, omega arith));
       calls = opens-or-steps (opens s.known at) q at s.known s.calls before le known lies.calls;
     }
 
-scan-told : (q : ℕ) (s : ScanView) (k : Kept) → q ≤ k.span.lo.0 → k.span.lo.0 ≤ k.span.hi.0 → ScanLies q s → ToldLies k.span.hi.0 (told s k)
+scan-told : (q : ℕ) (s : ScanView) (k : ModuleToken) → q ≤ k.kept.span.lo.0 → k.kept.span.lo.0 ≤ k.kept.span.hi.0 → ScanLies q s → ToldLies k.kept.span.hi.0 (told s k)
 scan-told q s k before le lies =
     let at = at_of s.known k in
-    let known = known-further q q k.span.lo.0 k.span.hi.0 s.known before (omega (arith, before, le)) lies.known in
-    let read = step-lies k.flag at s.known le known in (
-      either-lies k.span.hi.0 (told_of_calls s.known at s.calls) (stepped k.flag at s.known).1.import (opens-or-tells (opens s.known at) q at s.known s.calls before le known lies.calls) read.1.0,
+    let known = known-further q q k.kept.span.lo.0 k.kept.span.hi.0 s.known before (omega (arith, before, le)) lies.known in
+    let read = step-lies k.kept.flag at s.known le known in (
+      either-lies k.kept.span.hi.0 (told_of_calls s.known at s.calls) (stepped k.kept.flag at s.known).1.import (opens-or-tells (opens s.known at) q at s.known s.calls before le known lies.calls) read.1.0,
       read.1.1,
     )
 
-tokens-told : (q : ℕ) (s : ScanView) (ks : List Kept) (k : Kept) → ScanLies q s → IsPlaced q (ks ++ k ∷ []) → ToldLies k.span.hi.0 (told (scan_over s ks) k)
+tokens-told : (q : ℕ) (s : ScanView) (ks : List ModuleToken) (k : ModuleToken) → ScanLies q s → IsPlaced q (ks ++ k ∷ []) → ToldLies k.kept.span.hi.0 (told (scan_over s ks) k)
 tokens-told q s [] k lies placed = scan-told q s k placed.0 placed.1 lies
-tokens-told q s (x ∷ xs) k lies placed = tokens-told x.span.hi.0 (scanned s x) xs k (scan-step q s x placed.0 placed.1 lies) placed.2
+tokens-told q s (x ∷ xs) k lies placed = tokens-told x.kept.span.hi.0 (scanned s x) xs k (scan-step q s x placed.0 placed.1 lies) placed.2
 
 pub rows-lie : RowsLieInTokens
 rows-lie options ks k placed =

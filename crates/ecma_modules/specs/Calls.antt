@@ -1,5 +1,5 @@
 -- Calls of `import` whose parentheses are open (ECMA-262, 13.3.10)
-use Rattle.std.specs.Prelude.{ℕ, ◌&&◌, ◌∷◌, Bool, false, List, [], Option, Some, None, not, nat_lt, if◌then◌else◌}
+use Rattle.std.specs.Prelude.{ℕ, ◌&&◌, ◌∷◌, Bool, List, [], Option, Some, None, not, nat_lt, if◌then◌else◌}
 use Rattle.ecma_span.specs.declared.place.BytePos.{BytePos}
 use Rattle.ecma_span.specs.declared.place.Span.{Span}
 use Rattle.ecma_modules.specs.declared.calls.At.{At}
@@ -31,13 +31,14 @@ up_to (Some span) here = between span.lo here.hi
 up_to None here = here
 
 -- a call whose parentheses begin here
-abbrev pub begun : ℕ → BytePos → Phase → ℕ → At → Call
-begun number lo phase exports at =
+abbrev pub begun : ℕ → BytePos → Phase → Bool → ℕ → At → Call
+begun number lo phase is_type exports at =
     record {
       number = number;
       depth = at.depth;
       stage = stage.Paren;
       phase = phase;
+      is_type = is_type;
       exports = exports;
       statement = between lo at.span.hi;
       paren = at.span.lo;
@@ -82,6 +83,7 @@ behind_comma at call =
       depth = call.depth;
       stage = stage_behind_comma call.stage;
       phase = call.phase;
+      is_type = call.is_type;
       exports = call.exports;
       statement = between call.statement.lo at.span.hi;
       paren = call.paren;
@@ -98,6 +100,7 @@ behind_part at call =
       depth = call.depth;
       stage = stage_behind_part call.stage;
       phase = call.phase;
+      is_type = call.is_type;
       exports = call.exports;
       statement = between call.statement.lo at.span.hi;
       paren = call.paren;
@@ -128,7 +131,7 @@ row hi call =
     record {
       form = form.Call;
       phase = call.phase;
-      is_type = false;
+      is_type = call.is_type;
       statement = between call.statement.lo hi;
       specifier = call.specifier;
       argument = Some (record { paren = call.paren; span = call.argument });

@@ -5,6 +5,8 @@ use Rattle.ecma_state.specs.declared.kept.Kept.{Kept}
 use Rattle.ecma_modules.specs.declared.calls.At.{At}
 use Rattle.ecma_modules.specs.declared.calls.Call.{Call}
 use Rattle.ecma_modules.specs.declared.known.Known.{Known}
+use Rattle.ecma_modules.specs.declared.region.ModuleToken.{ModuleToken}
+use Rattle.ecma_token.specs.declared.kind.TokenKind.{TokenKind}
 use Rattle.ecma_module_table.specs.declared.part.Part.{Part}
 use Rattle.ecma_module_table.specs.declared.part.Part.TheVariants as part
 use Rattle.ecma_module_table.specs.declared.part.Word.TheVariants as word
@@ -29,10 +31,16 @@ use Rattle.ecma_module_table.specs.declared.variables.VariableSeen.{VariableSeen
 use Rattle.ecma_module_table.specs.declared.variables.Variables.{Variables}
 use Rattle.ecma_modules.specs.Calls as calls
 use Rattle.ecma_modules.specs.Calls.{between}
-use Rattle.ecma_module_table.specs.Parts.{ends_operand, more, next_depth, part_of}
+use Rattle.ecma_module_table.specs.Parts.{ends_operand, more, next_depth}
+use Rattle.ecma_modules.specs.Regions.{part_in}
 use Rattle.ecma_modules.specs.Statements.{export_of, export_type_of, import_of, import_with, meta_of, specified, statement_begun, string_end}
 use Rattle.ecma_module_table.specs.Table.{begun, row}
 use Rattle.ecma_module_table.specs.Variables as variables
+
+-- the token before, if there is one, ends an operand
+abbrev pub is_behind_operand : Option TokenKind → Bool
+is_behind_operand None = false
+is_behind_operand (Some k) = ends_operand k
 
 -- before the first token of a text
 abbrev pub nowhere : Span
@@ -42,22 +50,22 @@ abbrev pub nothing_known : ModuleOptions → Known
 nothing_known options =
     record {
       stage = stage.Nothing;
-      statement = statement_begun nowhere 0;
+      statement = statement_begun nowhere false 0;
       variables = variables.off;
       depth = 0;
       tokens = 0;
       imports = 0;
       exports = 0;
       last = nowhere;
-      is_behind_operand = false;
+      before = None;
       is_facade = true;
       has_module_syntax = false;
       options = options;
     }
 
 -- a token, as it is seen behind those before it
-abbrev pub at_of : Known → Kept → At
-at_of k token = record { part = part_of token.kind token.span; index = k.tokens; span = token.span; depth = k.depth }
+abbrev pub at_of : Known → ModuleToken → At
+at_of k token = record { part = part_in token k.before; index = k.tokens; span = token.kept.span; depth = k.depth }
 
 -- the end of the text, as if a semicolon on a line of its own came behind the last token
 abbrev pub end_of : Known → At
@@ -125,9 +133,10 @@ if_more adds count = if adds then more count else count
 
 -- the statement behind a change by a token
 abbrev pub statement_behind : Change → At → ℕ → Statement → Statement
-statement_behind change.Begin at exports s = statement_begun at.span exports
-statement_behind change.BeginExport at exports s = statement_begun at.span exports
-statement_behind change.BeginOther at exports s = statement_begun at.span exports
+statement_behind change.Begin at exports s = statement_begun at.span false exports
+statement_behind change.BeginType at exports s = statement_begun at.span true exports
+statement_behind change.BeginExport at exports s = statement_begun at.span false exports
+statement_behind change.BeginOther at exports s = statement_begun at.span false exports
 statement_behind change.TypeOnly at exports s = record { lo = s.lo; form = s.form; phase = s.phase; is_type = true; specifier = s.specifier; attributes = s.attributes; name = s.name; is_type_name = s.is_type_name; alias = s.alias; exports = s.exports }
 statement_behind (change.Phase phase) at exports s = record { lo = s.lo; form = s.form; phase = phase; is_type = s.is_type; specifier = s.specifier; attributes = s.attributes; name = s.name; is_type_name = s.is_type_name; alias = s.alias; exports = s.exports }
 statement_behind (change.Specify form) at exports s = specified form at s
@@ -155,7 +164,7 @@ changed s c at k =
       imports = k.imports;
       exports = k.exports;
       last = k.last;
-      is_behind_operand = k.is_behind_operand;
+      before = k.before;
       is_facade = k.is_facade && not (is_other c);
       has_module_syntax = k.has_module_syntax || is_module_syntax c;
       options = k.options;
@@ -204,7 +213,7 @@ moved had_line_break at k = moved_by (row k.stage (seen_by k had_line_break) at.
 
 -- the variables of an exported declaration, behind a token
 abbrev pub variable_seen : Known → Bool → VariableSeen
-variable_seen k had_line_break = record { depth = k.depth; had_line_break = had_line_break; is_behind_operand = k.is_behind_operand; typescript = k.options.typescript }
+variable_seen k had_line_break = record { depth = k.depth; had_line_break = had_line_break; is_behind_operand = is_behind_operand k.before; typescript = k.options.typescript }
 
 abbrev pub with_variables : Variables → ℕ → Known → Known
 with_variables v exports k =
@@ -217,7 +226,7 @@ with_variables v exports k =
       imports = k.imports;
       exports = exports;
       last = k.last;
-      is_behind_operand = k.is_behind_operand;
+      before = k.before;
       is_facade = k.is_facade;
       has_module_syntax = k.has_module_syntax;
       options = k.options;
@@ -248,7 +257,7 @@ counted c k =
       imports = if_more (adds_import c) k.imports;
       exports = if_more (adds_export c) k.exports;
       last = k.last;
-      is_behind_operand = k.is_behind_operand;
+      before = k.before;
       is_facade = k.is_facade;
       has_module_syntax = k.has_module_syntax;
       options = k.options;
@@ -291,6 +300,7 @@ opens k at = begins_call k.stage at.part
 -- the stage behind a token that begins nothing that is looked for, where nothing is read
 abbrev pub quiet_stage : Stage → Part → Option Stage
 quiet_stage stage.Nothing (part.Word word.Import) = None
+quiet_stage stage.Nothing (part.Word word.ImportType) = None
 quiet_stage stage.Nothing (part.Word word.Export) = None
 quiet_stage stage.Nothing (part.Word word.Declare) = None
 quiet_stage stage.Nothing (part.Word word.Require) = None
@@ -311,7 +321,7 @@ with_stage s k =
       imports = k.imports;
       exports = k.exports;
       last = k.last;
-      is_behind_operand = k.is_behind_operand;
+      before = k.before;
       is_facade = k.is_facade;
       has_module_syntax = k.has_module_syntax;
       options = k.options;
@@ -336,7 +346,7 @@ behind token at k =
       imports = k.imports;
       exports = k.exports;
       last = token.span;
-      is_behind_operand = ends_operand token.kind;
+      before = Some token.kind;
       is_facade = k.is_facade;
       has_module_syntax = k.has_module_syntax;
       options = k.options;
@@ -344,4 +354,4 @@ behind token at k =
 
 -- the call that begins with a parenthesis
 abbrev pub call_of : Known → At → Call
-call_of k at = calls.begun k.imports k.statement.lo k.statement.phase k.exports at
+call_of k at = calls.begun k.imports k.statement.lo k.statement.phase k.statement.is_type k.exports at

@@ -1,6 +1,6 @@
 -- What the tokens of a text import and export
 use Rattle.std.specs.Prelude.{ℕ, zero, suc, ◌++◌, ◌∷◌, Bool, List, [], Option, Some, None, fold, length, nat_lt, slice_set, if◌then◌else◌}
-use Rattle.ecma_state.specs.declared.kept.Kept.{Kept}
+use Rattle.ecma_modules.specs.declared.region.ModuleToken.{ModuleToken}
 use Rattle.ecma_module_table.specs.declared.rows.Export.{Export}
 use Rattle.ecma_module_table.specs.declared.rows.Import.{Import}
 use Rattle.ecma_module_table.specs.declared.rows.ImportTold.{ImportTold}
@@ -26,15 +26,15 @@ exports_behind None rows = rows
 exports_behind (Some row) rows = rows ++ row ∷ []
 
 -- the machine behind tokens
-abbrev pub scan_over : ScanView → List Kept → ScanView
-scan_over s kept = fold scanned s kept
+abbrev pub scan_over : ScanView → List ModuleToken → ScanView
+scan_over s tokens = fold scanned s tokens
 
 -- rows, and those that tokens add
-abbrev pub imports_over : ScanView → List Import → List Kept → List Import
+abbrev pub imports_over : ScanView → List Import → List ModuleToken → List Import
 imports_over s rows [] = rows
 imports_over s rows (k ∷ ks) = imports_over (scanned s k) (imports_behind (told s k).import rows) ks
 
-abbrev pub exports_over : ScanView → List Export → List Kept → List Export
+abbrev pub exports_over : ScanView → List Export → List ModuleToken → List Export
 exports_over s rows [] = rows
 exports_over s rows (k ∷ ks) = exports_over (scanned s k) (exports_behind (told s k).export rows) ks
 
@@ -50,8 +50,8 @@ imports_at_end s rows = imports_closed (length s.calls) (ended_scan s) (imports_
 abbrev pub exports_at_end : ScanView → List Export → List Export
 exports_at_end s rows = exports_behind (told_at_end s).export rows
 
-abbrev pub scan_of : ModuleOptions → List Kept → ScanView
-scan_of options kept = scan_over (first_scan options) kept
+abbrev pub scan_of : ModuleOptions → List ModuleToken → ScanView
+scan_of options tokens = scan_over (first_scan options) tokens
 
 -- what is gathered of tokens
 pub record GatheringView : Type 0 where
@@ -62,25 +62,20 @@ pub record GatheringView : Type 0 where
 abbrev pub gathering : ScanView → List Import → List Export → GatheringView
 gathering s imports exports = record { scan = s; imports = imports; exports = exports }
 
-abbrev pub gathered_with : GatheringView → Kept → GatheringView
+abbrev pub gathered_with : GatheringView → ModuleToken → GatheringView
 gathered_with g k = gathering (scanned g.scan k) (imports_behind (told g.scan k).import g.imports) (exports_behind (told g.scan k).export g.exports)
 
--- the same of the token that was read, if there is one
-abbrev pub gathered_read : GatheringView → Option Kept → GatheringView
-gathered_read g None = g
-gathered_read g (Some k) = gathered_with g k
+abbrev pub gathered : ModuleOptions → List ModuleToken → GatheringView
+gathered options tokens = gathering (scan_of options tokens) (imports_over (first_scan options) [] tokens) (exports_over (first_scan options) [] tokens)
 
-abbrev pub gathered : ModuleOptions → List Kept → GatheringView
-gathered options kept = gathering (scan_of options kept) (imports_over (first_scan options) [] kept) (exports_over (first_scan options) [] kept)
+abbrev pub imports_of : ModuleOptions → List ModuleToken → List Import
+imports_of options tokens = imports_at_end (scan_of options tokens) (imports_over (first_scan options) [] tokens)
 
-abbrev pub imports_of : ModuleOptions → List Kept → List Import
-imports_of options kept = imports_at_end (scan_of options kept) (imports_over (first_scan options) [] kept)
+abbrev pub exports_of : ModuleOptions → List ModuleToken → List Export
+exports_of options tokens = exports_at_end (scan_of options tokens) (exports_over (first_scan options) [] tokens)
 
-abbrev pub exports_of : ModuleOptions → List Kept → List Export
-exports_of options kept = exports_at_end (scan_of options kept) (exports_over (first_scan options) [] kept)
+abbrev pub is_facade : ModuleOptions → List ModuleToken → Bool
+is_facade options tokens = (ended_scan (scan_of options tokens)).known.is_facade
 
-abbrev pub is_facade : ModuleOptions → List Kept → Bool
-is_facade options kept = (ended_scan (scan_of options kept)).known.is_facade
-
-abbrev pub has_module_syntax : ModuleOptions → List Kept → Bool
-has_module_syntax options kept = (ended_scan (scan_of options kept)).known.has_module_syntax
+abbrev pub has_module_syntax : ModuleOptions → List ModuleToken → Bool
+has_module_syntax options tokens = (ended_scan (scan_of options tokens)).known.has_module_syntax

@@ -1,7 +1,7 @@
 -- Where rows lie: within the tokens that were gone through, and their parts within their statements
 use Rattle.std.specs.Prelude.{ℕ, ◌≤◌, ◌≡◌, ◌++◌, ◌∷◌, List, [], Option, Some, None, ⊤}
 use Rattle.ecma_span.specs.declared.place.Span.{Span}
-use Rattle.ecma_state.specs.declared.kept.Kept.{Kept}
+use Rattle.ecma_modules.specs.declared.region.ModuleToken.{ModuleToken}
 use Rattle.ecma_module_table.specs.declared.rows.Argument.{Argument}
 use Rattle.ecma_module_table.specs.declared.rows.Export.{Export}
 use Rattle.ecma_module_table.specs.declared.rows.Import.{Import}
@@ -14,9 +14,9 @@ use Rattle.ecma_modules.specs.Modules.{exports_over, gathered, gathered_with, im
 use Rattle.ecma_modules.specs.Scans.{ScanView, told}
 
 -- tokens from a place on, each behind the one before it
-abbrev pub IsPlaced : ℕ → List Kept → Type 0
+abbrev pub IsPlaced : ℕ → List ModuleToken → Type 0
 IsPlaced p [] = ⊤
-IsPlaced p (k ∷ ks) = (p ≤ k.span.lo.0) × (k.span.lo.0 ≤ k.span.hi.0) × IsPlaced k.span.hi.0 ks
+IsPlaced p (k ∷ ks) = (p ≤ k.kept.span.lo.0) × (k.kept.span.lo.0 ≤ k.kept.span.hi.0) × IsPlaced k.kept.span.hi.0 ks
 
 -- a span from one place on up to another
 abbrev pub Lies : ℕ → ℕ → Span → Type 0
@@ -56,15 +56,15 @@ abbrev pub ToldLies : ℕ → Told → Type 0
 ToldLies q t = ImportToldLies q t.import × ExportLies q t.export
 
 abbrev pub RowsLieInTokens : Type 0
-RowsLieInTokens = (options : ModuleOptions) (ks : List Kept) (k : Kept) → IsPlaced 0 (ks ++ k ∷ []) → ToldLies k.span.hi.0 (told (scan_of options ks) k)
+RowsLieInTokens = (options : ModuleOptions) (ks : List ModuleToken) (k : ModuleToken) → IsPlaced 0 (ks ++ k ∷ []) → ToldLies k.kept.span.hi.0 (told (scan_of options ks) k)
 
 -- tokens behind tokens go on from what those told
 abbrev pub ImportsGoOn : Type 0
-ImportsGoOn = (s : ScanView) (rows : List Import) (xs ys : List Kept) → imports_over s rows (xs ++ ys) ≡ imports_over (scan_over s xs) (imports_over s rows xs) ys
+ImportsGoOn = (s : ScanView) (rows : List Import) (xs ys : List ModuleToken) → imports_over s rows (xs ++ ys) ≡ imports_over (scan_over s xs) (imports_over s rows xs) ys
 
 abbrev pub ExportsGoOn : Type 0
-ExportsGoOn = (s : ScanView) (rows : List Export) (xs ys : List Kept) → exports_over s rows (xs ++ ys) ≡ exports_over (scan_over s xs) (exports_over s rows xs) ys
+ExportsGoOn = (s : ScanView) (rows : List Export) (xs ys : List ModuleToken) → exports_over s rows (xs ++ ys) ≡ exports_over (scan_over s xs) (exports_over s rows xs) ys
 
 -- what is gathered of tokens and one more is what was gathered of these, with that one
 abbrev pub GatheredGoesOn : Type 0
-GatheredGoesOn = (options : ModuleOptions) (ks : List Kept) (k : Kept) → gathered options (ks ++ k ∷ []) ≡ gathered_with (gathered options ks) k
+GatheredGoesOn = (options : ModuleOptions) (ks : List ModuleToken) (k : ModuleToken) → gathered options (ks ++ k ∷ []) ≡ gathered_with (gathered options ks) k

@@ -1,9 +1,9 @@
 -- A machine that takes the tokens of a text one after another, and what it tells
 use Rattle.std.specs.Prelude.{◌∷◌, true, List, [], Option, Some, None, if◌then◌else◌}
-use Rattle.ecma_state.specs.declared.kept.Kept.{Kept}
 use Rattle.ecma_modules.specs.declared.calls.At.{At}
 use Rattle.ecma_modules.specs.declared.calls.Call.{Call}
 use Rattle.ecma_modules.specs.declared.known.Known.{Known}
+use Rattle.ecma_modules.specs.declared.region.ModuleToken.{ModuleToken}
 use Rattle.ecma_module_table.specs.declared.rows.ImportTold.{ImportTold}
 use Rattle.ecma_module_table.specs.declared.rows.ImportTold.TheVariants.{Begun}
 use Rattle.ecma_module_table.specs.declared.rows.ModuleOptions.{ModuleOptions}
@@ -32,10 +32,10 @@ abbrev pub told_of_calls : Known → At → List Call → Option ImportTold
 told_of_calls k at calls = if opens k at then Some (Begun (row at.span.hi (call_of k at))) else calls_told at calls
 
 -- behind a token
-abbrev pub scan_at : ScanView → Kept → At → ScanView
-scan_at s token at = scan (behind token at (stepped token.flag at s.known).0) (calls_after s.known at s.calls)
+abbrev pub scan_at : ScanView → ModuleToken → At → ScanView
+scan_at s token at = scan (behind token.kept at (stepped token.kept.flag at s.known).0) (calls_after s.known at s.calls)
 
-abbrev pub scanned : ScanView → Kept → ScanView
+abbrev pub scanned : ScanView → ModuleToken → ScanView
 scanned s token = scan_at s token (at_of s.known token)
 
 -- what a token tells
@@ -43,14 +43,14 @@ abbrev pub either : Option ImportTold → Option ImportTold → Option ImportTol
 either None second = second
 either (Some told) second = Some told
 
-abbrev pub told_at : ScanView → Kept → At → Told
+abbrev pub told_at : ScanView → ModuleToken → At → Told
 told_at s token at =
     record {
-      import = either (told_of_calls s.known at s.calls) (stepped token.flag at s.known).1.import;
-      export = (stepped token.flag at s.known).1.export;
+      import = either (told_of_calls s.known at s.calls) (stepped token.kept.flag at s.known).1.import;
+      export = (stepped token.kept.flag at s.known).1.export;
     }
 
-abbrev pub told : ScanView → Kept → Told
+abbrev pub told : ScanView → ModuleToken → Told
 told s token = told_at s token (at_of s.known token)
 
 -- behind the end of the text, and what it tells

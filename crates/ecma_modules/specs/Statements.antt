@@ -1,5 +1,5 @@
 -- What is known of an import or export that is read
-use Rattle.std.specs.Prelude.{ℕ, ◌-◌, ◌||◌, true, false, Option, Some, None}
+use Rattle.std.specs.Prelude.{ℕ, ◌-◌, ◌||◌, Bool, true, false, Option, Some, None}
 use Rattle.ecma_span.specs.declared.place.BytePos.{BytePos}
 use Rattle.ecma_span.specs.declared.place.Span.{Span}
 use Rattle.ecma_modules.specs.declared.calls.At.{At}
@@ -12,14 +12,14 @@ use Rattle.ecma_module_table.specs.declared.rows.Specifier.{Specifier}
 use Rattle.ecma_modules.specs.declared.statement.Statement.{Statement}
 use Rattle.ecma_modules.specs.Calls.{between}
 
--- one that begins with the token there
-abbrev pub statement_begun : Span → ℕ → Statement
-statement_begun here exports =
+-- one that begins with the token there, of types alone or not
+abbrev pub statement_begun : Span → Bool → ℕ → Statement
+statement_begun here is_type exports =
     record {
       lo = here.lo;
       form = form.Static;
       phase = phase.Evaluation;
-      is_type = false;
+      is_type = is_type;
       specifier = None;
       attributes = here.lo;
       name = here;

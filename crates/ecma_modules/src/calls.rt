@@ -32,6 +32,8 @@ pub(crate) struct Call {
     pub depth: usize,
     pub stage: CallStage,
     pub phase: Phase,
+    /// Whether it is a type.
+    pub is_type: bool,
     /// How many rows of exports come before it.
     pub exports: usize,
     /// From its first token to the last that was seen.
@@ -88,16 +90,18 @@ impl Call {
         number: usize,
         statement: BytePos,
         phase: Phase,
+        is_type: bool,
         exports: usize,
         at: At,
     ) -> Call
-        ensures { result ≡ specs.begun number statement phase exports at }
+        ensures { result ≡ specs.begun number statement phase is_type exports at }
     {
         Call {
             number,
             depth: at.depth,
             stage: CallStage::Paren,
             phase,
+            is_type,
             exports,
             statement: Span {
                 lo: statement,
@@ -188,7 +192,7 @@ impl Call {
         Import {
             form: Form::Call,
             phase: self.phase,
-            is_type: false,
+            is_type: self.is_type,
             statement: Span {
                 lo: self.statement.lo,
                 hi,

@@ -4,6 +4,7 @@ ghost use Rattle.ecma_modules.specs.Known as specs;
 ghost use Rattle.ecma_module_table.specs.Parts as parts;
 
 use crate::calls::{At, Call};
+use crate::region::{ModuleToken, part_in};
 use crate::statement::Statement;
 use ecma_module_table::part::{Part, Word, more};
 use ecma_module_table::rows::{Export, Form, Import, ImportTold, ModuleOptions, Told};
@@ -30,8 +31,8 @@ pub(crate) struct Known {
     exports: usize,
     /// The last token.
     last: Span,
-    /// Whether it ends an operand.
-    is_behind_operand: bool,
+    /// Its kind, where there is one.
+    before: Option<TokenKind>,
     pub is_facade: bool,
     pub has_module_syntax: bool,
     options: ModuleOptions,
@@ -44,6 +45,16 @@ fn ends_operand(kind: TokenKind) -> bool
     match kind {
         TokenKind::PlusPlus | TokenKind::MinusMinus => true,
         _ => !kind.before_expr(),
+    }
+}
+
+/// Whether the token before, if there is one, ends an operand.
+fn is_behind_operand(before: Option<TokenKind>) -> bool
+    ensures { result ≡ specs.is_behind_operand before }
+{
+    match before {
+        Some(kind) => ends_operand(kind),
+        None => false,
     }
 }
 
@@ -119,8 +130,12 @@ fn quiet_stage(stage: Stage, part: Part) -> Option<Stage>
     ensures { result ≡ specs.quiet_stage stage part }
 {
     match (stage, part) {
-        (Stage::Nothing, Part::Word(Word::Import | Word::Export | Word::Declare | Word::Require)) =>
-            None,
+        (
+            Stage::Nothing,
+            Part::Word(
+                Word::Import | Word::ImportType | Word::Export | Word::Declare | Word::Require,
+            ),
+        ) => None,
         (Stage::Nothing, Part::Member) => Some(Stage::Member),
         (Stage::Member, Part::Member) => None,
         (Stage::Nothing | Stage::Member, _) => Some(Stage::Nothing),
@@ -138,14 +153,14 @@ impl Known {
         };
         Known {
             stage: Stage::Nothing,
-            statement: Statement::begun(nowhere, 0),
+            statement: Statement::begun(nowhere, false, 0),
             variables: Variables::off(),
             depth: 0,
             tokens: 0,
             imports: 0,
             exports: 0,
             last: nowhere,
-            is_behind_operand: false,
+            before: None,
             is_facade: true,
             has_module_syntax: false,
             options,
@@ -153,13 +168,14 @@ impl Known {
     }
 
     /// The token as it is seen behind those that were taken.
-    pub(crate) fn at(self, token: Kept) -> At
+    #[inline]
+    pub(crate) fn at(self, token: ModuleToken) -> At
         ensures { result ≡ specs.at_of self token }
     {
         At {
-            part: Part::of(token.kind, token.span),
+            part: part_in(token, self.before),
             index: self.tokens,
-            span: token.span,
+            span: token.kept.span,
             depth: self.depth,
         }
     }
@@ -172,8 +188,10 @@ impl Known {
         match change {
             Change::Begin | Change::BeginExport | Change::BeginOther => Statement::begun(
                 at.span,
+                false,
                 self.exports,
             ),
+            Change::BeginType => Statement::begun(at.span, true, self.exports),
             Change::TypeOnly => Statement {
                 is_type: true,
                 ..statement
@@ -283,7 +301,7 @@ impl Known {
         let seen = VariableSeen {
             depth: self.depth,
             had_line_break,
-            is_behind_operand: self.is_behind_operand,
+            is_behind_operand: is_behind_operand(self.before),
             typescript: self.options.typescript,
         };
         let (variables, name) = self.variables.step(seen, at.part, at.span);
@@ -344,7 +362,7 @@ impl Known {
         self.depth = at.part.depth_behind(self.depth);
         self.tokens = more(self.tokens);
         self.last = token.span;
-        self.is_behind_operand = ends_operand(token.kind);
+        self.before = Some(token.kind);
     }
 
     /// Behind a token, but for what it is to the next one; and what it tells, but for calls.
@@ -390,7 +408,7 @@ impl Known {
             depth: at.part.depth_behind(self.depth),
             tokens: more(self.tokens),
             last: token.span,
-            is_behind_operand: ends_operand(token.kind),
+            before: Some(token.kind),
             ..self
         }
     }
@@ -403,6 +421,7 @@ impl Known {
             self.imports,
             self.statement.lo,
             self.statement.phase,
+            self.statement.is_type,
             self.exports,
             at,
         )

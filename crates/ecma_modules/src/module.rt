@@ -1,14 +1,11 @@
 //! The imports and exports of all tokens of a text.
-ghost use Rattle.std.specs.Prelude.{◌≡◌, [], length, option_map, IfOk, OnOk};
-ghost use Rattle.ecma_token.specs.View.{spanned_view};
-ghost use Rattle.ecma_state.specs.Session.{kept_in};
+ghost use Rattle.std.specs.Prelude.{◌≡◌, [], length, IfOk, OnOk};
 ghost use Rattle.ecma_modules.specs.Modules as modules;
 ghost use Rattle.ecma_modules.specs.Scans as scans;
 
+use crate::region::ModuleToken;
 use crate::scan::Scan;
 use ecma_module_table::rows::{Export, Import, ImportTold, ModuleOptions};
-use ecma_state::Kept;
-use ecma_token::TokenAndSpan;
 use std::alloc::{AllocError, Global};
 use std::marker::Model;
 
@@ -102,7 +99,7 @@ impl Gathering {
 
     /// Takes one token more, which tells something.
     #[inline(never)]
-    fn take_told(&mut self, token: &Kept) -> Result<(), AllocError>
+    fn take_told(&mut self, token: &ModuleToken) -> Result<(), AllocError>
         ensures { OnOk result (self.new ≡ modules.gathered_with self.old token.now) }
     {
         let told = self.scan.step(token)?;
@@ -117,27 +114,13 @@ impl Gathering {
     ///
     /// `AllocError` where there is no memory for a row or a call that begins. What is then gathered is not said.
     #[inline]
-    pub fn take(&mut self, token: &Kept) -> Result<(), AllocError>
+    pub fn take(&mut self, token: &ModuleToken) -> Result<(), AllocError>
         ensures { OnOk result (self.new ≡ modules.gathered_with self.old token.now) }
     {
         if self.scan.pass(token) {
             return Ok(());
         }
         self.take_told(token)
-    }
-
-    /// Takes the token that was read, if there is one.
-    ///
-    /// # Errors
-    ///
-    /// As of [`Gathering::take`].
-    pub fn take_read(&mut self, read: &Option<TokenAndSpan>) -> Result<(), AllocError>
-        ensures { OnOk result (self.new ≡ modules.gathered_read self.old (kept_in (option_map spanned_view read.now))) }
-    {
-        match read {
-            Some(token) => self.take(&Kept::of(token)),
-            None => Ok(()),
-        }
     }
 
     /// What all tokens import and export, behind the last of them.
@@ -176,14 +159,14 @@ impl Gathering {
 /// # Errors
 ///
 /// `AllocError` where allocation fails.
-pub fn module_of(alloc: Global, options: ModuleOptions, kept: &[Kept]) -> Result<Module, AllocError>
-    ensures imports { IfOk result (λ m. m.imports.items ≡ modules.imports_of options kept.now) }
-    ensures exports { IfOk result (λ m. m.exports.items ≡ modules.exports_of options kept.now) }
-    ensures facade { IfOk result (λ m. m.is_facade ≡ modules.is_facade options kept.now) }
-    ensures syntax { IfOk result (λ m. m.has_module_syntax ≡ modules.has_module_syntax options kept.now) }
+pub fn module_of(alloc: Global, options: ModuleOptions, tokens: &[ModuleToken]) -> Result<Module, AllocError>
+    ensures imports { IfOk result (λ m. m.imports.items ≡ modules.imports_of options tokens.now) }
+    ensures exports { IfOk result (λ m. m.exports.items ≡ modules.exports_of options tokens.now) }
+    ensures facade { IfOk result (λ m. m.is_facade ≡ modules.is_facade options tokens.now) }
+    ensures syntax { IfOk result (λ m. m.has_module_syntax ≡ modules.has_module_syntax options tokens.now) }
 {
     let mut gathering = Gathering::new(alloc, options);
-    'tokens: for token in kept {
+    'tokens: for token in tokens {
         gathering.take(token)?;
     }
     gathering.finish()

@@ -5,10 +5,10 @@ ghost use Rattle.ecma_modules.specs.Scans as scans;
 
 use crate::calls::{At, Calls};
 use crate::known::Known;
+use crate::region::ModuleToken;
 use ecma_module_table::part::Part;
 use ecma_module_table::rows::{ImportTold, ModuleOptions, Told};
 use ecma_module_table::stage::Stage;
-use ecma_state::Kept;
 use std::alloc::{AllocError, Global};
 use std::marker::Model;
 
@@ -68,14 +68,14 @@ impl Scan {
 
     /// Takes one token more where that tells nothing, as of most tokens is known at once.
     #[inline]
-    pub(crate) fn pass(&mut self, token: &Kept) -> bool
+    pub(crate) fn pass(&mut self, token: &ModuleToken) -> bool
         ensures passed { IsTrue result → (self.new ≡ scans.scanned self.old token.now) × (scans.told self.old token.now ≡ nothing_told) }
         ensures stays { result ≡ false → self.new ≡ self.old }
     {
         let at = self.known.at(*token);
         match self.quiet_stage(at.part) {
             Some(stage) => {
-                self.known.pass(stage, token, at);
+                self.known.pass(stage, &token.kept, at);
                 true
             }
             None => false,
@@ -84,7 +84,7 @@ impl Scan {
 
     /// Takes one token more, whatever it tells. Its large values are made only where they are needed.
     #[inline(never)]
-    fn step_fully(&mut self, token: &Kept) -> Result<Told, AllocError>
+    fn step_fully(&mut self, token: &ModuleToken) -> Result<Told, AllocError>
         ensures scan { OnOk result (self.new ≡ scans.scanned self.old token.now) }
         ensures told { IfOk result (λ told. told ≡ scans.told self.old token.now) }
         ensures err { OnErr result (self.new ≡ self.old) }
@@ -92,8 +92,8 @@ impl Scan {
     {
         let at = self.known.at(*token);
         let call = self.step_calls(at)?;
-        let (known, told) = self.known.step(token.flag, at);
-        self.known = known.behind(*token, at);
+        let (known, told) = self.known.step(token.kept.flag, at);
+        self.known = known.behind(token.kept, at);
         Ok(Told {
             import: call.or(told.import),
             export: told.export,
@@ -105,7 +105,7 @@ impl Scan {
     /// # Errors
     ///
     /// `AllocError` where allocation fails for the call that begins. The machine is then unchanged.
-    pub fn step(&mut self, token: &Kept) -> Result<Told, AllocError>
+    pub fn step(&mut self, token: &ModuleToken) -> Result<Told, AllocError>
         ensures scan { OnOk result (self.new ≡ scans.scanned self.old token.now) }
         ensures told { IfOk result (λ told. told ≡ scans.told self.old token.now) }
         ensures err { OnErr result (self.new ≡ self.old) }

@@ -27,15 +27,15 @@ pub(crate) struct Statement {
 }
 
 impl Statement {
-    /// A statement that begins there.
-    pub(crate) fn begun(span: Span, exports: usize) -> Statement
-        ensures { result ≡ statements.statement_begun span exports }
+    /// A statement that begins there, of types alone or not.
+    pub(crate) fn begun(span: Span, is_type: bool, exports: usize) -> Statement
+        ensures { result ≡ statements.statement_begun span is_type exports }
     {
         Statement {
             lo: span.lo,
             form: Form::Static,
             phase: Phase::Evaluation,
-            is_type: false,
+            is_type,
             specifier: None,
             attributes: span.lo,
             name: span,

@@ -1,3 +1,4 @@
+pub mod ExpectedLemmas
 pub mod FoldLemmas
 pub mod ItemLemmas
 pub mod ReaderLemmas

@@ -5,8 +5,11 @@ use Rattle.ecma_state.specs.Run.{act_all}
 use Rattle.ecma_state.specs.Session.{Session, has_ended, lexer_state, state_of}
 use Rattle.ecma_state.specs.declared.step.Step.{Step}
 use Rattle.ecma_state.specs.Ending.{most_tokens}
-use Rattle.ecma_slashes.specs.Rereads.{Decides, SlashRule, all_by, is_in_order, rereads, rule_of, steps_to_end_by}
+use Rattle.ecma_slashes.specs.Rereads.{Decides, SlashRule, all_by, at_places, by_flag, by_role, is_in_order, numbered, rereads, rule_of, steps_to_end_by}
+use Rattle.ecma_slashes.specs.Known.{Known, expected_next, leading, nothing}
+use Rattle.ecma_slashes.specs.Roles.{tracked_in}
 pub use Rattle.ecma_slashes.specs.Roles.{tokens_found, tokens_kept}
+use Rattle.ecma_slashes.specs.declared.decider.Expected.{Expected}
 use Rattle.ecma_reader.specs.declared.reader.Outcome.{Outcome}
 use Rattle.ecma_reader.specs.declared.reader.Reader.{Reader}
 
@@ -23,6 +26,18 @@ tokens_by rule s = tokens_kept (end_by rule s)
 abbrev pub one_if : Bool → ℕ
 one_if true = 1
 one_if false = 0
+
+-- What is expected
+
+-- behind these tokens, which were read from a session on; no rule but that by role says so
+abbrev pub led_to : SlashRule → Session → List SpannedView → Known
+led_to by_role begin tokens = leading (tracked_in begin tokens)
+led_to by_flag begin tokens = nothing
+led_to (at_places places) begin tokens = nothing
+led_to (numbered numbers) begin tokens = nothing
+
+abbrev pub expected_behind : SlashRule → Session → List SpannedView → Option Expected
+expected_behind rule begin tokens = expected_next (led_to rule begin tokens)
 
 -- Readers
 

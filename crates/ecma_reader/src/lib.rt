@@ -19,7 +19,7 @@ mod reader;
 mod tokens;
 
 pub use ecma_replay::{Gathered, gather};
-pub use ecma_slashes::{Slashes, ascend};
+pub use ecma_slashes::{Expected, Slashes, ascend};
 pub use error_tokens::{ReadOut, read_out, take_error};
 pub use reader::{Outcome, Reader};
 pub use tokens::{LexOutput, tokenize};

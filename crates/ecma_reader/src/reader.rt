@@ -5,10 +5,10 @@ ghost use Rattle.ecma_token.specs.View.{SpannedView, spanned_view};
 ghost use Rattle.ecma_state.specs.Session.{Session, lexer_state, state_of};
 ghost use Rattle.ecma_state.specs.Ending.{most_tokens};
 ghost use Rattle.ecma_slashes.specs.Rereads.{SlashRule, entered, is_in_order, rule_of};
-ghost use Rattle.ecma_reader.specs.Readers.{HasRead, IsReady, Leaves, Reads, Shows, one_if, tokens_by};
+ghost use Rattle.ecma_reader.specs.Readers.{HasRead, IsReady, Leaves, Reads, Shows, expected_behind, one_if, tokens_by};
 
 use ecma_place::BytePos;
-use ecma_slashes::{Decider, Lexer, Slashes, enter, read_deciding};
+use ecma_slashes::{Decider, Expected, Lexer, Slashes, enter, read_deciding};
 use ecma_slot::Slot;
 use ecma_state::Settings;
 use ecma_state::comments_buffer::BufferedComment;
@@ -134,6 +134,23 @@ impl<'a> Reader<'a> {
                 Err(refusal)
             }
         }
+    }
+
+    /// What is expected behind the tokens so far; nothing is known of that where slashes are not named by role.
+    ///
+    /// # Errors
+    ///
+    /// `AllocError` where there is no memory for what the last token opens. Nothing is then changed, so that it may be asked
+    /// again.
+    pub fn expected(&mut self) -> Result<Option<Expected>, AllocError>
+        ensures told { (rule : SlashRule) (begin : Session) (tokens : List SpannedView) → Shows rule begin tokens self.old
+            → IfOk result (λ expected. expected ≡ expected_behind rule begin tokens) }
+        ensures shows { (rule : SlashRule) (begin : Session) (tokens : List SpannedView) → Shows rule begin tokens self.old → Shows rule begin tokens self.new }
+        ensures ready { IsReady self.old → IsReady self.new }
+        ensures same { (lexer_state self.new.lexer ≡ lexer_state self.old.lexer) × (self.new.rereads ≡ self.old.rereads) × (self.new.refused ≡ self.old.refused) }
+        ensures err { OnErr result (self.new ≡ self.old) }
+    {
+        self.decider.expected()
     }
 
     /// Copies of the comments so far that have their token, in order, but the first ones, as many as said: for who wants

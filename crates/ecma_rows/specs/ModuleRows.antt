@@ -2,8 +2,6 @@
 use Rattle.std.specs.Prelude.{ℕ, ◌+◌, ◌-◌, ◌*◌, ◌==◌, ◌&&◌, ◌||◌, ◌≡◌, Bool, false, List, [], ◌∷◌, Option, Some, None, Result, Ok, Err, if◌then◌else◌, length, map, nat_le, slice_range}
 use Rattle.std.specs.List.{list_any}
 use Rattle.ecma_span.specs.declared.place.Span.{Span}
-use Rattle.ecma_state.specs.Session.{kept_of}
-use Rattle.ecma_state.specs.declared.kept.Kept.{Kept}
 use Rattle.ecma_module_table.specs.Rows.{named_at}
 use Rattle.ecma_module_table.specs.declared.rows.Argument.{Argument}
 use Rattle.ecma_module_table.specs.declared.rows.Export.{Export}
@@ -16,7 +14,9 @@ use Rattle.ecma_module_table.specs.declared.rows.Phase.TheVariants as phase
 use Rattle.ecma_module_table.specs.declared.rows.Specifier.{Specifier}
 use Rattle.ecma_modules.specs.Modules as modules
 use Rattle.ecma_modules.specs.Modules.{exports_of, imports_of}
+use Rattle.ecma_module_reader.specs.Readings.{module_tokens}
 use Rattle.ecma_modules.specs.declared.module.Module.{Module}
+use Rattle.ecma_modules.specs.declared.region.ModuleToken.{ModuleToken}
 use Rattle.ecma_reader.specs.Readers.{tokens_by}
 use Rattle.ecma_reader.specs.Rereads.{steps_to_end_by}
 use Rattle.ecma_rows.specs.Asked.{AskedView, begin, has}
@@ -126,9 +126,9 @@ reading_bits bits = if is_commonjs bits then bits - 32 else bits
 abbrev pub module_options : Bool → AskedView → ModuleOptions
 module_options commonjs asked = record { typescript = asked.options.typescript; commonjs = commonjs }
 
--- the tokens that are kept of a text
-abbrev pub kept_by : AskedView → List Kept
-kept_by asked = map kept_of (tokens_by asked.rule (begin false asked))
+-- the tokens of a text
+abbrev pub tokens_of : AskedView → List ModuleToken
+tokens_of asked = module_tokens asked.rule (begin false asked) (tokens_by asked.rule (begin false asked))
 
 -- the rows of a text, and what it is as a whole; its slashes are met or not
 pub record ModuleView : Type 0 where
@@ -148,9 +148,9 @@ view_of met imports exports is_facade has_module_syntax text =
       has_module_syntax = has_module_syntax;
     }
 
-abbrev pub module_view : Bool → ModuleOptions → List Kept → List ℕ → ModuleView
-module_view met options kept text =
-    view_of met (imports_of options kept) (exports_of options kept) (modules.is_facade options kept) (modules.has_module_syntax options kept) text
+abbrev pub module_view : Bool → ModuleOptions → List ModuleToken → List ℕ → ModuleView
+module_view met options tokens text =
+    view_of met (imports_of options tokens) (exports_of options tokens) (modules.is_facade options tokens) (modules.has_module_syntax options tokens) text
 
 -- the same, of what was gathered
 abbrev pub view_of_module : Bool → Module → List ℕ → ModuleView
@@ -159,7 +159,7 @@ view_of_module met m text = view_of met m.imports.items m.exports.items m.is_fac
 abbrev pub module_told : Bool → Result AskedView Status → Result ModuleView Status
 module_told commonjs (Err status) = Err status
 module_told commonjs (Ok asked) =
-    Ok (module_view (are_met asked.rule (steps_to_end_by asked.rule (begin false asked))) (module_options commonjs asked) (kept_by asked) asked.bytes)
+    Ok (module_view (are_met asked.rule (steps_to_end_by asked.rule (begin false asked))) (module_options commonjs asked) (tokens_of asked) asked.bytes)
 
 -- there is room for all where there is for the rows of imports and for those of exports
 abbrev pub module_answer : Result ModuleView Status → List ImportRow → List ExportRow → ModuleAnswer

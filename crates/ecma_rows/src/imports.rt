@@ -2,7 +2,8 @@
 ghost use Rattle.std.specs.Prelude.{◌≡◌, Ok, [], false, map, IfOk, OnErr, OnOk};
 ghost use Rattle.ecma_module_table.specs.declared.rows.ModuleOptions.{ModuleOptions};
 ghost use Rattle.ecma_modules.specs.Modules.{gathered};
-ghost use Rattle.ecma_state.specs.Session.{Session, kept_of};
+ghost use Rattle.ecma_module_reader.specs.Readings.{module_tokens};
+ghost use Rattle.ecma_state.specs.Session.{Session};
 ghost use Rattle.ecma_reader.specs.Rereads.{SlashRule};
 ghost use Rattle.ecma_reader.specs.Readers.{HasRead, IsReady, Shows, tokens_by};
 ghost use Rattle.ecma_rows.specs.Asked.{asked_view, judged, place_at};
@@ -16,6 +17,7 @@ use crate::outcome::{Status, status_of};
 use crate::request::{Asked, judge, places};
 use crate::room::put;
 use ecma_module_table::rows::{Export, Import, ModuleOptions};
+use ecma_module_reader::gather_next;
 use ecma_modules::{Gathering, Module};
 use ecma_reader::Reader;
 use ecma_slot::Slot;
@@ -52,14 +54,12 @@ impl ModuleAnswer {
 fn gather_tokens(reader: &mut Reader, gathering: &mut Gathering) -> Result<(), AllocError>
     requires ready { IsReady reader.old }
     ensures gathered { (rule : SlashRule) (begin : Session) (options : ModuleOptions) → Shows rule begin [] reader.old → gathering.old ≡ gathered options []
-        → OnOk result (gathering.new ≡ gathered options (map kept_of (tokens_by rule begin))) }
+        → OnOk result (gathering.new ≡ gathered options (module_tokens rule begin (tokens_by rule begin))) }
     ensures read { (rule : SlashRule) (begin : Session) (options : ModuleOptions) → Shows rule begin [] reader.old → gathering.old ≡ gathered options []
         → OnOk result (HasRead rule begin reader.new) }
 {
     let mut slot = Slot::new();
-    'tokens: while reader.read_into(&mut slot.token)? {
-        gathering.take_read(&slot.token)?;
-    }
+    'tokens: while gather_next(gathering, reader, &mut slot.token)? {}
     Ok(())
 }
 

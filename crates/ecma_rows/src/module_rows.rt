@@ -12,7 +12,7 @@ use ecma_span::{BytePos, Span};
 ///
 /// `form` is 0 for `import`, 1 for `export .. from`, 2 for a call of `import`, 3 for `import.meta`, 4 for
 /// `import x = require("y")` and 5 for `declare module "x"` of TypeScript, 6 for `require("x")`. `phase` is 1 for
-/// `import defer`, 2 for `import source`, else 0. `flags` are 1 where types alone are imported, 4 where a string names the
+/// `import defer`, 2 for `import source`, else 0. `flags` are 1 where types alone are imported, as also where a call stands that is a type, 4 where a string names the
 /// module, 8 where its value is not its spelling. `exports` rows of exports are of this statement, behind the first
 /// `first_export` ones: their local names are names of the other module. Our own.
 #[repr(C)]

@@ -71,7 +71,7 @@ tokens-behind rule s plain = ap reverse (kept-by rule s plain) ∙ tokens-with (
 
 -- What no read changes
 
-settings-behind : (rule : SlashRule) (s : Session) → (behind_by rule s).settings ≡ s.settings
+pub settings-behind : (rule : SlashRule) (s : Session) → (behind_by rule s).settings ≡ s.settings
 settings-behind rule s = go (meets_expression rule s)
   where
     twice : (o : Option BytePos) → (act_on (reread_from (act_on s Read) o).after Read).settings ≡ s.settings
@@ -82,7 +82,7 @@ settings-behind rule s = go (meets_expression rule s)
     go false = refl
     go true = twice (last_slash (seen_of (act_on s Read).past))
 
-context-behind : (rule : SlashRule) (s : Session) → (behind_by rule s).context ≡ s.context
+pub context-behind : (rule : SlashRule) (s : Session) → (behind_by rule s).context ≡ s.context
 context-behind rule s = go (meets_expression rule s)
   where
     twice : (o : Option BytePos) → (act_on (reread_from (act_on s Read) o).after Read).context ≡ s.context

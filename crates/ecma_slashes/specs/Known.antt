@@ -1,8 +1,10 @@
 -- What is known of the tokens before a slash, where a rule asks for them.
 use Rattle.std.specs.Prelude.{ℕ, suc, ◌-◌, ◌==◌, Bool, true, false, List, [], ◌∷◌, Option, Some, None}
 use Rattle.ecma_role_table.specs.declared.part.Part.{Part}
+use Rattle.ecma_role_moves.specs.Nest.{top}
 use Rattle.ecma_roles.specs.Slashes.{expects_operand}
 use Rattle.ecma_roles.specs.Track.{TrackView, stepped}
+use Rattle.ecma_slashes.specs.declared.decider.Expected.{Expected}
 use Rattle.ecma_state.specs.Session.{Again, AtEnd, Next, Past}
 
 -- nothing, as nothing is asked; what they lead to; or how many are to come up to the one with the next number, with this
@@ -17,6 +19,12 @@ abbrev pub expected_by : Known → Bool → Bool
 expected_by nothing is_assign = false
 expected_by (leading t) is_assign = expects_operand t is_assign
 expected_by (awaiting left numbers) is_assign = left == 1
+
+-- what is expected next, where a track says so
+abbrev pub expected_next : Known → Option Expected
+expected_next nothing = None
+expected_next (leading t) = Some (record { state = t.state; top = top t.nest })
+expected_next (awaiting left numbers) = None
 
 -- One token more
 

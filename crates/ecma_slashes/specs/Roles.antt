@@ -25,9 +25,13 @@ tokens_found (Some t) = t ∷ []
 abbrev pub part_in : SpannedView → Part
 part_in t = part_of (kind_of t.token) t.had_line_break
 
--- the track behind the tokens that a session keeps, in its language and goal
+-- the track behind tokens, in the language and goal of a session
+abbrev pub tracked_in : Session → List SpannedView → TrackView
+tracked_in s tokens = tracks.track_of (typescript s.settings.syntax) s.context.«module» (map part_in tokens)
+
+-- behind those that the session keeps
 abbrev pub track_of : Session → TrackView
-track_of s = tracks.track_of (typescript s.settings.syntax) s.context.«module» (map part_in (tokens_kept s))
+track_of s = tracked_in s (tokens_kept s)
 
 -- `/=`, and no `/`
 abbrev pub is_assign_kind : TokenKind → Bool

@@ -12,12 +12,21 @@ ghost use Rattle.ecma_slashes.specs.Roles as roles;
 
 use crate::slashes::Slashes;
 use ecma_place::BytePos;
+use ecma_role_table::frame::FrameKind;
+use ecma_role_table::state::State;
 use ecma_roles::{Part, Track};
 use ecma_state::kept::Kept;
 use ecma_state::settings::Settings;
 use ecma_syntax::{AssignOp, Context};
 use ecma_token::{TokenAndSpan, TokenKind};
 use std::alloc::{AllocError, Global};
+
+/// What is expected behind tokens: the state of their track, and the innermost bracket that is open, or mark.
+#[derive(Clone, Copy)]
+pub struct Expected {
+    pub state: State,
+    pub top: Option<FrameKind>,
+}
 
 /// Decides which slashes begin regular expressions, behind the tokens that were read so far. Our own.
 #[derive(Drop)]
@@ -178,6 +187,39 @@ impl<'a> Decider<'a> {
     {
         self.catch_up()?;
         Ok(self.expects(is_assign))
+    }
+
+    /// What is expected by the track, where the rule goes by one.
+    fn expectation(&self) -> Option<Expected>
+        requires { self.now.last ≡ None }
+        ensures { result ≡ knowledge.expected_next (known_to self.now) }
+    {
+        match self.slashes {
+            Slashes::ByFlag | Slashes::At(_) | Slashes::Numbered(_) => None,
+            Slashes::ByRole => match &self.track {
+                Some(track) => Some(Expected {
+                    state: track.state(),
+                    top: track.top(),
+                }),
+                None => None,
+            },
+        }
+    }
+
+    /// What is expected behind the tokens so far; nothing is known of that where slashes are not named by role.
+    ///
+    /// # Errors
+    ///
+    /// `AllocError` where what the last token opens can't be allocated. Nothing is then changed.
+    pub fn expected(&mut self) -> Result<Option<Expected>, AllocError>
+        ensures told { IfOk result (λ expected. expected ≡ knowledge.expected_next (known_to self.old)) }
+        ensures follows { known_to self.new ≡ known_to self.old }
+        ensures slashes { self.new.slashes ≡ self.old.slashes }
+        ensures err { OnErr result (self.new ≡ self.old) }
+        ensures free { HasRoom self.old.track → IsOk result }
+    {
+        self.catch_up()?;
+        Ok(self.expectation())
     }
 
     /// The same decider. It does not allocate where at most 64 frames enclose the place.

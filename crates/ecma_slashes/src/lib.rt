@@ -26,7 +26,7 @@ mod slashes;
 
 pub use alone::{add_steps_by, read_by, read_telling};
 pub use by_flag::{add_steps_to_end, read_by_flag, steps_by_flag};
-pub use decider::Decider;
+pub use decider::{Decider, Expected};
 pub use ecma_stream::{Lexer, Tokens};
 pub use entry::enter;
 pub use reads::{count_rereads, read_deciding, steps_by};

@@ -123,7 +123,7 @@ export interface ImportSpecifier {
     readonly a: number;
     /** Of `import defer` and `import source`. */
     readonly phase: 'defer' | 'source' | undefined;
-    /** Types alone are imported or exported, as TypeScript's `type` says of the whole statement. */
+    /** Types alone are imported or exported, as TypeScript's `type` says of the whole statement, or a call stands where a type does. */
     readonly type: boolean;
     /** It is a `require("x")`, as the option `commonjs` asks for. */
     readonly require: boolean;

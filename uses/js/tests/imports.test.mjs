@@ -82,7 +82,7 @@ test('calls and import.meta', () => {
     ];
     for (const [text, wanted] of rows) assert.deepEqual(seen(text), [wanted], text);
     assert.deepEqual(seen('import(import("a"))').map(([n, inside]) => [n, inside]), [[undefined, 'import("a")'], ['a', '"a"']]);
-    for (const text of ['a.import("b")', 'class A { #import() {} }', '({ a: "import b from c" })', '// import "a"', 'f({ import: 1 })']) assert.deepEqual(seen(text), [], text);
+    for (const text of ['a.import("b")', 'class A { #import() {} }', '({ a: "import b from c" })', '// import "a"', 'f({ import: 1 })', 'class A { import(a) {} }', '({ import() {}, async import(b) {} })']) assert.deepEqual(seen(text), [], text);
 });
 
 test('exports', () => {

@@ -33,7 +33,7 @@ pub enum Phase {
 pub struct Import<'a> {
     pub form: Form,
     pub phase: Phase,
-    /// Whether types alone are imported, as TypeScript's `type` says of the whole statement.
+    /// Whether types alone are imported, as TypeScript's `type` says of the whole statement, or where a call stands that is a type.
     pub is_type: bool,
     /// How the string that names the module is spelled, without its quotes; one that is not closed has the first alone.
     pub specifier: Option<&'a str>,

@@ -330,6 +330,20 @@ const IMPORTS: &[Told] = &[
         "",
     ),
     (
+        "imports --ts",
+        "let a: import('b').C; class D { import(e) {} }",
+        false,
+        "dynamic 14 17 type 'b'\n",
+        "",
+    ),
+    (
+        "imports --slashes flag",
+        "class D { import(e) {} }",
+        false,
+        "dynamic 17 18 e\n",
+        "",
+    ),
+    (
         "imports --json",
         "import a from 'b' with {}\nexport * from \"c\"",
         false,

@@ -2,6 +2,7 @@
 mod exports;
 mod imports;
 mod reading;
+mod regions;
 mod rows;
 mod shown;
 mod typescript;

@@ -3,18 +3,18 @@ use Rattle.std.proofs.Common.{◌≡◌, [], map}
 use Rattle.ecma_token.specs.View.{error_view, refusal_of}
 use Rattle.ecma_module_table.specs.declared.rows.ModuleOptions.{ModuleOptions}
 use Rattle.ecma_modules.specs.Modules.{gathered}
+use Rattle.ecma_module_reader.specs.Readings.{Gathers}
 use Rattle.ecma_state.specs.Session.{Session, lexer_state}
 use Rattle.ecma_state.specs.Ending.{most_tokens}
 use Rattle.ecma_reader.specs.Rereads.{SlashRule}
 use Rattle.ecma_reader.specs.Readers.{FlatMaps, IsReady, Shows, Tells}
-use Rattle.ecma_modules.proofs.TokenLemmas.{Gathers}
 use Rattle.ecma_faces.proofs.imports.gather_tokens.Given as goal
 
 abbrev pub invariant-tokens : goal.invariant-tokens
 invariant-tokens l =
     IsReady l.reader
     × (((rule : SlashRule) (begin : Session) (options : ModuleOptions) → Shows rule begin [] l.initial.reader → l.initial.gathering ≡ gathered options []
-    → Tells rule begin (Gathers options l.gathering) l.reader)
+    → Tells rule begin (Gathers rule begin options l.gathering) l.reader)
     × ((rule : SlashRule) (begin : Session) → Shows rule begin [] l.initial.reader → l.initial.errors.items ≡ []
     → Tells rule begin (FlatMaps (λ t. refusal_of t.token) (map error_view l.errors.items)) l.reader))
 

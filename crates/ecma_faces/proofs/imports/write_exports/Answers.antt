@@ -1,6 +1,6 @@
 use Rattle.std.proofs.Common.{◌∙◌, [], ap, refl, subst}
 use Rattle.ecma_modules.specs.Modules.{exports_of}
-use Rattle.ecma_faces.specs.Modules.{export_rows, kept_by, module_options}
+use Rattle.ecma_faces.specs.Modules.{export_rows, module_options, tokens_of}
 use Rattle.ecma_report.specs.Reports.{Adds, writes_errors}
 use Rattle.ecma_report.proofs.FaultLemmas.{faults-as}
 use Rattle.ecma_report.proofs.ReportLemmas.{adds-on, keeps-faults, keeps-same, still-of}
@@ -19,7 +19,7 @@ returns-clause-adds g c = λ ask file bytes of face.
     let same = c.deref.ensures.value ∙ ok.exports ask file bytes of in
     let here = still-of ask file bytes first read ok.still of in
     let told = subst (λ rows. Adds between after read.out.items last.out.items (export_rows ask file bytes rows)) same (c.in_ok-push_exports.ensures.adds ask file bytes here) in
-    adds-on before between after first.out.items read.out.items last.out.items [] (export_rows ask file bytes (exports_of (module_options ask.asked) (kept_by c.args.named ask bytes))) nothing told
+    adds-on before between after first.out.items read.out.items last.out.items [] (export_rows ask file bytes (exports_of (module_options ask.asked) (tokens_of c.args.named ask bytes))) nothing told
 
 pub returns-clause-lines : goal.returns-clause-lines
 returns-clause-lines g c = λ ask file bytes of.

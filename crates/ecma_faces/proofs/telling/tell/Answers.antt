@@ -4,7 +4,7 @@ use Rattle.ecma_modules.specs.Modules.{exports_of, imports_of}
 use Rattle.ecma_reader.specs.Readers.{tokens_by}
 use Rattle.ecma_faces.specs.Comments.{comment_rows, comments_by}
 use Rattle.ecma_report.specs.Errors.{error_rows}
-use Rattle.ecma_faces.specs.Modules.{export_rows, import_rows, kept_by, module_options}
+use Rattle.ecma_faces.specs.Modules.{export_rows, import_rows, module_options, tokens_of}
 use Rattle.ecma_faces.specs.Pieces.{piece_rows, pieces_by}
 use Rattle.ecma_faces.specs.Whole.{canon_written, html_written, shown_head}
 use Rattle.ecma_report.specs.Rows.{whole_text}
@@ -25,9 +25,9 @@ returns g c =
       tokens = λ ask file bytes of face.
           written (token_rows ask file bytes None (tokens_by (rule_at c.args.named) (begun ask.asked bytes))) (c.in_ok-write_face.ensures.tokens ask file bytes of face) flushed.written flushed.none;
       imports = λ ask file bytes of face.
-          written (import_rows ask file bytes (imports_of (module_options ask.asked) (kept_by c.args.named ask bytes))) (c.in_ok-write_face.ensures.imports ask file bytes of face) flushed.written flushed.none;
+          written (import_rows ask file bytes (imports_of (module_options ask.asked) (tokens_of c.args.named ask bytes))) (c.in_ok-write_face.ensures.imports ask file bytes of face) flushed.written flushed.none;
       exports = λ ask file bytes of face.
-          written (export_rows ask file bytes (exports_of (module_options ask.asked) (kept_by c.args.named ask bytes))) (c.in_ok-write_face.ensures.exports ask file bytes of face) flushed.written flushed.none;
+          written (export_rows ask file bytes (exports_of (module_options ask.asked) (tokens_of c.args.named ask bytes))) (c.in_ok-write_face.ensures.exports ask file bytes of face) flushed.written flushed.none;
       comments = λ ask file bytes of face.
           written (comment_rows ask file bytes (comments_by c.args.named ask bytes)) (c.in_ok-write_face.ensures.comments ask file bytes of face) flushed.written flushed.none;
       errors = λ ask file bytes of face.

@@ -5,6 +5,6 @@ use Rattle.ecma_modules.proofs.module.module_of.Given as goal
 
 abbrev pub invariant-tokens : goal.invariant-tokens
 invariant-tokens l =
-    (scan_over l.gathering.scan (drop l.token-index l.kept) ≡ (gathered l.fn.options l.kept).scan)
-    × (imports_over l.gathering.scan l.gathering.imports (drop l.token-index l.kept) ≡ (gathered l.fn.options l.kept).imports)
-    × (exports_over l.gathering.scan l.gathering.exports (drop l.token-index l.kept) ≡ (gathered l.fn.options l.kept).exports)
+    (scan_over l.gathering.scan (drop l.token-index l.tokens) ≡ (gathered l.fn.options l.tokens).scan)
+    × (imports_over l.gathering.scan l.gathering.imports (drop l.token-index l.tokens) ≡ (gathered l.fn.options l.tokens).imports)
+    × (exports_over l.gathering.scan l.gathering.exports (drop l.token-index l.tokens) ≡ (gathered l.fn.options l.tokens).exports)

@@ -1,55 +1,47 @@
 //! The tokens of a text, and what they import and export.
-use ecma_modules::{Module, ModuleOptions, module_of};
-use ecma_state::Kept;
-use ecma_stream::{Lexer, Tokens};
-use listing::listing::{Settings, opened, set_flags};
+ghost use Rattle.ecma_reader.specs.Readers.{IsReady};
+
+use ecma_module_reader::gather_next;
+use ecma_modules::{Gathering, Module, ModuleOptions};
+use ecma_place::{BytePos, StringInput};
+use ecma_reader::{Reader, Slashes};
+use ecma_slot::Slot;
+use listing::listing::{Settings, flags, lexer_settings};
 use std::alloc::{AllocError, Global};
 
-/// More tokens than any row has.
-const TOKENS: usize = 200;
-
-/// What is kept of the next token.
-fn next_kept(lexer: &mut Lexer) -> Result<Option<Kept>, AllocError> {
-    match lexer.read()? {
-        Some(token) => {
-            let kept = Kept::of(&token);
-            drop(token);
-            Ok(Some(kept))
-        }
-        None => Ok(None),
-    }
-}
-
-/// Adds what is kept of each token.
-fn keep_all(lexer: &mut Lexer, kept: &mut Vec<Kept>) -> Result<(), AllocError> {
-    for _ in 0..TOKENS {
-        match next_kept(lexer)? {
-            Some(token) => kept.push(token)?,
-            None => break,
-        }
-    }
+/// Reads to the end, and gathers what is told.
+fn gather_all(gathering: &mut Gathering, reader: &mut Reader) -> Result<(), AllocError>
+    requires { IsReady reader.old }
+{
+    let mut slot = Slot::new();
+    'tokens: while gather_next(gathering, reader, &mut slot.token)? {}
     Ok(())
 }
 
-fn tokens(alloc: Global, settings: Settings, text: &str) -> Result<Vec<Kept>, AllocError> {
-    let mut lexer = opened(alloc, settings, text)?;
-    set_flags(&mut lexer, settings)?;
-    let mut kept = Vec::new(alloc);
-    keep_all(&mut lexer, &mut kept)?;
-    Ok(kept)
-}
-
-/// What a text imports and exports, with rows of `require(..)` or without.
+/// What a text imports and exports, with rows of `require(..)` or without, its slashes by a rule that has no places.
 pub fn module(
     alloc: Global,
     settings: Settings,
     commonjs: bool,
+    is_by_role: bool,
     text: &str,
 ) -> Result<Module, AllocError> {
-    let kept = tokens(alloc, settings, text)?;
+    let start = BytePos(0);
+    if !StringInput::fits(text, start) {
+        return Err(AllocError);
+    }
+    let slashes = if is_by_role {
+        Slashes::ByRole
+    } else {
+        Slashes::ByFlag
+    };
+    let lexing = lexer_settings(settings);
+    let mut reader = Reader::new(alloc, &lexing, flags(settings), text, start, slashes)?;
     let options = ModuleOptions {
         typescript: settings.ts,
         commonjs,
     };
-    module_of(alloc, options, &kept)
+    let mut gathering = Gathering::new(alloc, options);
+    gather_all(&mut gathering, &mut reader)?;
+    gathering.finish()
 }

@@ -21,7 +21,9 @@ fn shown_of(
     text: &str,
 ) -> Result<String, AllocError> {
     let commonjs = matches!(told, Told::Requires);
-    shown(alloc, text, &module(alloc, settings, commonjs, text)?, told)
+    let is_by_role = !matches!(told, Told::ImportsByFlag);
+    let module = module(alloc, settings, commonjs, is_by_role, text)?;
+    shown(alloc, text, &module, told)
 }
 
 pub fn assert_rows(

@@ -8,6 +8,8 @@ use std::alloc::{AllocError, Global};
 pub enum Told {
     /// Each import: its form, specifier, statement, first argument and attributes.
     Imports,
+    /// The same, where nothing is known of what is expected.
+    ImportsByFlag,
     /// The same, where each `require(..)` is one too.
     Requires,
     /// Each export: its name, and behind `=` the name in the module.
@@ -121,7 +123,7 @@ fn push_owned(out: &mut String, module: &Module) -> Result<(), AllocError> {
 
 fn push_told(out: &mut String, text: &str, module: &Module, told: Told) -> Result<(), AllocError> {
     match told {
-        Told::Imports | Told::Requires => push_imports(out, text, module),
+        Told::Imports | Told::ImportsByFlag | Told::Requires => push_imports(out, text, module),
         Told::Exports => push_exports(out, text, module),
         Told::Flags => out.push_str(flags(module)),
         Told::Owned => push_owned(out, module),

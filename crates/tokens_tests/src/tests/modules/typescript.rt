@@ -70,7 +70,7 @@ const IMPORTS: &[Row] = &[
     ),
     (
         "let a: typeof import(\"b\")",
-        "call \"b\" | import(\"b\") | first \"b\"",
+        "call type \"b\" | import(\"b\") | first \"b\"",
     ),
 ];
 
