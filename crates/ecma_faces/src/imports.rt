@@ -20,8 +20,8 @@ ghost use Rattle.ecma_report.specs.Unmet.{unmet_by};
 
 use crate::errors::tell_errors;
 use ecma_command::words::{Asked, Named};
-use ecma_module_table::rows::{Export, Form, Import, ModuleOptions, Phase};
 use ecma_module_reader::gather_next;
+use ecma_module_table::rows::{Export, Form, Import, ModuleOptions, Phase};
 use ecma_modules::{Gathering, Module};
 use ecma_print::row::Imported;
 use ecma_reader::Reader;

@@ -159,7 +159,11 @@ impl Gathering {
 /// # Errors
 ///
 /// `AllocError` where allocation fails.
-pub fn module_of(alloc: Global, options: ModuleOptions, tokens: &[ModuleToken]) -> Result<Module, AllocError>
+pub fn module_of(
+    alloc: Global,
+    options: ModuleOptions,
+    tokens: &[ModuleToken],
+) -> Result<Module, AllocError>
     ensures imports { IfOk result (λ m. m.imports.items ≡ modules.imports_of options tokens.now) }
     ensures exports { IfOk result (λ m. m.exports.items ≡ modules.exports_of options tokens.now) }
     ensures facade { IfOk result (λ m. m.is_facade ≡ modules.is_facade options tokens.now) }

@@ -59,9 +59,9 @@ fn is_type_operator(word: WordKind) -> bool
     matches!(
         word,
         WordKind::Keyword(Keyword::TypeOf)
-            | WordKind::Ident(
-                IdentKind::Known(KnownIdent::Keyof | KnownIdent::Readonly | KnownIdent::Unique),
-            )
+            | WordKind::Ident(IdentKind::Known(
+                KnownIdent::Keyof | KnownIdent::Readonly | KnownIdent::Unique
+            ),)
     )
 }
 

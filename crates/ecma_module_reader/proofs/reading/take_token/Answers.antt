@@ -13,5 +13,5 @@ returns-clause-gathers c = λ rule begin tokens options shows so.
     let expected = expected_behind rule begin (tokens ++ t ∷ []) in
     gathers-on rule begin options tokens t old c.take.new.self so
     (c.in_ok-take.ensures
-        ∙ ap (λ r. gathered_with old (record { kept = c.of-kept.result; region = r })) (c.in_ok-region.ensures.region rule begin (tokens ++ t ∷ []) shows)
-        ∙ ap (λ k. gathered_with old (record { kept = k; region = region_of k.kind expected })) c.of-kept.ensures)
+    ∙ ap (λ r. gathered_with old (record { kept = c.of-kept.result; region = r })) (c.in_ok-region.ensures.region rule begin (tokens ++ t ∷ []) shows)
+    ∙ ap (λ k. gathered_with old (record { kept = k; region = region_of k.kind expected })) c.of-kept.ensures)
