@@ -17,7 +17,7 @@ abbrev pub Takes : State → Nested → PartKind → Bool → State → Nested �
 Takes state nest kind had_line_break next behind =
     (typescript : Bool) → stepped (track state nest typescript) (record { kind = kind; had_line_break = had_line_break }) ≡ track next behind typescript
 
--- a sign other than a colon or `<` is read here as behind any operand
+-- a sign other than a colon, `<` or `<<` is read here as behind any operand
 abbrev pub is_behind : State → Bool
 is_behind state.Label = true
 is_behind state.Group = true
@@ -27,6 +27,7 @@ is_behind other = false
 abbrev pub follows : PartKind → Bool
 follows (Sign sign.Colon) = false
 follows (Sign sign.Lt) = false
+follows (Sign sign.LShift) = false
 follows (Sign s) = true
 follows kind = false
 

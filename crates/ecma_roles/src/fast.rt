@@ -45,7 +45,7 @@ pub(crate) fn enter_to(nest: &mut Nest, kind: FrameKind) -> Option<State>
     Some(State::Head)
 }
 
-/// Whether an operand is complete, so that a sign other than a colon or `<` is read as behind any operand.
+/// Whether an operand is complete, so that a sign other than a colon, `<` or `<<` is read as behind any operand.
 #[inline(always)]
 fn is_complete(state: State) -> bool
     ensures { result ≡ tokens.is_complete state }
